@@ -1,0 +1,11 @@
+pub mod Integers
+pub mod Ring
+pub mod Size
+pub mod Bound
+pub mod Bools
+pub mod Range
+pub mod Even
+pub mod Lists
+pub mod Mask
+pub mod Sign
+pub mod Unique

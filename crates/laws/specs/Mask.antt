@@ -1,0 +1,101 @@
+-- Words by their bits: bit k of `maskOf g n`, below n, is set exactly when g k. A loop builds one bit by bit, and its ones are the numbers that
+-- pass. Assumes nothing.
+use mathlib.Core.Path.{_≡_, refl, sym, ap, ap₂, _∙_}
+use mathlib.Core.Bool.{Bool, true, false, not}
+use mathlib.Core.List.{List, [], _∷_}
+use Prim.Native.Nat.{ℕ, zero, suc, _+_, _*_, _^_, _/_, _%_, _≤_, _<_}
+use native.Mathlib.Nat.{pow-suc, add-comm, mul-assoc, mul-le-mul-right}
+use native.Mathlib.Numerals.{add-one}
+use native.Mathlib.Omega.{arith}
+use lib.Count.{ones, ones-step}
+use lib.Dec.{lit<}
+use lib.Bits.{bitOr, or-shifted-r}
+use lib.Pow.{shl-exact}
+use Rattle.laws.specs.Bools.{_⊕_}
+use Rattle.laws.specs.Range.{more, fold}
+use Rattle.laws.specs.Even.{odd, count, oddN, odd-count}
+use Rattle.laws.specs.Lists.{run}
+
+abbrev pub digit : Bool → ℕ
+digit true = 1
+digit false = 0
+
+unfoldable pub maskOf : (ℕ → Bool) → ℕ → ℕ
+maskOf g zero = 0
+maskOf g (suc n) = maskOf g n + digit (g n) * 2 ^ n
+
+pub digit-lt : (c : Bool) → digit c < 2 ^ 1
+digit-lt true = lit< tt
+digit-lt false = lit< tt
+
+pub mask-lt : (g : ℕ → Bool) (n : ℕ) → maskOf g n < 2 ^ n
+unfolding maskOf
+mask-lt g zero = lit< tt
+mask-lt g (suc n) =
+    let b : digit (g n) ≤ 1 = omega (arith, digit-lt (g n)) in
+    let e : digit (g n) * 2 ^ n ≤ 1 * 2 ^ n = mul-le-mul-right (2 ^ n) b in
+    omega (arith, e, pow-suc 2 n, mask-lt g n)
+
+-- one step of a loop that builds a word: m | b << n
+pub mask-more : (g : ℕ → Bool) (n : ℕ) {m b : ℕ} → n < 64 → m ≡ maskOf g n → b ≡ digit (g n)
+    → bitOr m (b * 2 ^ n % 2 ^ 64) ≡ maskOf g (n + 1)
+unfolding maskOf
+mask-more g n l hm hb =
+    ap₂ (λ (x y : ℕ). bitOr x (y * 2 ^ n % 2 ^ 64)) hm hb
+    ∙ ap (bitOr (maskOf g n)) (shl-exact 1 n 64 (digit-lt (g n)) (omega arith))
+    ∙ or-shifted-r (digit (g n)) n (maskOf g n) (mask-lt g n)
+    ∙ add-comm (digit (g n) * 2 ^ n) (maskOf g n)
+    ∙ ap (maskOf g) (sym (add-one n))
+
+-- ---- by the lowest digit
+
+pub mask-low : (n : ℕ) (g : ℕ → Bool) → maskOf g (suc n) ≡ digit (g 0) + 2 * maskOf (λ (k : ℕ). g (suc k)) n
+unfolding maskOf
+mask-low zero g = omega arith
+mask-low (suc n) g =
+    let e = mask-low n g in
+    let p : digit (g (suc n)) * 2 ^ suc n ≡ digit (g (suc n)) * 2 ^ n * 2 = ap (λ (x : ℕ). digit (g (suc n)) * x) (pow-suc 2 n) ∙ sym (mul-assoc (digit (g (suc n))) (2 ^ n) 2) in
+    omega (arith, e, p)
+
+ones-more : (b : Bool) (m : ℕ) → ones (digit b + 2 * m) ≡ more b (ones m)
+ones-more true m =
+    let d : (1 + 2 * m) / 2 ≡ m = omega arith in
+    let e : (1 + 2 * m) % 2 ≡ 1 = omega arith in
+    ones-step (1 + 2 * m) ∙ rw (d, e) (omega arith)
+ones-more false m =
+    let d : (0 + 2 * m) / 2 ≡ m = omega arith in
+    let e : (0 + 2 * m) % 2 ≡ 0 = omega arith in
+    ones-step (0 + 2 * m) ∙ rw (d, e) (omega arith)
+
+-- ---- its ones
+
+module _ {K : Type 0} where
+  -- as many as pass the test, of the entries of a list numbered from k on
+  pub mask-ones : (t : K → Bool) (f : ℕ → K) (k n : ℕ) → ones (maskOf (λ i. t (f (k + i))) n) ≡ count t (run f k n)
+  unfolding ones maskOf
+  mask-ones t f k zero = refl
+  mask-ones t f k (suc n) =
+      ap ones (mask-low n (λ i. t (f (k + i))))
+      ∙ ones-more (t (f (k + 0))) (maskOf (λ (i : ℕ). t (f (k + suc i))) n)
+      ∙ ap₂ more (ap (λ (i : ℕ). t (f i)) (start k)) (ap (λ (g : ℕ → Bool). ones (maskOf g n)) shifted ∙ mask-ones t f (suc k) n)
+    where
+      start : (k : ℕ) → k + 0 ≡ k
+      start k = omega arith
+
+      next : (k i : ℕ) → k + suc i ≡ suc k + i
+      next k i = omega arith
+
+      shifted : _≡_ {A = ℕ → Bool} (λ i. t (f (k + suc i))) (λ i. t (f (suc k + i)))
+      shifted j i = t (f (next k i j))
+
+digit-not : (b : Bool) → digit b + digit (not b) ≡ 1
+digit-not true = refl
+digit-not false = refl
+
+pub oddN-mod : (n : ℕ) → digit (oddN n) ≡ n % 2
+oddN-mod zero = refl
+oddN-mod (suc n) = omega (arith, oddN-mod n, digit-not (oddN n))
+
+-- they are odd in number exactly where the test passes at an odd number of places
+pub mask-odd : {K : Type 0} (t : K → Bool) (f : ℕ → K) (k n : ℕ) → ones (maskOf (λ i. t (f (k + i))) n) % 2 ≡ digit (odd t (run f k n))
+mask-odd t f k n = ap (λ (m : ℕ). m % 2) (mask-ones t f k n) ∙ sym (oddN-mod (count t (run f k n))) ∙ ap digit (odd-count t (run f k n))

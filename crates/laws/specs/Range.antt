@@ -1,0 +1,127 @@
+-- Folds over the numbers from a up to, and without, e: what a counting loop computes. The first answer that stops (`firstOf`), whether a
+-- test passes (`anyOf`), how often (`countOf`) and the lowest number at which it does (`lowestOf`) are instances; each has a law for the
+-- loop's end and for a turn, in the form "the rest equals the whole". Assumes nothing.
+use Prim.Native.Nat.{ℕ, zero, suc, _+_, _-_, _<_, _≤_}
+use mathlib.Core.Path.{_≡_, refl, sym, ap, _∙_}
+use mathlib.Core.Bool.{Bool, true, false, cond, _||_}
+use native.Mathlib.Omega.{arith}
+use borrow.Author.Needs.{needs}
+
+module _ {A : Type 0} where
+  -- n numbers from k on
+  abbrev pub fold : (ℕ → A → A) → A → ℕ → ℕ → A
+  fold g z k zero = z
+  fold g z k (suc n) = g k (fold g z (suc k) n)
+
+  unfoldable pub over : (ℕ → A → A) → A → ℕ → ℕ → A
+  over g z a e = fold g z a (e - a)
+
+  -- the two laws of a loop: past the end, and one turn
+  pub over-stop : (g : ℕ → A → A) (z : A) (a e : ℕ) → e ≤ a → over g z a e ≡ z
+  unfolding over
+  over-stop g z a e h = ap (fold g z a) (none e a h)
+    where
+      none : (e a : ℕ) → e ≤ a → e - a ≡ 0
+      none e a h = omega arith
+
+  pub over-step : (g : ℕ → A → A) (z : A) (a e : ℕ) → a < e → over g z a e ≡ g a (over g z (a + 1) e)
+  unfolding over
+  over-step g z a e h =
+      ap (fold g z a) (more e a h) ∙ ap (λ (k : ℕ). g a (fold g z k (e - (a + 1)))) (up a)
+    where
+      more : (e a : ℕ) → a < e → e - a ≡ suc (e - (a + 1))
+      more e a h = omega arith
+
+      up : (a : ℕ) → suc a ≡ a + 1
+      up a = omega arith
+
+-- ---- the first answer of f that is not z, where z hands on to what comes after it
+
+module _ {A : Type 0} (z : A) (then : A → A → A) where
+  unfoldable pub firstOf : (ℕ → A) → ℕ → ℕ → A
+  firstOf f = over (λ k rest. then (f k) rest) z
+
+  module _ (f : ℕ → A) (i e : ℕ) {w : A} (inv : firstOf f i e ≡ w) where
+    pub first-end : e ≤ i → z ≡ w
+    unfolding firstOf
+    first-end h = sym (over-stop (λ k rest. then (f k) rest) z i e h) ∙ inv
+
+    pub first-turn : {o : A} → i < e → o ≡ f i → then o (firstOf f (i + 1) e) ≡ w
+    unfolding firstOf
+    first-turn {o} h p =
+        ap (λ (j : A). then j (firstOf f (i + 1) e)) p ∙ sym (over-step (λ k rest. then (f k) rest) z i e h) ∙ inv
+
+-- ---- whether p passes
+
+unfoldable pub anyOf : (ℕ → Bool) → ℕ → ℕ → Bool
+anyOf p = over (λ k rest. p k || rest) false
+
+module _ (f : ℕ → Bool) (i e : ℕ) {w : Bool} (inv : anyOf f i e ≡ w) where
+  pub any-end : e ≤ i → false ≡ w
+  unfolding anyOf
+  any-end h = sym (over-stop (λ k rest. f k || rest) false i e h) ∙ inv
+
+  any-turn : {o : Bool} → i < e → o ≡ f i → (o || anyOf f (i + 1) e) ≡ w
+  unfolding anyOf
+  any-turn {o} h p =
+      ap (λ (j : Bool). j || anyOf f (i + 1) e) p ∙ sym (over-step (λ k rest. f k || rest) false i e h) ∙ inv
+
+  pub any-found : {o : Bool} → i < e → o ≡ f i → o ≡ true → true ≡ w
+  any-found h p q = ap (λ (j : Bool). j || anyOf f (i + 1) e) (sym q) ∙ any-turn h p
+
+  pub any-next : {o : Bool} → i < e → o ≡ f i → o ≡ false → anyOf f (i + 1) e ≡ w
+  any-next h p q = ap (λ (j : Bool). j || anyOf f (i + 1) e) (sym q) ∙ any-turn h p
+
+-- ---- how often p passes
+
+abbrev pub more : Bool → ℕ → ℕ
+more true n = suc n
+more false n = n
+
+unfoldable pub countOf : (ℕ → Bool) → ℕ → ℕ → ℕ
+countOf p = over (λ k rest. more (p k) rest) 0
+
+-- n counted so far, and w in the end
+module _ (f : ℕ → Bool) (i e n : ℕ) {w : ℕ} (inv : n + countOf f i e ≡ w) where
+  pub count-end : e ≤ i → n ≡ w
+  unfolding countOf
+  count-end h = omega (arith, over-stop (λ k rest. more (f k) rest) 0 i e h)
+
+  count-turn : {o : Bool} → i < e → o ≡ f i → n + more o (countOf f (i + 1) e) ≡ w
+  unfolding countOf
+  count-turn {o} h p =
+      ap (λ (j : Bool). n + more j (countOf f (i + 1) e)) p ∙ sym (ap (λ (k : ℕ). n + k) (over-step (λ k rest. more (f k) rest) 0 i e h)) ∙ inv
+
+  pub count-one : {o : Bool} {m : ℕ} → i < e → o ≡ f i → o ≡ true → m ≡ n + 1 → m + countOf f (i + 1) e ≡ w
+  count-one h p q k =
+      let t : n + more true (countOf f (i + 1) e) ≡ w = ap (λ (j : Bool). n + more j (countOf f (i + 1) e)) (sym q) ∙ count-turn h p in
+      omega arith
+
+  pub count-none : {o : Bool} {m : ℕ} → i < e → o ≡ f i → o ≡ false → m ≡ n → m + countOf f (i + 1) e ≡ w
+  count-none h p q k =
+      let t : n + more false (countOf f (i + 1) e) ≡ w = ap (λ (j : Bool). n + more j (countOf f (i + 1) e)) (sym q) ∙ count-turn h p in
+      omega arith
+
+-- ---- the lowest number at which p passes, e where it passes nowhere
+
+unfoldable pub lowestOf : (ℕ → Bool) → ℕ → ℕ → ℕ
+lowestOf p a e = over (λ k rest. cond (p k) k rest) e a e
+
+module _ (f : ℕ → Bool) (i e : ℕ) {w : ℕ} (inv : lowestOf f i e ≡ w) where
+  pub lowest-end : e ≤ i → e ≡ w
+  unfolding lowestOf
+  lowest-end h = sym (over-stop (λ k rest. cond (f k) k rest) e i e h) ∙ inv
+
+  lowest-turn : {o : Bool} → i < e → o ≡ f i → cond o i (lowestOf f (i + 1) e) ≡ w
+  unfolding lowestOf
+  lowest-turn {o} h p =
+      ap (λ (j : Bool). cond j i (lowestOf f (i + 1) e)) p ∙ sym (over-step (λ k rest. cond (f k) k rest) e i e h) ∙ inv
+
+  pub lowest-found : {o : Bool} → i < e → o ≡ f i → o ≡ true → i ≡ w
+  lowest-found h p q = ap (λ (j : Bool). cond j i (lowestOf f (i + 1) e)) (sym q) ∙ lowest-turn h p
+
+  pub lowest-next : {o : Bool} → i < e → o ≡ f i → o ≡ false → lowestOf f (i + 1) e ≡ w
+  lowest-next h p q = ap (λ (j : Bool). cond j i (lowestOf f (i + 1) e)) (sym q) ∙ lowest-turn h p
+
+-- what a loop's needs are searched with
+pub ruleset loops = (any-end, any-found, any-next, count-end, count-one, count-none, lowest-end, lowest-found, lowest-next, needs)

@@ -1,0 +1,20 @@
+-- The limits of a scene. `limits` are those of the scene type in the code: `limits_agree` ties the two. Assumes nothing.
+use Prim.Native.Nat.{ℕ, _+_, _*_}
+
+pub record Limits : Type 0 where
+  pub leastVertices : ℕ
+  pub mostVertices : ℕ
+  pub leastFaces : ℕ
+  pub mostFaces : ℕ
+  pub mostCoordinate : ℕ
+  pub mostWeight : ℕ
+
+abbrev pub limits : Limits
+limits = record { leastVertices = 3; mostVertices = 32; leastFaces = 2; mostFaces = 64; mostCoordinate = 4095; mostWeight = 16 }
+
+-- the highest point number, the far point's, and the longest scene
+abbrev pub mostPoints : Limits → ℕ
+mostPoints l = 2 * l .mostVertices + 1
+
+abbrev pub longest : Limits → ℕ
+longest l = 17 + 9 * (2 * l .mostVertices) + 5 * (2 * l .mostFaces)

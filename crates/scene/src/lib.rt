@@ -1,0 +1,131 @@
+// The scene file of two solids and a far point: its limits, its refusals, and what its bytes denote.
+ghost use mathlib.Core.Path.{_≡_};
+ghost use Rattle.scene.specs.Limits.{limits, mostPoints, longest};
+ghost use Rattle.scene.specs.Refusal.{numberOf, placeOf};
+
+pub mod read;
+
+// The header's counts.
+pub struct Scene {
+    pub vertices_a: usize,
+    pub faces_a: usize,
+    pub vertices_b: usize,
+    pub faces_b: usize,
+}
+
+impl Scene {
+    pub const LEAST_VERTICES: usize = 3;
+
+    pub const MOST_VERTICES: usize = 32;
+
+    pub const LEAST_FACES: usize = 2;
+
+    pub const MOST_FACES: usize = 64;
+
+    pub const MOST_COORDINATE: usize = 4095;
+
+    pub const MOST_WEIGHT: usize = 16;
+
+    // The highest point number, the far point's, and the longest scene.
+    pub const MOST_POINTS: usize = 2 * Scene::MOST_VERTICES + 1;
+
+    pub const LONGEST: usize = 17 + 9 * (2 * Scene::MOST_VERTICES) + 5 * (2 * Scene::MOST_FACES);
+
+    // The sizes of the arrays that a scene is decoded into: four numbers a point, three a face, at its number.
+    pub const ROWS: usize = 4 * (Scene::MOST_POINTS + 1);
+
+    pub const CORNERS: usize = 3 * (2 * Scene::MOST_FACES + 1);
+
+    // The five marks, as two-byte numbers: `SC`, `FP`, `VX`, `FC`, `EN`.
+    pub const SC: usize = 83 + 67 * 256;
+
+    pub const FP: usize = 70 + 80 * 256;
+
+    pub const VX: usize = 86 + 88 * 256;
+
+    pub const FC: usize = 70 + 67 * 256;
+
+    pub const EN: usize = 69 + 78 * 256;
+}
+
+// Why a question is not answered: a case for each number of document 01, with its place where that is not always 0.
+pub enum Refusal {
+    Opening,
+    Counts,
+    Length,
+    Mark(usize),
+    Coordinate(usize),
+    Weight(usize),
+    Corner(usize),
+    Unused(usize),
+    Edge(usize),
+    Room(usize),
+    Lacking,
+    Same,
+}
+
+pub fn number(r: Refusal) -> usize
+    ensures { λ n. ⌜ n ≡ numberOf r ⌝ }
+{
+    match r {
+        Refusal::Opening => 1,
+        Refusal::Counts => 2,
+        Refusal::Length => 3,
+        Refusal::Mark(_) => 4,
+        Refusal::Coordinate(_) => 5,
+        Refusal::Weight(_) => 6,
+        Refusal::Corner(_) => 7,
+        Refusal::Unused(_) => 8,
+        Refusal::Edge(_) => 9,
+        Refusal::Room(_) => 10,
+        Refusal::Lacking => 11,
+        Refusal::Same => 12,
+    }
+}
+
+pub fn place(r: Refusal) -> usize
+    ensures { λ n. ⌜ n ≡ placeOf r ⌝ }
+{
+    match r {
+        Refusal::Opening => 0,
+        Refusal::Counts => 0,
+        Refusal::Length => 0,
+        Refusal::Mark(p) => p,
+        Refusal::Coordinate(p) => p,
+        Refusal::Weight(p) => p,
+        Refusal::Corner(p) => p,
+        Refusal::Unused(p) => p,
+        Refusal::Edge(p) => p,
+        Refusal::Room(p) => p,
+        Refusal::Lacking => 0,
+        Refusal::Same => 0,
+    }
+}
+
+// A point's four numbers.
+pub struct Row {
+    pub x: i64,
+    pub y: i64,
+    pub z: i64,
+    pub w: i64,
+}
+
+// A face's three corners, in stored order.
+pub struct Face {
+    pub p: usize,
+    pub q: usize,
+    pub r: usize,
+}
+
+// A scene's rows and corners, decoded once.
+pub type Rows = [i64; Scene::ROWS];
+
+pub type Corners = [usize; Scene::CORNERS];
+
+// The limits of the definitions are those of the scene: changing either alone is refused.
+pub fn limits_agree()
+    ensures vertices { λ r. do ⌜ ((← ⟦Scene::LEAST_VERTICES⟧ .entry) ≡ limits .leastVertices) × ((← ⟦Scene::MOST_VERTICES⟧ .entry) ≡ limits .mostVertices) ⌝ }
+    ensures faces { λ r. do ⌜ ((← ⟦Scene::LEAST_FACES⟧ .entry) ≡ limits .leastFaces) × ((← ⟦Scene::MOST_FACES⟧ .entry) ≡ limits .mostFaces) ⌝ }
+    ensures numbers { λ r. do ⌜ ((← ⟦Scene::MOST_COORDINATE⟧ .entry) ≡ limits .mostCoordinate) × ((← ⟦Scene::MOST_WEIGHT⟧ .entry) ≡ limits .mostWeight) ⌝ }
+    ensures sizes { λ r. do ⌜ ((← ⟦Scene::MOST_POINTS⟧ .entry) ≡ mostPoints limits) × ((← ⟦Scene::LONGEST⟧ .entry) ≡ longest limits) ⌝ }
+{}
