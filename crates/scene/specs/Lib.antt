@@ -4,5 +4,6 @@ pub mod Records
 pub mod Refusal
 pub mod Tables
 pub mod Arrays
+pub mod Faces
 pub mod Signed
 pub mod Read

@@ -1,0 +1,42 @@
+-- Faces and their edges: corners, sides, and the rule that an edge lies in two faces of its solid. Assumes nothing.
+use mathlib.Core.Path.{_≡_}
+use mathlib.Core.Logic.{_≢_, _⊎_}
+use mathlib.Core.List.{List}
+use Prim.Native.Nat.{ℕ, _≤_, _<_}
+use Rattle.laws.specs.Lists.{Each, Number}
+use Rattle.scene.specs.declared.Face.{Face}
+
+-- i is a corner of the face; i and j are
+abbrev pub Corner : ℕ → Face → Type 0
+Corner i f = (f .p ≡ i) ⊎ (f .q ≡ i) ⊎ (f .r ≡ i)
+
+abbrev pub Both : ℕ → ℕ → Face → Type 0
+Both i j f = Corner i f × Corner j f
+
+-- the face's three corners differ
+pub record Proper (f : Face) : Type 0 where
+  pub pq : f .p ≢ f .q
+  pub qr : f .q ≢ f .r
+  pub rp : f .r ≢ f .p
+
+-- the numbers of a solid's vertices are those above low, up to high; a face of the solid
+abbrev pub Vertex : (low high : ℕ) → ℕ → Type 0
+Vertex low high i = (low < i) × (i ≤ high)
+
+pub record FaceOf (low high : ℕ) (f : Face) : Type 0 where
+  pub p : Vertex low high (f .p)
+  pub q : Vertex low high (f .q)
+  pub r : Vertex low high (f .r)
+  pub proper : Proper f
+
+-- X at each of the face's three sides
+abbrev pub Sides : (ℕ → ℕ → Type 0) → Face → Type 0
+Sides X f = X (f .p) (f .q) × X (f .q) (f .r) × X (f .r) (f .p)
+
+-- the edge of i and j lies in exactly two of the faces
+abbrev pub EdgeOk : List Face → ℕ → ℕ → Type 0
+EdgeOk fs i j = Number (Both i j) fs 2
+
+-- the rule of edges, for each side of each face
+abbrev pub EdgesOk : List Face → Type 0
+EdgesOk fs = Each (Sides (EdgeOk fs)) fs
