@@ -4,6 +4,7 @@ pub mod Size
 pub mod Bound
 pub mod Bools
 pub mod Range
+pub mod Tests
 pub mod Even
 pub mod Lists
 pub mod Mask

@@ -1,0 +1,32 @@
+-- Each side that is not in two faces decides.
+use Rattle.judge.specs.Judge.{sidesOk}
+use Rattle.laws.specs.Tests.{ands}
+use borrow.Author.Needs.{needs}
+use Rattle.judge.proofs.edges.sides_ok.Statement.{statement}
+use Rattle.judge.proofs.edges.sides_ok.Tie as tie
+
+side-ok-requires : tie.Need-side-ok-requires
+side-ok-requires c κs = search needs
+
+returns : tie.Need-returns
+unfolding sidesOk
+returns c = search ands depth 14
+
+side-ok-requires-2 : tie.Need-side-ok-requires-2
+side-ok-requires-2 c κs = search needs
+
+returns-2 : tie.Need-returns-2
+unfolding sidesOk
+returns-2 c = search ands depth 14
+
+side-ok-requires-3 : tie.Need-side-ok-requires-3
+side-ok-requires-3 c κs = search needs
+
+returns-3 : tie.Need-returns-3
+unfolding sidesOk
+returns-3 c = search ands depth 14
+
+pub sides-ok-spec : {M : Type 1} → statement M
+sides-ok-spec =
+    tie.close
+    (tie.spec side-ok-requires returns side-ok-requires-2 returns-2 side-ok-requires-3 returns-3)

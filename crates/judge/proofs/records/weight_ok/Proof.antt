@@ -1,0 +1,22 @@
+-- The size of the signed byte is held to the limits.
+use Rattle.judge.specs.Judge.{weightOk}
+use Rattle.scene.specs.Bytes.{weightAt}
+use borrow.Author.Needs.{needs}
+use Rattle.judge.proofs.records.weight_ok.Statement.{statement}
+use Rattle.judge.proofs.records.weight_ok.Tie as tie
+
+byte-requires : tie.Need-byte-requires
+byte-requires c κs = search needs
+
+size-requires : tie.Need-size-requires
+size-requires c κs = search needs
+
+is-within-requires : tie.Need-is-within-requires
+is-within-requires c κs = search needs
+
+returns : tie.Need-returns
+unfolding weightOk weightAt
+returns c = cc
+
+pub weight-ok-spec : {M : Type 1} → statement M
+weight-ok-spec = tie.close (tie.spec byte-requires size-requires is-within-requires returns)

@@ -1,0 +1,143 @@
+-- The judge: what is refused, in the order of checking. Assumes nothing.
+use Prim.Native.Nat.{ℕ, _+_, _-_}
+use mathlib.Core.List.{List}
+use mathlib.Core.Bool.{Bool, true, false, not, cond, _&&_, _||_}
+use lib.ListN.{length}
+use lib.Dec.{ltb, leb, eqb}
+use lib.IntN.{natAbs}
+use Rattle.laws.specs.Range.{firstOf, anyOf, countOf}
+use Rattle.scene.specs.Limits.{Limits, limits}
+use Rattle.scene.specs.Bytes.{twoAt, coordinateAt, weightAt}
+use Rattle.scene.specs.Records.{vertsA, vertsB, facesA, facesB, verts, faces, faceRecord, lastRecord, lengthOf, pointStart, faceStart, endStart, markSC, markFP, markVX, markFC, markEN}
+use Rattle.scene.specs.Tables.{cornerAt}
+use Rattle.scene.specs.declared.Refusal.{Refusal}
+use Rattle.scene.specs.declared.Refusal.the-variants.{Opening, Counts, Length, Mark, Coordinate, Weight, Corner, Unused, Edge}
+use Rattle.judge.specs.declared.Judged.{Judged}
+use Rattle.judge.specs.declared.Judged.the-variants.{Accepted, Refused}
+
+-- a rule: where its test fails, its refusal, and else what the rules after it say
+unfoldable pub rule : Bool → Refusal → Judged → Judged
+rule true r rest = rest
+rule false r rest = Refused r
+
+-- one judgement after another: the first that refuses
+unfoldable pub andThen : Judged → Judged → Judged
+andThen Accepted j = j
+andThen (Refused r) j = Refused r
+
+-- the first refusal of f at a, a + 1, .., e - 1
+abbrev pub firstFault : (ℕ → Judged) → ℕ → ℕ → Judged
+firstFault = firstOf Accepted andThen
+
+unfoldable pub within : ℕ → ℕ → ℕ → Bool
+within low high n = leb low n && leb n high
+
+-- ---- refusals 1, 2 and 3
+
+unfoldable pub opens : List ℕ → Bool
+opens s = leb 6 (length s) && eqb (twoAt s 0) markSC
+
+unfoldable pub countsOk : Limits → List ℕ → Bool
+countsOk l s =
+    within (l .leastVertices) (l .mostVertices) (vertsA s)
+    && (within (l .leastFaces) (l .mostFaces) (facesA s)
+    && (within (l .leastVertices) (l .mostVertices) (vertsB s)
+    && within (l .leastFaces) (l .mostFaces) (facesB s)))
+
+unfoldable pub headerFault : Limits → List ℕ → Judged
+headerFault l s = rule (opens s) Opening (rule (countsOk l s) Counts (rule (eqb (length s) (lengthOf s)) Length Accepted))
+
+-- ---- refusals 4 to 7, record by record
+
+unfoldable pub coordinateOk : Limits → List ℕ → ℕ → Bool
+coordinateOk l s i = leb (natAbs (coordinateAt s i)) (l .mostCoordinate)
+
+unfoldable pub weightOk : Limits → List ℕ → ℕ → Bool
+weightOk l s i = within 1 (l .mostWeight) (natAbs (weightAt s i))
+
+abbrev pub pointMark : ℕ → ℕ
+pointMark j = cond (eqb j 0) markFP markVX
+
+-- the far point (j is 0) or a vertex
+unfoldable pub pointFault : Limits → List ℕ → ℕ → Judged
+pointFault l s j =
+    rule (eqb (twoAt s (pointStart j)) (pointMark j)) (Mark (j + 1))
+    (rule (coordinateOk l s (pointStart j + 2)) (Coordinate (j + 1))
+    (rule (coordinateOk l s (pointStart j + 4)) (Coordinate (j + 1))
+    (rule (coordinateOk l s (pointStart j + 6)) (Coordinate (j + 1))
+    (rule (weightOk l s (pointStart j + 8)) (Weight (j + 1)) Accepted))))
+
+-- three corners of a solid with v vertices, no two the same
+unfoldable pub areCorners : (v p q r : ℕ) → Bool
+areCorners v p q r =
+    within 1 v p && (within 1 v q && (within 1 v r && (not (eqb p q) && (not (eqb q r) && not (eqb r p)))))
+
+-- the vertices of the solid of the file's face i
+unfoldable pub vertsAt : List ℕ → ℕ → ℕ
+vertsAt s i = cond (ltb i (facesA s)) (vertsA s) (vertsB s)
+
+unfoldable pub cornersOk : List ℕ → ℕ → Bool
+cornersOk s i = areCorners (vertsAt s i) (cornerAt s i 0) (cornerAt s i 1) (cornerAt s i 2)
+
+unfoldable pub faceFault : List ℕ → ℕ → Judged
+faceFault s i =
+    rule (eqb (twoAt s (faceStart s i)) markFC) (Mark (faceRecord s i))
+    (rule (cornersOk s i) (Corner (faceRecord s i)) Accepted)
+
+unfoldable pub endFault : List ℕ → Judged
+endFault s = rule (eqb (twoAt s (endStart s)) markEN) (Mark (lastRecord s)) Accepted
+
+-- record k: a point, a face, or EN
+unfoldable pub recordFault : Limits → List ℕ → ℕ → Judged
+recordFault l s k = cond (ltb k (2 + verts s)) (pointFault l s (k - 1)) (cond (ltb k (lastRecord s)) (faceFault s (k - (2 + verts s))) (endFault s))
+
+unfoldable pub recordsFault : Limits → List ℕ → Judged
+recordsFault l s = firstFault (recordFault l s) 1 (lastRecord s + 1)
+
+-- ---- refusal 8: a vertex in no face of its solid
+
+-- v is a corner of the file's face i; v and w are
+unfoldable pub isCorner : List ℕ → ℕ → ℕ → Bool
+isCorner s v i = eqb (cornerAt s i 0) v || (eqb (cornerAt s i 1) v || eqb (cornerAt s i 2) v)
+
+unfoldable pub isEdge : List ℕ → ℕ → ℕ → ℕ → Bool
+isEdge s v w i = isCorner s v i && isCorner s w i
+
+-- point p is a corner of one of its solid's faces
+unfoldable pub isUsed : List ℕ → ℕ → Bool
+isUsed s p =
+    cond (leb p (vertsA s)) (anyOf (isCorner s p) 0 (facesA s)) (anyOf (isCorner s (p - vertsA s)) (facesA s) (faces s))
+
+unfoldable pub unusedFault : List ℕ → ℕ → Judged
+unusedFault s p = rule (isUsed s p) (Unused p) Accepted
+
+unfoldable pub unusedsFault : List ℕ → Judged
+unusedsFault s = firstFault (unusedFault s) 1 (verts s + 1)
+
+-- ---- refusal 9: an edge not in exactly two faces of its solid, whose faces are the file's from a up to e
+
+unfoldable pub edgeOk : List ℕ → (a e v w : ℕ) → Bool
+edgeOk s a e v w = eqb (countOf (isEdge s v w) a e) 2
+
+unfoldable pub sidesOk : List ℕ → (a e i : ℕ) → Bool
+sidesOk s a e i =
+    edgeOk s a e (cornerAt s i 0) (cornerAt s i 1)
+    && (edgeOk s a e (cornerAt s i 1) (cornerAt s i 2) && edgeOk s a e (cornerAt s i 2) (cornerAt s i 0))
+
+-- each side of the file's face i is an edge in exactly two faces of its solid
+unfoldable pub closedAt : List ℕ → ℕ → Bool
+closedAt s i = cond (ltb i (facesA s)) (sidesOk s 0 (facesA s) i) (sidesOk s (facesA s) (faces s) i)
+
+unfoldable pub edgeFault : List ℕ → ℕ → Judged
+edgeFault s i = rule (closedAt s i) (Edge (faceRecord s i)) Accepted
+
+unfoldable pub edgesFault : List ℕ → Judged
+edgesFault s = firstFault (edgeFault s) 0 (faces s)
+
+-- ---- the judge: 1, 2, 3; 4 to 7 record by record; 8; 9
+
+unfoldable pub judgedAt : Limits → List ℕ → Judged
+judgedAt l s = andThen (headerFault l s) (andThen (recordsFault l s) (andThen (unusedsFault s) (edgesFault s)))
+
+abbrev pub judged : List ℕ → Judged
+judged = judgedAt limits

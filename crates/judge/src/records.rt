@@ -1,0 +1,208 @@
+// Refusals 4 to 7, record by record in file order.
+ghost use mathlib.Core.Path.{_≡_};
+ghost use Prim.Native.Nat.{_+_, _<_, _≤_};
+ghost use lib.IntN.{natAbs};
+ghost use lib.Dec.{eqb};
+ghost use Rattle.scene.specs.Limits.{limits};
+ghost use Rattle.scene.specs.Bytes.{twoAt, signed};
+ghost use Rattle.scene.specs.Records.{pointStart, faceStart, endStart, faceRecord, lastRecord, markFC, markEN};
+ghost use Rattle.scene.specs.Tables.{cornerAt};
+ghost use Rattle.judge.specs.Judge.{coordinateOk, weightOk, pointMark, pointFault, vertsAt, areCorners, cornersOk, faceFault, endFault, recordFault, recordsFault};
+use crate::Judged;
+use crate::header::is_within;
+use scene::Refusal;
+use scene::Scene;
+use scene::read::byte;
+use scene::read::two;
+
+// The size of n as a signed number.
+fn size(half: usize, n: usize) -> usize
+    requires { ⌜ (n < half + half) × (half < 65536) ⌝ }
+    ensures { λ r. ⌜ r ≡ natAbs (signed half n) ⌝ }
+{
+    if n < half { n } else { half + half - n }
+}
+
+fn coordinate_ok(s: &[u8], i: usize) -> bool
+    ensures { λ r. ⌜ r ≡ coordinateOk limits (now (s .entry)) i ⌝ }
+{
+    size(32768, two(s, i)) <= Scene::MOST_COORDINATE
+}
+
+fn weight_ok(s: &[u8], i: usize) -> bool
+    ensures { λ r. ⌜ r ≡ weightOk limits (now (s .entry)) i ⌝ }
+{
+    is_within(1, Scene::MOST_WEIGHT, size(128, byte(s, i)))
+}
+
+fn point_marked(s: &[u8], j: usize) -> bool
+    requires { ⌜ j < 1024 ⌝ }
+    ensures { λ r. ⌜ r ≡ eqb (twoAt (now (s .entry)) (pointStart j)) (pointMark j) ⌝ }
+{
+    if j == 0 {
+        return two(s, 6) == Scene::FP;
+    }
+    two(s, 6 + j * 9) == Scene::VX
+}
+
+// Refusals 4, 5 and 6 of the file's point j: 0 is the far point, then come the vertices.
+fn point_fault(s: &[u8], j: usize) -> Judged
+    requires { ⌜ j < 1024 ⌝ }
+    ensures { λ r. ⌜ r ≡ pointFault limits (now (s .entry)) j ⌝ }
+{
+    let at = 6 + j * 9;
+    if !point_marked(s, j) {
+        return Judged::Refused(Refusal::Mark(j + 1));
+    }
+    if !coordinate_ok(s, at + 2) {
+        return Judged::Refused(Refusal::Coordinate(j + 1));
+    }
+    if !coordinate_ok(s, at + 4) {
+        return Judged::Refused(Refusal::Coordinate(j + 1));
+    }
+    if !coordinate_ok(s, at + 6) {
+        return Judged::Refused(Refusal::Coordinate(j + 1));
+    }
+    if !weight_ok(s, at + 8) {
+        return Judged::Refused(Refusal::Weight(j + 1));
+    }
+    Judged::Accepted
+}
+
+// The first byte, the record's number, the first three corners and the solid's vertex count of the file's face i, from 0.
+pub fn face_start(s: &[u8], i: usize) -> usize
+    requires { ⌜ i < 1024 ⌝ }
+    ensures { λ r. ⌜ (r ≡ faceStart (now (s .entry)) i) × (r < 16384) ⌝ }
+{
+    15 + (byte(s, 2) + byte(s, 4)) * 9 + i * 5
+}
+
+pub fn face_record(s: &[u8], i: usize) -> usize
+    requires { ⌜ i < 1024 ⌝ }
+    ensures { λ r. ⌜ r ≡ faceRecord (now (s .entry)) i ⌝ }
+{
+    2 + (byte(s, 2) + byte(s, 4)) + i
+}
+
+pub fn corner(s: &[u8], i: usize, m: usize) -> usize
+    requires { ⌜ (i < 1024) × (m < 3) ⌝ }
+    ensures { λ r. ⌜ r ≡ cornerAt (now (s .entry)) i m ⌝ }
+{
+    byte(s, face_start(s, i) + 2 + m)
+}
+
+fn verts_at(s: &[u8], i: usize) -> usize
+    ensures { λ r. ⌜ r ≡ vertsAt (now (s .entry)) i ⌝ }
+{
+    if i < byte(s, 3) {
+        byte(s, 2)
+    } else {
+        byte(s, 4)
+    }
+}
+
+fn face_marked(s: &[u8], i: usize) -> bool
+    requires { ⌜ i < 1024 ⌝ }
+    ensures { λ r. ⌜ r ≡ eqb (twoAt (now (s .entry)) (faceStart (now (s .entry)) i)) markFC ⌝ }
+{
+    two(s, face_start(s, i)) == Scene::FC
+}
+
+// The corners p, q and r are of a solid with v vertices, and differ.
+fn are_corners(v: usize, p: usize, q: usize, r: usize) -> bool
+    ensures { λ b. ⌜ b ≡ areCorners v p q r ⌝ }
+{
+    if !is_within(1, v, p) {
+        return false;
+    }
+    if !is_within(1, v, q) {
+        return false;
+    }
+    if !is_within(1, v, r) {
+        return false;
+    }
+    if p == q {
+        return false;
+    }
+    if q == r {
+        return false;
+    }
+    r != p
+}
+
+fn corners_ok(s: &[u8], i: usize) -> bool
+    requires { ⌜ i < 1024 ⌝ }
+    ensures { λ r. ⌜ r ≡ cornersOk (now (s .entry)) i ⌝ }
+{
+    are_corners(
+        verts_at(s, i),
+        corner(s, i, 0),
+        corner(s, i, 1),
+        corner(s, i, 2),
+    )
+}
+
+// Refusals 4 and 7 of the file's face i.
+fn face_fault(s: &[u8], i: usize) -> Judged
+    requires { ⌜ i < 1024 ⌝ }
+    ensures { λ r. ⌜ r ≡ faceFault (now (s .entry)) i ⌝ }
+{
+    if !face_marked(s, i) {
+        return Judged::Refused(Refusal::Mark(face_record(s, i)));
+    }
+    if !corners_ok(s, i) {
+        return Judged::Refused(Refusal::Corner(face_record(s, i)));
+    }
+    Judged::Accepted
+}
+
+fn end_marked(s: &[u8]) -> bool
+    ensures { λ r. ⌜ r ≡ eqb (twoAt (now (s .entry)) (endStart (now (s .entry)))) markEN ⌝ }
+{
+    two(s, face_start(s, byte(s, 3) + byte(s, 5))) == Scene::EN
+}
+
+fn last_record(s: &[u8]) -> usize
+    ensures { λ r. ⌜ (r ≡ lastRecord (now (s .entry))) × (r < 1024) ⌝ }
+{
+    2 + (byte(s, 2) + byte(s, 4)) + (byte(s, 3) + byte(s, 5))
+}
+
+// Refusal 4 of the last record.
+fn end_fault(s: &[u8]) -> Judged
+    ensures { λ r. ⌜ r ≡ endFault (now (s .entry)) ⌝ }
+{
+    if !end_marked(s) {
+        return Judged::Refused(Refusal::Mark(last_record(s)));
+    }
+    Judged::Accepted
+}
+
+// Refusals 4 to 7 of record k, from 1 to the last.
+fn record_fault(s: &[u8], k: usize) -> Judged
+    requires { ⌜ (1 ≤ k) × (k ≤ lastRecord (now s)) ⌝ }
+    ensures { λ r. ⌜ r ≡ recordFault limits (now (s .entry)) k ⌝ }
+{
+    let v = 2 + (byte(s, 2) + byte(s, 4));
+    if k < v {
+        return point_fault(s, k - 1);
+    }
+    if k < last_record(s) {
+        return face_fault(s, k - v);
+    }
+    end_fault(s)
+}
+
+pub fn records_fault(s: &[u8]) -> Judged
+    ensures { λ r. ⌜ r ≡ recordsFault limits (now (s .entry)) ⌝ }
+{
+    let e = last_record(s) + 1;
+    let mut k = 1;
+    while k < e {
+        if let Judged::Refused(r) = record_fault(s, k) {
+            return Judged::Refused(r);
+        }
+        k += 1;
+    }
+    Judged::Accepted
+}
