@@ -51,3 +51,25 @@ pub ruleset rules = (rule-refused, rule-passed)
 -- with a place that was worked out
 pub rule-refused-at : {o b : Bool} (f : ℕ → Refusal) (k : Judged) {p q : ℕ} → p ≡ q → o ≡ b → not o ≡ true → Refused (f p) ≡ rule b (f q) k
 rule-refused-at f k e p q = ap (λ (n : ℕ). Refused (f n)) e ∙ rule-refused k p q
+
+-- ---- what acceptance says: each rule's test, and each stage
+
+pub rule-ok : (b : Bool) (r : Refusal) (k : Judged) → rule b r k ≡ Accepted → b ≡ true
+unfolding rule
+rule-ok true r k p = refl
+rule-ok false r k p = cc
+
+pub rule-rest : (b : Bool) (r : Refusal) (k : Judged) → rule b r k ≡ Accepted → k ≡ Accepted
+unfolding rule
+rule-rest true r k p = p
+rule-rest false r k p = cc
+
+pub then-first : (x y : Judged) → andThen x y ≡ Accepted → x ≡ Accepted
+unfolding andThen
+then-first Accepted y p = refl
+then-first (Refused r) y p = p
+
+pub then-rest : (x y : Judged) → andThen x y ≡ Accepted → y ≡ Accepted
+unfolding andThen
+then-rest Accepted y p = p
+then-rest (Refused r) y p = cc
