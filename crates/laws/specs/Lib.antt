@@ -7,6 +7,7 @@ pub mod Range
 pub mod Tests
 pub mod Even
 pub mod Lists
+pub mod Filled
 pub mod Mask
 pub mod Sign
 pub mod Unique

@@ -5,5 +5,6 @@ pub mod Refusal
 pub mod Tables
 pub mod Arrays
 pub mod Faces
+pub mod Decode
 pub mod Signed
 pub mod Read

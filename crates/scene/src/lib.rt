@@ -3,6 +3,7 @@ ghost use mathlib.Core.Path.{_≡_};
 ghost use Rattle.scene.specs.Limits.{limits, mostPoints, longest};
 ghost use Rattle.scene.specs.Refusal.{numberOf, placeOf};
 
+pub mod decode;
 pub mod read;
 
 // The header's counts.

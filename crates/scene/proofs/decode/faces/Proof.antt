@@ -1,0 +1,72 @@
+-- Each turn stores one more; beyond the last the array holds the zeros that the tables say.
+use native.Mathlib.Omega.{arith}
+use mathlib.Core.Path.{_∙_}
+use Rattle.scene.specs.Read.{face-none}
+use Prim.Native.Nat.{_+_, _*_, _-_, _≤_}
+use mathlib.Core.Path.{_≡_}
+use Rattle.laws.specs.Filled.{filled, filled-more}
+use Rattle.scene.specs.Limits.{limits, mostPoints}
+use Rattle.scene.specs.Tables.{tablesOf, face}
+use Rattle.scene.specs.Decode.{faceSet, faces-decoded}
+use lib.ListN.{replicate}
+use borrow.Author.Needs.{needs}
+use Rattle.scene.proofs.decode.faces.Statement.{statement}
+use Rattle.scene.proofs.decode.faces.Tie as tie
+
+abbrev Inv-loop : tie.InvT-loop
+Inv-loop s n a₀ k₀ a k = (k ≤ n) × (a ≡ filled faceSet (face (tablesOf s)) k (replicate (3 * (2 * limits .mostFaces + 1)) (0)))
+
+abbrev μ-loop : tie.MeasureT-loop
+μ-loop s n a₀ k₀ a k = n - k
+
+byte-requires : tie.Need-byte-requires Inv-loop μ-loop
+byte-requires c κs = search needs
+
+byte-requires-2 : tie.Need-byte-requires-2 Inv-loop μ-loop
+byte-requires-2 c κs = search needs
+
+add-n : tie.Need-add-n Inv-loop μ-loop
+add-n c = search needs
+
+add-n-2 : tie.Need-add-n-2 Inv-loop μ-loop
+add-n-2 c = search needs
+
+loop-holds : tie.Need-loop-holds Inv-loop μ-loop
+unfolding filled
+loop-holds c = search needs
+
+corners-requires : tie.Need-corners-requires Inv-loop μ-loop
+corners-requires c κs = search needs
+
+put-face-requires : tie.Need-put-face-requires Inv-loop μ-loop
+put-face-requires c κs = search needs
+
+add-k : tie.Need-add-k Inv-loop μ-loop
+add-k c = search needs
+
+loop-less : tie.Need-loop-less Inv-loop μ-loop
+loop-less c = search needs
+
+loop-again : tie.Need-loop-again Inv-loop μ-loop
+loop-again c = (omega arith, c .put-face .ensures ∙ filled-more faceSet _ _ _ (c .before .before .before .before .loop .inv .1) (c .before .corners .ensures))
+
+returns : tie.Need-returns Inv-loop μ-loop
+returns c = faces-decoded _ _ _ (c .before .loop .inv .1) (omega arith) (λ j h. face-none _ j (omega arith))
+
+pub faces-spec : {M : Type 1} → statement M
+faces-spec =
+    tie.close
+    (tie.spec
+    Inv-loop
+    μ-loop
+    byte-requires
+    byte-requires-2
+    add-n
+    add-n-2
+    loop-holds
+    corners-requires
+    put-face-requires
+    add-k
+    loop-less
+    loop-again
+    returns)

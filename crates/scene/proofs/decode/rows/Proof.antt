@@ -1,0 +1,73 @@
+-- Each turn stores one more; beyond the last the array holds the zeros that the tables say.
+use native.Mathlib.Omega.{arith}
+use mathlib.Core.Path.{_∙_}
+use Rattle.scene.specs.Read.{row-none}
+use Prim.Native.Nat.{_+_, _*_, _-_, _≤_}
+use mathlib.Core.Path.{_≡_}
+use Rattle.laws.specs.Filled.{filled, filled-more}
+use Rattle.scene.specs.Limits.{limits, mostPoints}
+use Rattle.scene.specs.Tables.{tablesOf, row}
+use Rattle.scene.specs.Decode.{rowSet, rows-decoded}
+use lib.ListN.{replicate}
+use borrow.Author.Needs.{needs}
+use lib.IntN.{pos}
+use Rattle.scene.proofs.decode.rows.Statement.{statement}
+use Rattle.scene.proofs.decode.rows.Tie as tie
+
+abbrev Inv-loop : tie.InvT-loop
+Inv-loop s n a₀ i₀ a i = (i ≤ n) × (a ≡ filled rowSet (row (tablesOf s)) i (replicate (4 * (mostPoints limits + 1)) (pos 0)))
+
+abbrev μ-loop : tie.MeasureT-loop
+μ-loop s n a₀ i₀ a i = n - i
+
+byte-requires : tie.Need-byte-requires Inv-loop μ-loop
+byte-requires c κs = search needs
+
+byte-requires-2 : tie.Need-byte-requires-2 Inv-loop μ-loop
+byte-requires-2 c κs = search needs
+
+add-n : tie.Need-add-n Inv-loop μ-loop
+add-n c = search needs
+
+add-n-2 : tie.Need-add-n-2 Inv-loop μ-loop
+add-n-2 c = search needs
+
+loop-holds : tie.Need-loop-holds Inv-loop μ-loop
+unfolding filled
+loop-holds c = search needs
+
+row-requires : tie.Need-row-requires Inv-loop μ-loop
+row-requires c κs = search needs
+
+put-row-requires : tie.Need-put-row-requires Inv-loop μ-loop
+put-row-requires c κs = search needs
+
+add-i : tie.Need-add-i Inv-loop μ-loop
+add-i c = search needs
+
+loop-less : tie.Need-loop-less Inv-loop μ-loop
+loop-less c = search needs
+
+loop-again : tie.Need-loop-again Inv-loop μ-loop
+loop-again c = (omega arith, c .put-row .ensures ∙ filled-more rowSet _ _ _ (c .before .before .before .before .loop .inv .1) (c .before .row .ensures))
+
+returns : tie.Need-returns Inv-loop μ-loop
+returns c = rows-decoded _ _ _ (c .before .loop .inv .1) (omega arith) (λ j h. row-none _ j (omega arith))
+
+pub rows-spec : {M : Type 1} → statement M
+rows-spec =
+    tie.close
+    (tie.spec
+    Inv-loop
+    μ-loop
+    byte-requires
+    byte-requires-2
+    add-n
+    add-n-2
+    loop-holds
+    row-requires
+    put-row-requires
+    add-i
+    loop-less
+    loop-again
+    returns)

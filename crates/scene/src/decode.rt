@@ -1,0 +1,74 @@
+// A scene decoded once: its rows and its corners in arrays, at the scene's own numbers.
+ghost use mathlib.Core.Path.{_≡_};
+ghost use Prim.Native.Nat.{_+_, _*_, _≤_};
+ghost use Rattle.scene.specs.Limits.{limits, mostPoints};
+ghost use Rattle.scene.specs.Records.{verts, faces};
+ghost use Rattle.scene.specs.Tables.{tablesOf, row, face};
+ghost use Rattle.scene.specs.Arrays.{rowIn, faceIn};
+ghost use Rattle.scene.specs.Decode.{rowSet, faceSet};
+use crate::Corners;
+use crate::Face;
+use crate::Row;
+use crate::Rows;
+use crate::Scene;
+use crate::read::byte;
+use crate::read::corners;
+use crate::read::row;
+
+fn put_row(a: &mut Rows, i: usize, p: Row)
+    requires { ⌜ i ≤ mostPoints limits ⌝ }
+    ensures { λ r. ⌜ now (a .exit) ≡ rowSet (now (a .entry)) i p ⌝ }
+{
+    let k = 4 * i;
+    let x = p.x;
+    let y = p.y;
+    let z = p.z;
+    let w = p.w;
+    a[k] = x;
+    a[k + 1] = y;
+    a[k + 2] = z;
+    a[k + 3] = w;
+}
+
+// The rows of a scene with no more points than there may be.
+pub fn rows(s: &[u8]) -> Rows
+    requires { ⌜ verts (now s) + 1 ≤ mostPoints limits ⌝ }
+    ensures { λ r. ⌜ rowIn r ≡ row (tablesOf (now (s .entry))) ⌝ }
+{
+    let n = byte(s, 2) + byte(s, 4) + 2;
+    let mut a: Rows = [0; Scene::ROWS];
+    let mut i = 0;
+    while i < n {
+        put_row(&mut a, i, row(s, i));
+        i += 1;
+    }
+    a
+}
+
+fn put_face(a: &mut Corners, k: usize, f: Face)
+    requires { ⌜ k ≤ 2 * limits .mostFaces ⌝ }
+    ensures { λ r. ⌜ now (a .exit) ≡ faceSet (now (a .entry)) k f ⌝ }
+{
+    let i = 3 * k;
+    let p = f.p;
+    let q = f.q;
+    let r = f.r;
+    a[i] = p;
+    a[i + 1] = q;
+    a[i + 2] = r;
+}
+
+// The corners of a scene with no more faces than there may be.
+pub fn faces(s: &[u8]) -> Corners
+    requires { ⌜ faces (now s) ≤ 2 * limits .mostFaces ⌝ }
+    ensures { λ r. ⌜ faceIn r ≡ face (tablesOf (now (s .entry))) ⌝ }
+{
+    let n = byte(s, 3) + byte(s, 5) + 1;
+    let mut a: Corners = [0; Scene::CORNERS];
+    let mut k = 0;
+    while k < n {
+        put_face(&mut a, k, corners(s, k));
+        k += 1;
+    }
+    a
+}
