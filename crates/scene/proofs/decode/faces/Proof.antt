@@ -8,6 +8,7 @@ use Rattle.laws.specs.Filled.{filled, filled-more}
 use Rattle.scene.specs.Limits.{limits, mostPoints}
 use Rattle.scene.specs.Tables.{tablesOf, face}
 use Rattle.scene.specs.Decode.{faceSet, faces-decoded}
+use denote.Ref.{now}
 use lib.ListN.{replicate}
 use borrow.Author.Needs.{needs}
 use Rattle.scene.proofs.decode.faces.Statement.{statement}
@@ -51,7 +52,9 @@ loop-again : tie.Need-loop-again Inv-loop μ-loop
 loop-again c = (omega arith, c .put-face .ensures ∙ filled-more faceSet _ _ _ (c .before .before .before .before .loop .inv .1) (c .before .corners .ensures))
 
 returns : tie.Need-returns Inv-loop μ-loop
-returns c = faces-decoded _ _ _ (c .before .loop .inv .1) (omega arith) (λ j h. face-none _ j (omega arith))
+returns c =
+    let s = now (c .before .before .before .before .before .args .s) in
+    faces-decoded (face (tablesOf s)) (c .before .loop .k) (3 * (2 * limits .mostFaces + 1)) (c .before .loop .inv .1) (omega arith) (λ j h. face-none s j (omega arith))
 
 pub faces-spec : {M : Type 1} → statement M
 faces-spec =

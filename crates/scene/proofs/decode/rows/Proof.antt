@@ -8,6 +8,7 @@ use Rattle.laws.specs.Filled.{filled, filled-more}
 use Rattle.scene.specs.Limits.{limits, mostPoints}
 use Rattle.scene.specs.Tables.{tablesOf, row}
 use Rattle.scene.specs.Decode.{rowSet, rows-decoded}
+use denote.Ref.{now}
 use lib.ListN.{replicate}
 use borrow.Author.Needs.{needs}
 use lib.IntN.{pos}
@@ -52,7 +53,9 @@ loop-again : tie.Need-loop-again Inv-loop μ-loop
 loop-again c = (omega arith, c .put-row .ensures ∙ filled-more rowSet _ _ _ (c .before .before .before .before .loop .inv .1) (c .before .row .ensures))
 
 returns : tie.Need-returns Inv-loop μ-loop
-returns c = rows-decoded _ _ _ (c .before .loop .inv .1) (omega arith) (λ j h. row-none _ j (omega arith))
+returns c =
+    let s = now (c .before .before .before .before .before .args .s) in
+    rows-decoded (row (tablesOf s)) (c .before .loop .i) (4 * (mostPoints limits + 1)) (c .before .loop .inv .1) (omega arith) (λ j h. row-none s j (omega arith))
 
 pub rows-spec : {M : Type 1} → statement M
 rows-spec =
