@@ -1,15 +1,17 @@
 -- Words by their bits: bit k of `maskOf g n`, below n, is set exactly when g k. A loop builds one bit by bit, and its ones are the numbers that
 -- pass. Assumes nothing.
 use mathlib.Core.Path.{_≡_, refl, sym, ap, ap₂, _∙_}
-use mathlib.Core.Bool.{Bool, true, false, not}
+use mathlib.Core.Bool.{Bool, true, false, not, _||_}
 use mathlib.Core.List.{List, [], _∷_}
-use Prim.Native.Nat.{ℕ, zero, suc, _+_, _*_, _^_, _/_, _%_, _≤_, _<_}
+use Prim.Native.Nat.{ℕ, zero, suc, _+_, _-_, _*_, _^_, _/_, _%_, _≤_, _<_}
 use native.Mathlib.Nat.{pow-suc, add-comm, mul-assoc, mul-le-mul-right}
+use native.Mathlib.Decide.{ℕ-discrete}
 use native.Mathlib.Numerals.{add-one}
 use native.Mathlib.Omega.{arith}
+use borrow.Author.Tests.{eq-eqb, ne-eqb}
 use lib.Count.{ones, ones-step}
-use lib.Dec.{lit<}
-use lib.Bits.{bitOr, or-shifted-r}
+use lib.Dec.{lit<, eqb}
+use lib.Bits.{bitOr, or-shifted-r, or-block}
 use lib.Pow.{shl-exact}
 use Rattle.laws.specs.Bools.{_⊕_}
 use Rattle.laws.specs.Range.{more, fold}
@@ -99,3 +101,74 @@ oddN-mod (suc n) = omega (arith, oddN-mod n, digit-not (oddN n))
 -- they are odd in number exactly where the test passes at an odd number of places
 pub mask-odd : {K : Type 0} (t : K → Bool) (f : ℕ → K) (k n : ℕ) → ones (maskOf (λ i. t (f (k + i))) n) % 2 ≡ digit (odd t (run f k n))
 mask-odd t f k n = ap (λ (m : ℕ). m % 2) (mask-ones t f k n) ∙ sym (oddN-mod (count t (run f k n))) ∙ ap digit (odd-count t (run f k n))
+
+-- ---- read off bit by bit, lowest first: what is left of the word at k has the rest of the bits
+
+module _ (g : ℕ → Bool) (n k : ℕ) {w : ℕ} (here : k < n) (left : w ≡ maskOf (λ j. g (k + j)) (n - k)) where
+  lowest-first : w ≡ digit (g k) + 2 * maskOf (λ j. g (k + 1 + j)) (n - (k + 1))
+  lowest-first =
+      left ∙ ap (maskOf (λ j. g (k + j))) (more-left n k here) ∙ mask-low (n - (k + 1)) (λ j. g (k + j))
+      ∙ ap₂ (λ (b : Bool) (h : ℕ → Bool). digit b + 2 * maskOf h (n - (k + 1))) (ap g (start k)) (λ i j. g (next k j i))
+    where
+      more-left : (n k : ℕ) → k < n → n - k ≡ suc (n - (k + 1))
+      more-left n k h = omega arith
+
+      start : (k : ℕ) → k + 0 ≡ k
+      start k = omega arith
+
+      next : (k j : ℕ) → k + suc j ≡ k + 1 + j
+      next k j = omega arith
+
+  pub bit-on : w % 2 ≡ 1 → g k ≡ true
+  bit-on h = one-only (g k) (omega (arith, lowest-first))
+    where
+      one-only : (b : Bool) → digit b % 2 ≡ 1 → b ≡ true
+      one-only true e = refl
+      one-only false e = absurd (omega arith)
+
+  pub bit-off : (w % 2 ≡ 1 → ⊥) → g k ≡ false
+  bit-off h = none-only (g k) (λ e. h (omega (arith, lowest-first, e)))
+    where
+      none-only : (b : Bool) → (digit b ≡ 1 → ⊥) → b ≡ false
+      none-only true e = absurd (e refl)
+      none-only false e = refl
+
+  pub bits-left : w / 2 ≡ maskOf (λ j. g (k + 1 + j)) (n - (k + 1))
+  bits-left = omega (arith, lowest-first, digit-lt (g k))
+
+-- ---- joined, and one bit alone
+
+digit-or : (a b : Bool) → bitOr (digit a) (digit b) ≡ digit (a || b)
+digit-or true true = refl
+digit-or true false = refl
+digit-or false true = refl
+digit-or false false = refl
+
+pub or-masks : (g h : ℕ → Bool) (n : ℕ) → bitOr (maskOf g n) (maskOf h n) ≡ maskOf (λ k. g k || h k) n
+unfolding maskOf
+or-masks g h zero = refl
+or-masks g h (suc n) =
+    ap₂ bitOr (add-comm (maskOf g n) (digit (g n) * 2 ^ n)) (add-comm (maskOf h n) (digit (h n) * 2 ^ n))
+    ∙ or-block n (digit (g n)) (digit (h n)) (maskOf g n) (maskOf h n) (mask-lt g n) (mask-lt h n)
+    ∙ ap₂ (λ (x y : ℕ). x * 2 ^ n + y) (digit-or (g n) (h n)) (or-masks g h n)
+    ∙ add-comm (digit (g n || h n) * 2 ^ n) (maskOf (λ k. g k || h k) n)
+
+pub mask-none : (g : ℕ → Bool) (n : ℕ) → ((k : ℕ) → k < n → g k ≡ false) → maskOf g n ≡ 0
+unfolding maskOf
+mask-none g zero h = refl
+mask-none g (suc n) h = rw (h n (omega arith), mask-none g n (λ k b. h k (omega arith))) (omega arith)
+
+pub mask-same : (g h : ℕ → Bool) (n : ℕ) → ((k : ℕ) → k < n → g k ≡ h k) → maskOf g n ≡ maskOf h n
+unfolding maskOf
+mask-same g h zero e = refl
+mask-same g h (suc n) e = ap₂ (λ (m : ℕ) (b : Bool). m + digit b * 2 ^ n) (mask-same g h n (λ k b. e k (omega arith))) (e n (omega arith))
+
+pub mask-one : (i n : ℕ) → i < n → maskOf (λ k. eqb k i) n ≡ 2 ^ i
+unfolding maskOf
+mask-one i zero h = absurd (omega arith)
+mask-one i (suc n) h = go (ℕ-discrete n i) (mask-one i n)
+  where
+    go : Dec (n ≡ i) → (i < n → maskOf (λ k. eqb k i) n ≡ 2 ^ i) → maskOf (λ k. eqb k i) n + digit (eqb n i) * 2 ^ n ≡ 2 ^ i
+    go (yes e) before =
+        rw (mask-none (λ k. eqb k i) n (λ k b. ne-eqb k i (omega arith)), eq-eqb n i e) (omega (arith, ap (λ (m : ℕ). 2 ^ m) e))
+    go (no d) before = rw (ne-eqb n i d) (omega (arith, before (omega arith)))

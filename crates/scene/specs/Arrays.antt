@@ -5,7 +5,7 @@ use mathlib.Core.List.{List}
 use Prim.Native.Nat.{ℕ, _+_, _*_, _≤_}
 use lib.IntN.{ℤ, pos, natAbs}
 use lib.ListN.{getD}
-use Rattle.scene.specs.Limits.{Limits}
+use Rattle.scene.specs.Limits.{Limits, mostPoints}
 use Rattle.scene.specs.declared.Row.{Row}
 use Rattle.scene.specs.declared.Face.{Face}
 
@@ -24,3 +24,12 @@ pub record RowWithin (l : Limits) (r : Row) : Type 0 where
 
 abbrev pub AllWithin : Limits → (ℕ → Row) → Type 0
 AllWithin l row = (i : ℕ) → RowWithin l (row i)
+
+-- the three corners of a face are numbers that a point can have; so are those of each face
+pub record FaceWithin (l : Limits) (f : Face) : Type 0 where
+  pub p : f .p ≤ mostPoints l
+  pub q : f .q ≤ mostPoints l
+  pub r : f .r ≤ mostPoints l
+
+abbrev pub FacesWithin : Limits → (ℕ → Face) → Type 0
+FacesWithin l face = (k : ℕ) → FaceWithin l (face k)

@@ -72,3 +72,16 @@ pub fn faces(s: &[u8]) -> Corners
     }
     a
 }
+
+// The face numbered k, of corners that were decoded.
+pub fn face_in(corners: &Corners, k: usize) -> Face
+    requires { ⌜ k ≤ 2 * limits .mostFaces ⌝ }
+    ensures { λ r. ⌜ r ≡ faceIn (now (corners .entry)) k ⌝ }
+{
+    let at = 3 * k;
+    Face {
+        p: corners[at],
+        q: corners[at + 1],
+        r: corners[at + 2],
+    }
+}

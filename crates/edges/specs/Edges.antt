@@ -1,0 +1,35 @@
+-- The edges of a solid: an edge is a pair of points, lower number first, that one of its faces has as corners. Assumes nothing.
+use mathlib.Core.Bool.{Bool, _&&_, _||_}
+use Prim.Native.Nat.{ℕ, _+_, _≤_, _<_}
+use lib.Dec.{eqb, ltb}
+use Rattle.laws.specs.Range.{anyOf}
+use Rattle.laws.specs.Mask.{maskOf}
+use Rattle.scene.specs.Faces.{FaceOf}
+use Rattle.scene.specs.declared.Face.{Face}
+use Rattle.edges.specs.declared.Solid.{Solid}
+
+-- i is a corner of the face; i and j are
+unfoldable pub isCorner : ℕ → Face → Bool
+isCorner i f = eqb (f .p) i || (eqb (f .q) i || eqb (f .r) i)
+
+unfoldable pub hasBoth : ℕ → ℕ → Face → Bool
+hasBoth i j f = isCorner i f && isCorner j f
+
+-- one of the solid's faces has both i and j as corners
+unfoldable pub joined : (ℕ → Face) → Solid → (i j : ℕ) → Bool
+joined face k i j = anyOf (λ f. hasBoth i j (face f)) (k .first + 1) (k .first + 1 + k .count)
+
+unfoldable pub isEdge : (ℕ → Face) → Solid → (i j : ℕ) → Bool
+isEdge face k i j = ltb i j && joined face k i j
+
+-- the bits of a word, more than a solid may have vertices
+abbrev pub width : ℕ
+width = 64
+
+-- the corners that the faces of u have, as a word: bit m stands for the solid's vertex number m + 1
+unfoldable pub neighbours : (ℕ → Face) → Solid → ℕ → ℕ
+neighbours face k u = maskOf (λ m. joined face k u (k .low + 1 + m)) width
+
+-- the solid's faces have the solid's vertices as corners
+abbrev pub Corners : (ℕ → Face) → Solid → Type 0
+Corners face k = (f : ℕ) → k .first < f → f ≤ k .first + k .count → FaceOf (k .low) (k .low + k .verts) (face f)

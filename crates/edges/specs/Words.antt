@@ -1,0 +1,107 @@
+-- The word of one face's corners, and how the words of faces join to that of a vertex's neighbours. Assumes nothing.
+use mathlib.Core.Path.{_≡_, refl, sym, ap, ap₂, _∙_}
+use mathlib.Core.Bool.{Bool, true, false, not, cond, _&&_, _||_}
+use Prim.Native.Nat.{ℕ, zero, suc, _+_, _-_, _^_, _≤_, _<_}
+use native.Mathlib.Omega.{arith}
+use native.Mathlib.Decide.{ℕ-discrete}
+use lib.Bits.{bitOr}
+use lib.Dec.{eqb}
+use borrow.Author.Tests.{eq-eqb, ne-eqb, not-true, not-false}
+use Rattle.laws.specs.Range.{anyOf, over, fold}
+use Rattle.laws.specs.Mask.{maskOf, or-masks, mask-none, mask-same, mask-one}
+use Rattle.scene.specs.Faces.{FaceOf}
+use Rattle.scene.specs.declared.Face.{Face}
+use Rattle.edges.specs.Edges.{width, isCorner, hasBoth}
+use Rattle.edges.specs.declared.Solid.{Solid}
+
+abbrev pub bitOf : (low i : ℕ) → ℕ
+bitOf low i = 2 ^ (i - (low + 1))
+
+unfoldable pub faceWord : (low u : ℕ) → Face → ℕ
+faceWord low u f = cond (isCorner u f) (bitOr (bitOr (bitOf low (f .p)) (bitOf low (f .q))) (bitOf low (f .r))) 0
+
+-- a test of the bit's own number
+same-number : (low i m : ℕ) → low < i → eqb m (i - (low + 1)) ≡ eqb i (low + 1 + m)
+same-number low i m h = go (ℕ-discrete i (low + 1 + m))
+  where
+    go : Dec (i ≡ low + 1 + m) → eqb m (i - (low + 1)) ≡ eqb i (low + 1 + m)
+    go (yes e) = eq-eqb m (i - (low + 1)) (omega arith) ∙ sym (eq-eqb i (low + 1 + m) e)
+    go (no n) = ne-eqb m (i - (low + 1)) (omega arith) ∙ sym (ne-eqb i (low + 1 + m) n)
+
+module _ (low n : ℕ) where
+  bit-is : (i : ℕ) → low < i → i ≤ low + n → bitOf low i ≡ maskOf (λ m. eqb i (low + 1 + m)) n
+  bit-is i h k =
+      sym (mask-one (i - (low + 1)) n (omega arith)) ∙ mask-same (λ m. eqb m (i - (low + 1))) (λ m. eqb i (low + 1 + m)) n (λ m b. same-number low i m h)
+
+  -- the word has a bit for each vertex that the face has with u
+  pub face-word : (u : ℕ) (f : Face) → FaceOf low (low + n) f → faceWord low u f ≡ maskOf (λ m. hasBoth u (low + 1 + m) f) n
+  unfolding faceWord hasBoth isCorner
+  face-word u f ok = go (isCorner u f)
+    where
+      three : bitOr (bitOr (bitOf low (f .p)) (bitOf low (f .q))) (bitOf low (f .r))
+          ≡ maskOf (λ m. eqb (f .p) (low + 1 + m) || (eqb (f .q) (low + 1 + m) || eqb (f .r) (low + 1 + m))) n
+      three =
+          ap₂ bitOr (ap₂ bitOr (bit-is (f .p) (ok .p .0) (ok .p .1)) (bit-is (f .q) (ok .q .0) (ok .q .1)) ∙ or-masks _ _ n) (bit-is (f .r) (ok .r .0) (ok .r .1))
+          ∙ or-masks _ _ n
+          ∙ mask-same _ _ n (λ m b. or-assoc (eqb (f .p) (low + 1 + m)) (eqb (f .q) (low + 1 + m)) (eqb (f .r) (low + 1 + m)))
+        where
+          or-assoc : (a b c : Bool) → ((a || b) || c) ≡ (a || (b || c))
+          or-assoc true b c = refl
+          or-assoc false b c = refl
+
+      go : (b : Bool) → cond b (bitOr (bitOr (bitOf low (f .p)) (bitOf low (f .q))) (bitOf low (f .r))) 0
+          ≡ maskOf (λ m. b && (eqb (f .p) (low + 1 + m) || (eqb (f .q) (low + 1 + m) || eqb (f .r) (low + 1 + m)))) n
+      go true = three
+      go false = sym (mask-none (λ m. false) n (λ m b. refl))
+
+-- ---- face by face
+
+any-last : (p : ℕ → Bool) (a n : ℕ) → fold (λ k rest. p k || rest) false a (suc n) ≡ (fold (λ k rest. p k || rest) false a n || p (a + n))
+any-last p a zero = or-false (p a) ∙ ap p (omega arith)
+  where
+    or-false : (b : Bool) → (b || false) ≡ b
+    or-false true = refl
+    or-false false = refl
+any-last p a (suc n) = ap (λ (b : Bool). p a || b) (any-last p (suc a) n ∙ ap (λ (k : ℕ). fold (λ k rest. p k || rest) false (suc a) n || p k) (omega arith)) ∙ regroup (p a) _ _
+  where
+    regroup : (a b c : Bool) → (a || (b || c)) ≡ ((a || b) || c)
+    regroup true b c = refl
+    regroup false b c = refl
+
+-- the faces from a up to i, and the next one
+any-more : (p : ℕ → Bool) (a i : ℕ) → a ≤ i → anyOf p a (i + 1) ≡ (anyOf p a i || p i)
+unfolding anyOf over
+any-more p a i h =
+    let e : i + 1 - a ≡ suc (i - a) = omega arith in
+    let f : a + (i - a) ≡ i = omega arith in
+    rw e (any-last p a (i - a) ∙ ap (λ (k : ℕ). fold (λ k rest. p k || rest) false a (i - a) || p k) f)
+
+module _ (face : ℕ → Face) (a low n u : ℕ) where
+  -- u's neighbours by the faces from a up to i
+  abbrev pub upto : ℕ → ℕ
+  upto i = maskOf (λ m. anyOf (λ f. hasBoth u (low + 1 + m) (face f)) a i) n
+
+  pub upto-start : 0 ≡ upto a
+  unfolding anyOf over
+  upto-start = sym (mask-none (λ m. anyOf (λ f. hasBoth u (low + 1 + m) (face f)) a a) n (λ m b. nothing (λ f. hasBoth u (low + 1 + m) (face f))))
+    where
+      nothing : (p : ℕ → Bool) → fold (λ k rest. p k || rest) false a (a - a) ≡ false
+      nothing p = let e : a - a ≡ 0 = omega arith in rw e
+
+  pub upto-more : (i : ℕ) {w v : ℕ} → a ≤ i → FaceOf low (low + n) (face i) → w ≡ upto i → v ≡ faceWord low u (face i) → bitOr w v ≡ upto (i + 1)
+  upto-more i h ok e d =
+      ap₂ bitOr e (d ∙ face-word low n u (face i) ok) ∙ or-masks _ _ n
+      ∙ mask-same _ _ n (λ m b. sym (any-more (λ f. hasBoth u (low + 1 + m) (face f)) a i h))
+
+-- the word as the code finds it: u is no corner, or the three bits are joined
+pub word-none : (low u : ℕ) (f : Face) {o : Bool} → o ≡ isCorner u f → not o ≡ true → 0 ≡ faceWord low u f
+unfolding faceWord
+word-none low u f p q = rw (sym p ∙ not-true _ q)
+
+pub word-three : (low u : ℕ) (f : Face) {o : Bool} {x y z : ℕ} → o ≡ isCorner u f → not o ≡ false → x ≡ bitOf low (f .p) → y ≡ bitOf low (f .q) → z ≡ bitOf low (f .r) →
+    bitOr (bitOr x y) z ≡ faceWord low u f
+unfolding faceWord
+word-three low u f p q ex ey ez = rw (sym p ∙ not-false _ q) (ap₂ bitOr (ap₂ bitOr ex ey) ez)
+
+pub in-word : (low n : ℕ) {f : Face} → n ≤ width → FaceOf low (low + n) f → FaceOf low (low + width) f
+in-word low n h ok = omega arith
