@@ -1,1 +1,15 @@
+pub mod Determinant
+pub mod Terms
+pub mod Variables
+pub mod Minors
+pub mod Columns
+pub mod Formed
+pub mod Sizes
+pub mod Bits
+pub mod Laws
+pub mod Whole
 pub mod Signs
+pub mod Alternating
+pub mod Weighted
+pub mod Rules
+pub mod Marked

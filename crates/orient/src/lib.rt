@@ -1,1 +1,265 @@
-// The sign of four points.
+// The sign of four points: the four terms of the determinant of their shifted rows, and the sign of the first that is not zero.
+ghost use mathlib.Core.Path.{_≡_};
+ghost use mathlib.Core.Bool.{true, false, cond};
+ghost use Prim.Native.Nat.{_≤_};
+ghost use Rattle.scene.specs.Limits.{limits, mostPoints};
+ghost use Rattle.scene.specs.Arrays.{rowIn, AllWithin};
+ghost use Rattle.orient.specs.Determinant.{det4};
+ghost use Rattle.orient.specs.Minors.{crossOf, threeOf, joinOf, meetOf};
+ghost use Rattle.orient.specs.Terms.{factor, c0, c1, c2, c3, termsOf, termsAt, isPlus, tied, positive, pointAt, positiveAt};
+ghost use Rattle.orient.specs.Columns.{rowOf, partOf};
+ghost use Rattle.orient.specs.Formed.{mostFormed, crossSize, threeSize, meetSize, JoinWithin, DetWithin};
+ghost use Rattle.orient.specs.Sizes.{Within, AreWithin};
+use scene::Row;
+use scene::Rows;
+
+// The four terms.
+pub struct Terms {
+    pub c0: i64,
+    pub c1: i64,
+    pub c2: i64,
+    pub c3: i64,
+}
+
+// A point: its row with its number.
+struct Point {
+    x: i64,
+    y: i64,
+    z: i64,
+    w: i64,
+    n: i64,
+}
+
+// The six 2×2 minors of two rows.
+struct Line {
+    xy: i64,
+    xz: i64,
+    xw: i64,
+    yz: i64,
+    yw: i64,
+    zw: i64,
+}
+
+// Whether the sign of points a, b, c, d, in this order, is plus.
+pub fn positive_at(rows: &Rows, a: usize, b: usize, c: usize, d: usize) -> bool
+    requires { ⌜ AllWithin limits (rowIn (now rows)) × (a ≤ mostPoints limits) × (b ≤ mostPoints limits) × (c ≤ mostPoints limits) × (d ≤ mostPoints limits) ⌝ }
+    ensures { λ r. ⌜ r ≡ positiveAt (rowIn (now (rows .entry))) a b c d ⌝ }
+{
+    positive(
+        point_at(rows, a),
+        point_at(rows, b),
+        point_at(rows, c),
+        point_at(rows, d),
+    )
+}
+
+// Their four terms.
+pub fn terms_at(rows: &Rows, a: usize, b: usize, c: usize, d: usize) -> Terms
+    requires { ⌜ AllWithin limits (rowIn (now rows)) × (a ≤ mostPoints limits) × (b ≤ mostPoints limits) × (c ≤ mostPoints limits) × (d ≤ mostPoints limits) ⌝ }
+    ensures { λ r. ⌜ r ≡ termsAt (rowIn (now (rows .entry))) a b c d ⌝ }
+{
+    terms_of(
+        point_at(rows, a),
+        point_at(rows, b),
+        point_at(rows, c),
+        point_at(rows, d),
+    )
+}
+
+// Point i: its row in the array, with its number.
+fn point_at(rows: &Rows, i: usize) -> Point
+    requires { ⌜ i ≤ mostPoints limits ⌝ }
+    ensures { λ r. ⌜ r ≡ pointAt (rowIn (now (rows .entry))) i ⌝ }
+{
+    let at = 4 * i;
+    Point {
+        x: rows[at],
+        y: rows[at + 1],
+        z: rows[at + 2],
+        w: rows[at + 3],
+        n: i as i64,
+    }
+}
+
+fn terms_of(a: Point, b: Point, c: Point, d: Point) -> Terms
+    requires { ⌜ AreWithin limits a b c d ⌝ }
+    ensures { λ r. ⌜ r ≡ termsOf a b c d ⌝ }
+{
+    Terms {
+        c0: term0(a, b, c, d),
+        c1: term1(a, b, c, d),
+        c2: term2(a, b, c, d),
+        c3: term3(a, b, c, d),
+    }
+}
+
+// Whether the sign is plus. Nothing of the shift is computed where c0 is not zero.
+fn positive(a: Point, b: Point, c: Point, d: Point) -> bool
+    requires { ⌜ AreWithin limits a b c d ⌝ }
+    ensures { λ r. ⌜ r ≡ positive a b c d ⌝ }
+{
+    let t0 = term0(a, b, c, d);
+    if t0 != 0 {
+        return 0 < t0;
+    }
+    tie(a, b, c, d)
+}
+
+// The same where c0 is zero: the first of c1, c2 and c3 that is not zero says it.
+fn tie(a: Point, b: Point, c: Point, d: Point) -> bool
+    requires { ⌜ AreWithin limits a b c d ⌝ }
+    ensures { λ r. ⌜ r ≡ isPlus (tied a b c d) ⌝ }
+{
+    let t1 = term1(a, b, c, d);
+    if t1 != 0 {
+        return 0 < t1;
+    }
+    let t2 = term2(a, b, c, d);
+    if t2 != 0 {
+        return 0 < t2;
+    }
+    0 < term3(a, b, c, d)
+}
+
+// c0, of the rows as they are.
+fn term0(a: Point, b: Point, c: Point, d: Point) -> i64
+    requires { ⌜ AreWithin limits a b c d ⌝ }
+    ensures { λ r. ⌜ r ≡ c0 a b c d ⌝ }
+{
+    det(row(a), row(b), row(c), row(d))
+}
+
+// c1: the shift stands for one coordinate, each in turn.
+fn term1(a: Point, b: Point, c: Point, d: Point) -> i64
+    requires { ⌜ AreWithin limits a b c d ⌝ }
+    ensures { λ r. ⌜ r ≡ c1 a b c d ⌝ }
+{
+    part(a, b, c, d, true, false, false)
+        + part(a, b, c, d, false, true, false)
+        + part(a, b, c, d, false, false, true)
+}
+
+// c2: it stands for two.
+fn term2(a: Point, b: Point, c: Point, d: Point) -> i64
+    requires { ⌜ AreWithin limits a b c d ⌝ }
+    ensures { λ r. ⌜ r ≡ c2 a b c d ⌝ }
+{
+    part(a, b, c, d, true, true, false)
+        + part(a, b, c, d, true, false, true)
+        + part(a, b, c, d, false, true, true)
+}
+
+// c3: it stands for all three.
+fn term3(a: Point, b: Point, c: Point, d: Point) -> i64
+    requires { ⌜ AreWithin limits a b c d ⌝ }
+    ensures { λ r. ⌜ r ≡ c3 a b c d ⌝ }
+{
+    part(a, b, c, d, true, true, true)
+}
+
+// The determinant with the shifts in place of the coordinates that are marked.
+fn part(a: Point, b: Point, c: Point, d: Point, sx: bool, sy: bool, sz: bool) -> i64
+    requires { ⌜ AreWithin limits a b c d ⌝ }
+    ensures { λ r. ⌜ r ≡ partOf a b c d sx sy sz ⌝ }
+{
+    det(
+        shifted(a, sx, sy, sz),
+        shifted(b, sx, sy, sz),
+        shifted(c, sx, sy, sz),
+        shifted(d, sx, sy, sz),
+    )
+}
+
+// The one factor of the shift.
+fn factor(w: i64) -> i64
+    ensures { λ r. ⌜ r ≡ factor w ⌝ }
+{
+    w
+}
+
+// The row of a point.
+fn row(p: Point) -> Row
+    ensures { λ r. ⌜ r ≡ rowOf p false false false ⌝ }
+{
+    Row {
+        x: p.x,
+        y: p.y,
+        z: p.z,
+        w: p.w,
+    }
+}
+
+// The same, with the shift in place of the coordinates that are marked.
+fn shifted(p: Point, sx: bool, sy: bool, sz: bool) -> Row
+    requires { ⌜ Within limits p ⌝ }
+    ensures { λ r. ⌜ r ≡ rowOf p sx sy sz ⌝ }
+{
+    let s = factor(p.w) * p.n;
+    let t = s * p.n;
+    let u = t * p.n;
+    Row {
+        x: pick(sx, s, p.x),
+        y: pick(sy, t, p.y),
+        z: pick(sz, u, p.z),
+        w: p.w,
+    }
+}
+
+fn pick(marked: bool, a: i64, b: i64) -> i64
+    ensures { λ r. ⌜ r ≡ cond marked a b ⌝ }
+{
+    if marked { a } else { b }
+}
+
+// The determinant of four rows, from the minors of the first two and of the last two.
+fn det(a: Row, b: Row, c: Row, d: Row) -> i64
+    requires { ⌜ DetWithin mostFormed a b c d ⌝ }
+    ensures { λ r. ⌜ r ≡ det4 a b c d ⌝ }
+{
+    meet(join(a, b), join(c, d))
+}
+
+fn join(a: Row, b: Row) -> Line
+    requires { ⌜ JoinWithin mostFormed a b ⌝ }
+    ensures { λ r. ⌜ r ≡ joinOf a b ⌝ }
+{
+    let ax = a.x;
+    let ay = a.y;
+    let az = a.z;
+    let aw = a.w;
+    let bx = b.x;
+    let by = b.y;
+    let bz = b.z;
+    let bw = b.w;
+    Line {
+        xy: cross(ax, ay, bx, by),
+        xz: cross(ax, az, bx, bz),
+        xw: cross(ax, aw, bx, bw),
+        yz: cross(ay, az, by, bz),
+        yw: cross(ay, aw, by, bw),
+        zw: cross(az, aw, bz, bw),
+    }
+}
+
+fn meet(l: Line, m: Line) -> i64
+    requires { ⌜ meetSize l m ≤ mostFormed ⌝ }
+    ensures { λ r. ⌜ r ≡ meetOf l m ⌝ }
+{
+    three(l.xy, m.zw, l.xz, m.yw, l.xw, m.yz) + three(l.yz, m.xw, l.yw, m.xz, l.zw, m.xy)
+}
+
+// One minor.
+fn cross(a: i64, b: i64, c: i64, d: i64) -> i64
+    requires { ⌜ crossSize a b c d ≤ mostFormed ⌝ }
+    ensures { λ r. ⌜ r ≡ crossOf a b c d ⌝ }
+{
+    a * d - b * c
+}
+
+// Three products, the middle one with a minus.
+fn three(a: i64, b: i64, c: i64, d: i64, e: i64, f: i64) -> i64
+    requires { ⌜ threeSize a b c d e f ≤ mostFormed ⌝ }
+    ensures { λ r. ⌜ r ≡ threeOf a b c d e f ⌝ }
+{
+    a * b - c * d + e * f
+}

@@ -1,0 +1,35 @@
+-- `orient::meet` meets its contract: the six products are formed three by three. Assumes nothing.
+use borrow.Author.Needs.{needs}
+use Rattle.laws.specs.Size.{fit, kept}
+use Rattle.orient.specs.Bits.{LineFits, ask-one, ask-two, met}
+use Rattle.orient.proofs.meet.Statement.{statement}
+use Rattle.orient.proofs.meet.Tie as tie
+
+l-fits : (c : tie.Start) → LineFits (c .args .l)
+l-fits c = search needs
+
+m-fits : (c : tie.Start) → LineFits (c .args .m)
+m-fits c = search needs
+
+three-requires : tie.Need-three-requires
+three-requires c κs = let s = c .before .before .before .before .before .before in ask-one (l-fits s) (m-fits s) (s .pre)
+
+three-requires-2 : tie.Need-three-requires-2
+three-requires-2 c κs =
+    let s = c .before .before .before .before .before .before .before .before .before .before .before .before .before in
+    ask-two (l-fits s) (m-fits s) (s .pre)
+
+add-result : tie.Need-add-result
+add-result c =
+    let d = c .before .before .before .before .before .before .before in
+    let s = d .before .before .before .before .before .before .before in
+    fit (met (l-fits s) (m-fits s) (s .pre) (d .three .ensures) (c .three2 .ensures))
+
+returns : tie.Need-returns
+returns c =
+    let d = c .before .before .before .before .before .before .before in
+    let s = d .before .before .before .before .before .before .before in
+    kept (met (l-fits s) (m-fits s) (s .pre) (d .three .ensures) (c .three2 .ensures))
+
+pub meet-spec : {M : Type 1} → statement M
+meet-spec = tie.close (tie.spec three-requires three-requires-2 add-result returns)

@@ -1,0 +1,46 @@
+-- `orient::part` meets its contract: within the limits the marked rows form no number that is too large. Assumes nothing.
+use borrow.Author.Needs.{needs}
+use mathlib.Core.Path.{_∙_}
+use Rattle.laws.specs.Size.{called}
+use Rattle.orient.specs.Determinant.{det4}
+use Rattle.orient.specs.Columns.{partOf}
+use Rattle.orient.specs.Sizes.{part-formed}
+use Rattle.orient.proofs.part.Statement.{statement}
+use Rattle.orient.proofs.part.Tie as tie
+
+shifted-requires : tie.Need-shifted-requires
+shifted-requires c κs = search needs
+
+shifted-requires-2 : tie.Need-shifted-requires-2
+shifted-requires-2 c κs = search needs
+
+shifted-requires-3 : tie.Need-shifted-requires-3
+shifted-requires-3 c κs = search needs
+
+shifted-requires-4 : tie.Need-shifted-requires-4
+shifted-requires-4 c κs = search needs
+
+det-requires : tie.Need-det-requires
+det-requires c κs =
+    let s = c .before .before .before .before in
+    rw (c .before .before .before .shifted .ensures, c .before .before .shifted2 .ensures, c .before .shifted3 .ensures, c .shifted4 .ensures)
+    (part-formed (s .args .sx) (s .args .sy) (s .args .sz) (s .pre))
+
+returns : tie.Need-returns
+unfolding partOf
+returns c =
+    let d = c .before in
+    called (c .det .ok)
+    (c .det .ensures
+    ∙ (λ i. det4 (d .before .before .before .shifted .ensures i) (d .before .before .shifted2 .ensures i) (d .before .shifted3 .ensures i) (d .shifted4 .ensures i)))
+
+pub part-spec : {M : Type 1} → statement M
+part-spec =
+    tie.close
+    (tie.spec
+    shifted-requires
+    shifted-requires-2
+    shifted-requires-3
+    shifted-requires-4
+    det-requires
+    returns)

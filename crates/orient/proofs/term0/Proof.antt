@@ -1,0 +1,41 @@
+-- `orient::term0` meets its contract: c0 is the determinant of the rows as they are. Assumes nothing.
+use borrow.Author.Needs.{needs}
+use mathlib.Core.Path.{sym, _∙_}
+use mathlib.Core.Bool.{false}
+use Rattle.laws.specs.Size.{called}
+use Rattle.orient.specs.Determinant.{det4}
+use Rattle.orient.specs.Columns.{partOf, c0-parts}
+use Rattle.orient.specs.Sizes.{part-formed}
+use Rattle.orient.proofs.term0.Statement.{statement}
+use Rattle.orient.proofs.term0.Tie as tie
+
+row-requires : tie.Need-row-requires
+row-requires c κs = search needs
+
+row-requires-2 : tie.Need-row-requires-2
+row-requires-2 c κs = search needs
+
+row-requires-3 : tie.Need-row-requires-3
+row-requires-3 c κs = search needs
+
+row-requires-4 : tie.Need-row-requires-4
+row-requires-4 c κs = search needs
+
+det-requires : tie.Need-det-requires
+det-requires c κs =
+    rw (c .before .before .before .row .ensures, c .before .before .row2 .ensures, c .before .row3 .ensures, c .row4 .ensures)
+    (part-formed false false false (c .before .before .before .before .pre))
+
+returns : tie.Need-returns
+unfolding partOf
+returns c =
+    let d = c .before in
+    called (c .det .ok)
+    (c .det .ensures
+    ∙ (λ i. det4 (d .before .before .before .row .ensures i) (d .before .before .row2 .ensures i) (d .before .row3 .ensures i) (d .row4 .ensures i))
+    ∙ sym (c0-parts _ _ _ _))
+
+pub term0-spec : {M : Type 1} → statement M
+term0-spec =
+    tie.close
+    (tie.spec row-requires row-requires-2 row-requires-3 row-requires-4 det-requires returns)

@@ -1,0 +1,140 @@
+-- What the code reads back of the numbers that it holds as bits, and what its tests of a sign say. Assumes nothing.
+use mathlib.Core.Path.{_≡_, refl, sym, subst, ap, _∙_}
+use mathlib.Core.Bool.{Bool}
+use Prim.Native.Nat.{ℕ, zero, suc, _+_, _*_, _^_, _≤_, _<_}
+use native.Mathlib.Nat.{lt-of-le-of-lt}
+use native.Mathlib.Omega.{arith}
+use borrow.Author.Tests.{lt-ltb}
+use lib.Dec.{lit<}
+use lib.IntN.{ℤ, pos, negsuc, _+ℤ_, _*ℤ_}
+use lib.Signed.{mag, ltZ}
+use mir.Syntax.{w64}
+use mir.Val.{SFits, ofZ}
+use mir.Facts.{toZ-ofZ}
+use Rattle.laws.specs.Size.{exactly, _⊗_, _⊖_, _⊕_, reread, reads, Held, held, formed, times, plus, called}
+use Rattle.laws.specs.Sign.{Sign, sign, _or_}
+use Rattle.scene.specs.Limits.{limits, mostPoints}
+use Rattle.scene.specs.declared.Row.{Row}
+use Rattle.orient.specs.Terms.{factor, isPlus}
+use Rattle.orient.specs.Minors.{crossOf, threeOf, meetOf}
+use Rattle.orient.specs.Columns.{partOf}
+use Rattle.orient.specs.Formed.{mostFormed, crossSize, threeSize, meetSize}
+use Rattle.orient.specs.Sizes.{Within, AreWithin, partSize, part-size, part-fits, factor-size}
+use Rattle.orient.specs.declared.Line.{Line}
+use Rattle.orient.specs.declared.Point.{Point}
+
+room : {k : ℕ} → k ≤ mostFormed → k < 2 ^ 63
+room h = lt-of-le-of-lt h (lit< tt)
+
+read : {z : ℤ} → SFits w64 z → reread z ≡ z
+read h = toZ-ofZ {w = w64} h
+
+-- ---- the fields of a row, handed on four at a time to `cross`
+
+pub record RowFits (r : Row) : Type 0 where
+  pub x : SFits w64 (r .x)
+  pub y : SFits w64 (r .y)
+  pub z : SFits w64 (r .z)
+  pub w : SFits w64 (r .w)
+
+module _ {a b c d : ℤ} (p : SFits w64 a) (q : SFits w64 b) (s : SFits w64 c) (t : SFits w64 d) where
+  four-read : {X : Type 0} (F : ℤ → ℤ → ℤ → ℤ → X) → F (reread a) (reread b) (reread c) (reread d) ≡ F a b c d
+  four-read F i = F (read p i) (read q i) (read s i) (read t i)
+
+  pub cross-ask : crossSize a b c d ≤ mostFormed → crossSize (reread a) (reread b) (reread c) (reread d) ≤ mostFormed
+  cross-ask h = subst (λ (n : ℕ). n ≤ mostFormed) (sym (four-read crossSize)) h
+
+  pub crossed : {r : ℤ} → mag r < 2 ^ 63 → r ≡ crossOf (reread a) (reread b) (reread c) (reread d) → reread r ≡ crossOf a b c d
+  crossed ok e = called ok (e ∙ four-read crossOf)
+
+-- ---- the fields of two lines, six at a time to `three`
+
+abbrev SixFit : ℤ → ℤ → ℤ → ℤ → ℤ → ℤ → Type 0
+SixFit a b c d e f = SFits w64 a × SFits w64 b × SFits w64 c × SFits w64 d × SFits w64 e × SFits w64 f
+
+six-read : {X : Type 0} {a b c d e f : ℤ} (F : ℤ → ℤ → ℤ → ℤ → ℤ → ℤ → X) → SixFit a b c d e f → F (reread a) (reread b) (reread c) (reread d) (reread e) (reread f) ≡ F a b c d e f
+six-read F s i = F (read (s .0) i) (read (s .1) i) (read (s .2) i) (read (s .3) i) (read (s .4) i) (read (s .5) i)
+
+pub record LineFits (l : Line) : Type 0 where
+  pub xy : SFits w64 (l .xy)
+  pub xz : SFits w64 (l .xz)
+  pub xw : SFits w64 (l .xw)
+  pub yz : SFits w64 (l .yz)
+  pub yw : SFits w64 (l .yw)
+  pub zw : SFits w64 (l .zw)
+
+abbrev Asks : ℤ → ℤ → ℤ → ℤ → ℤ → ℤ → Type 0
+Asks a b c d e f = threeSize (reread a) (reread b) (reread c) (reread d) (reread e) (reread f) ≤ mostFormed
+
+abbrev Gives : ℤ → ℤ → ℤ → ℤ → ℤ → ℤ → ℤ → Type 0
+Gives r a b c d e f = r ≡ threeOf (reread a) (reread b) (reread c) (reread d) (reread e) (reread f)
+
+three-ask : {a b c d e f : ℤ} → SixFit a b c d e f → threeSize a b c d e f ≤ mostFormed → Asks a b c d e f
+three-ask six h = subst (λ (n : ℕ). n ≤ mostFormed) (sym (six-read threeSize six)) h
+
+three-held : {r a b c d e f : ℤ} → SixFit a b c d e f → threeSize a b c d e f ≤ mostFormed → Gives r a b c d e f → Held (threeSize a b c d e f) r (threeOf a b c d e f)
+three-held {a = a} {b = b} {c = c} {d = d} {e = e} {f = f} six h g =
+    formed (g ∙ six-read threeOf six) (exactly a ⊗ exactly b ⊖ exactly c ⊗ exactly d ⊕ exactly e ⊗ exactly f) (room h)
+
+-- the two halves of `meet`: what each call of `three` asks, and their sum
+module _ {l m : Line} (p : LineFits l) (q : LineFits m) (h : meetSize l m ≤ mostFormed) where
+  one : SixFit (l .xy) (m .zw) (l .xz) (m .yw) (l .xw) (m .yz)
+  one = (p .xy, q .zw, p .xz, q .yw, p .xw, q .yz)
+
+  two : SixFit (l .yz) (m .xw) (l .yw) (m .xz) (l .zw) (m .xy)
+  two = (p .yz, q .xw, p .yw, q .xz, p .zw, q .xy)
+
+  pub ask-one : Asks (l .xy) (m .zw) (l .xz) (m .yw) (l .xw) (m .yz)
+  ask-one = three-ask one (omega arith)
+
+  pub ask-two : Asks (l .yz) (m .xw) (l .yw) (m .xz) (l .zw) (m .xy)
+  ask-two = three-ask two (omega arith)
+
+  pub met : {r s : ℤ} → Gives r (l .xy) (m .zw) (l .xz) (m .yw) (l .xw) (m .yz) → Gives s (l .yz) (m .xw) (l .yw) (m .xz) (l .zw) (m .xy) → Held (meetSize l m) (reread r +ℤ reread s) (meetOf l m)
+  met g k = plus (three-held one (omega arith) g) (three-held two (omega arith) k) (room h)
+
+-- ---- the shift of a point, from what `factor` gave
+
+module _ {p : Point} {r : ℤ} (v : Within limits p) (e : r ≡ factor (reread (p .w))) where
+  number : Held (mostPoints limits) (p .n) (p .n)
+  number = held (v .n) (lit< tt)
+
+  abbrev by-number : ℤ → ℤ
+  by-number z = reread z *ℤ reread (p .n)
+
+  pub shift1 : Held (limits .mostWeight * mostPoints limits) (by-number r) (factor (p .w) *ℤ p .n)
+  shift1 = times (formed (e ∙ ap factor (reads (v .w) (lit< tt))) (factor-size (v .w)) (lit< tt)) number (lit< tt)
+
+  pub shift2 : Held (limits .mostWeight * mostPoints limits * mostPoints limits) (by-number (by-number r)) (factor (p .w) *ℤ p .n *ℤ p .n)
+  shift2 = times shift1 number (lit< tt)
+
+  pub shift3 : Held (limits .mostWeight * mostPoints limits * mostPoints limits * mostPoints limits) (by-number (by-number (by-number r))) (factor (p .w) *ℤ p .n *ℤ p .n *ℤ p .n)
+  shift3 = times shift2 number (lit< tt)
+
+-- ---- a determinant that `part` gave
+
+pub part-held : {r : ℤ} {a b c d : Point} (sx sy sz : Bool) → AreWithin limits a b c d → r ≡ partOf a b c d sx sy sz → Held (partSize limits sx sy sz) r (partOf a b c d sx sy sz)
+part-held sx sy sz v e = formed e (part-size limits v sx sy sz) (room (part-fits sx sy sz))
+
+-- ---- the tests of a sign
+
+lead-at : (t : ℤ) (rest : Sign) → (t ≡ pos 0 → ⊥) → ltZ (pos 0) t ≡ isPlus (sign t or rest)
+lead-at (pos zero) rest h = absurd (h refl)
+lead-at (pos (suc n)) rest h = lt-ltb 0 (suc n) (omega arith)
+lead-at (negsuc n) rest h = refl
+
+lead-last : (t : ℤ) → ltZ (pos 0) t ≡ isPlus (sign t)
+lead-last (pos zero) = refl
+lead-last (pos (suc n)) = lt-ltb 0 (suc n) (omega arith)
+lead-last (negsuc n) = refl
+
+-- the result r of a call is t. Its bits are not 0: the sign is t's
+pub decides : {r t : ℤ} (rest : Sign) → mag r < 2 ^ 63 → r ≡ t → (ofZ w64 r ≡ 0 → ⊥) → ltZ (pos 0) (reread r) ≡ isPlus (sign t or rest)
+decides {r} {t} rest ok e h = ap (ltZ (pos 0)) (called ok e) ∙ lead-at t rest (λ z. h (ap (ofZ w64) (e ∙ z)))
+
+-- its bits are 0: the sign is said by what comes after
+pub passes-on : {r t : ℤ} (rest : Sign) → mag r < 2 ^ 63 → r ≡ t → ofZ w64 r ≡ 0 → sign t or rest ≡ rest
+passes-on {r} {t} rest ok e z = rw (sym (called ok e), z)
+
+pub settles : {r t : ℤ} → mag r < 2 ^ 63 → r ≡ t → ltZ (pos 0) (reread r) ≡ isPlus (sign t)
+settles {r} {t} ok e = ap (ltZ (pos 0)) (called ok e) ∙ lead-last t

@@ -1,0 +1,109 @@
+-- What determinants and terms obey: neighbours exchanged negate them, three products of determinants of six rows sum to zero, and c3 is the
+-- product of the weights times Psi. Assumes nothing.
+use mathlib.Core.Path.{_≡_}
+use mathlib.Core.List.{[], _∷_}
+use lib.IntN.{ℤ, pos, negℤ, _+ℤ_, _-ℤ_, _*ℤ_}
+use Rattle.laws.specs.Ring.{Expr, ring}
+use Rattle.laws.specs.Ring.Expr.{lit, ⊝_, _⊕_, _⊖_, _⊗_}
+use Rattle.scene.specs.declared.Row.{Row}
+use Rattle.orient.specs.Determinant.{Entries, det4}
+use Rattle.orient.specs.Terms.{Powers, Numbered, terms, c3}
+use Rattle.orient.specs.Variables.{row, rows, det, P, Q, S, U, points, t-of}
+use Rattle.orient.specs.declared.Point.{Point}
+
+abbrev A : Entries Expr
+A = row 0
+
+abbrev B : Entries Expr
+B = row 1
+
+abbrev C : Entries Expr
+C = row 2
+
+abbrev D : Entries Expr
+D = row 3
+
+abbrev E : Entries Expr
+E = row 4
+
+abbrev F : Entries Expr
+F = row 5
+
+-- ---- of four rows
+
+module _ (a b c d : Row) where
+  pub swap12 : det4 b a c d ≡ negℤ (det4 a b c d)
+  unfolding det4
+  swap12 = ring (rows (a ∷ b ∷ c ∷ d ∷ [])) (det B A C D) (⊝ det A B C D) tt
+
+  pub swap23 : det4 a c b d ≡ negℤ (det4 a b c d)
+  unfolding det4
+  swap23 = ring (rows (a ∷ b ∷ c ∷ d ∷ [])) (det A C B D) (⊝ det A B C D) tt
+
+  pub swap34 : det4 a b d c ≡ negℤ (det4 a b c d)
+  unfolding det4
+  swap34 = ring (rows (a ∷ b ∷ c ∷ d ∷ [])) (det A B D C) (⊝ det A B C D) tt
+
+-- ---- of six rows
+
+pub three-terms : (a b c d e f : Row) → det4 a b c d *ℤ det4 a b e f +ℤ det4 a b c e *ℤ det4 a b f d +ℤ det4 a b c f *ℤ det4 a b d e ≡ pos 0
+unfolding det4
+three-terms a b c d e f =
+    ring (rows (a ∷ b ∷ c ∷ d ∷ e ∷ f ∷ []))
+    (det A B C D ⊗ det A B E F ⊕ det A B C E ⊗ det A B F D ⊕ det A B C F ⊗ det A B D E) (lit (pos 0)) tt
+
+-- ---- of the terms of four points
+
+-- each of the four is the other's negation
+pub record Opposite (p q : Powers ℤ) : Type 0 where
+  pub e0 : p .e0 ≡ negℤ (q .e0)
+  pub e1 : p .e1 ≡ negℤ (q .e1)
+  pub e2 : p .e2 ≡ negℤ (q .e2)
+  pub e3 : p .e3 ≡ negℤ (q .e3)
+
+module _ (a b c d : Point) where
+  abbrev t : Powers Expr
+  t = t-of P Q S U
+
+  pub terms12 : Opposite (terms b a c d) (terms a b c d)
+  unfolding terms
+  terms12 =
+      let x = points a b c d [] in
+      let s = t-of Q P S U in
+      record { e0 = ring x (s .e0) (⊝ t .e0) tt; e1 = ring x (s .e1) (⊝ t .e1) tt; e2 = ring x (s .e2) (⊝ t .e2) tt; e3 = ring x (s .e3) (⊝ t .e3) tt }
+
+  pub terms23 : Opposite (terms a c b d) (terms a b c d)
+  unfolding terms
+  terms23 =
+      let x = points a b c d [] in
+      let s = t-of P S Q U in
+      record { e0 = ring x (s .e0) (⊝ t .e0) tt; e1 = ring x (s .e1) (⊝ t .e1) tt; e2 = ring x (s .e2) (⊝ t .e2) tt; e3 = ring x (s .e3) (⊝ t .e3) tt }
+
+  pub terms34 : Opposite (terms a b d c) (terms a b c d)
+  unfolding terms
+  terms34 =
+      let x = points a b c d [] in
+      let s = t-of P Q U S in
+      record { e0 = ring x (s .e0) (⊝ t .e0) tt; e1 = ring x (s .e1) (⊝ t .e1) tt; e2 = ring x (s .e2) (⊝ t .e2) tt; e3 = ring x (s .e3) (⊝ t .e3) tt }
+
+-- ---- the last term
+
+module _ {R : Type 0} (_-_ _*_ : R → R → R) where
+  infixl 6 _-_
+  infixl 7 _*_
+  -- the product of (later number - earlier number) over the six pairs
+  abbrev pairs : R → R → R → R → R
+  pairs i j k l = (j - i) * (k - i) * (l - i) * (k - j) * (l - j) * (l - k)
+
+unfoldable pub psi : ℤ → ℤ → ℤ → ℤ → ℤ
+psi i j k l = negℤ (pairs _-ℤ_ _*ℤ_ i j k l)
+
+-- the point with its weight for the factor of its shift
+abbrev by-weight : Numbered Expr → Numbered Expr
+by-weight p = record { x = p .x; y = p .y; z = p .z; w = p .w; k = p .w; i = p .i }
+
+pub c3-psi : (a b c d : Point) → c3 a b c d ≡ a .w *ℤ b .w *ℤ c .w *ℤ d .w *ℤ psi (a .n) (b .n) (c .n) (d .n)
+unfolding terms psi
+c3-psi a b c d =
+    ring (points a b c d []) (t-of (by-weight P) (by-weight Q) (by-weight S) (by-weight U) .e3)
+    (P .w ⊗ Q .w ⊗ S .w ⊗ U .w ⊗ ⊝ pairs _⊖_ _⊗_ (P .i) (Q .i) (S .i) (U .i)) tt

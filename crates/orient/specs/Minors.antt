@@ -1,0 +1,58 @@
+-- The determinant as the code forms it, from the 2×2 minors of the first two rows and of the last two: the same as its 24 products.
+-- Assumes nothing.
+use mathlib.Core.Path.{_≡_}
+use mathlib.Core.List.{[], _∷_}
+use lib.IntN.{ℤ, _+ℤ_, _-ℤ_, _*ℤ_}
+use Rattle.laws.specs.Ring.{ring}
+use Rattle.laws.specs.Ring.Expr.{_⊕_, _⊖_, _⊗_}
+use Rattle.scene.specs.declared.Row.{Row}
+use Rattle.orient.specs.Determinant.{Entries, det4}
+use Rattle.orient.specs.Variables.{row, rows, det}
+use Rattle.orient.specs.declared.Line.{Line}
+
+module _ {R : Type 0} (_+_ _-_ _*_ : R → R → R) where
+  infixl 6 _+_ _-_
+  infixl 7 _*_
+  abbrev cross-of : R → R → R → R → R
+  cross-of a b c d = a * d - b * c
+
+  abbrev three-of : R → R → R → R → R → R → R
+  three-of a b c d e f = a * b - c * d + e * f
+
+  abbrev by-minors : Entries R → Entries R → Entries R → Entries R → R
+  by-minors a b c d =
+      three-of
+      (cross-of (a .x) (a .y) (b .x) (b .y)) (cross-of (c .z) (c .w) (d .z) (d .w))
+      (cross-of (a .x) (a .z) (b .x) (b .z)) (cross-of (c .y) (c .w) (d .y) (d .w))
+      (cross-of (a .x) (a .w) (b .x) (b .w)) (cross-of (c .y) (c .z) (d .y) (d .z))
+      + three-of
+      (cross-of (a .y) (a .z) (b .y) (b .z)) (cross-of (c .x) (c .w) (d .x) (d .w))
+      (cross-of (a .y) (a .w) (b .y) (b .w)) (cross-of (c .x) (c .z) (d .x) (d .z))
+      (cross-of (a .z) (a .w) (b .z) (b .w)) (cross-of (c .x) (c .y) (d .x) (d .y))
+
+abbrev pub crossOf : ℤ → ℤ → ℤ → ℤ → ℤ
+crossOf = cross-of _+ℤ_ _-ℤ_ _*ℤ_
+
+abbrev pub threeOf : ℤ → ℤ → ℤ → ℤ → ℤ → ℤ → ℤ
+threeOf = three-of _+ℤ_ _-ℤ_ _*ℤ_
+
+-- the six minors of two rows
+abbrev pub joinOf : Row → Row → Line
+joinOf a b =
+    record {
+      xy = crossOf (a .x) (a .y) (b .x) (b .y);
+      xz = crossOf (a .x) (a .z) (b .x) (b .z);
+      xw = crossOf (a .x) (a .w) (b .x) (b .w);
+      yz = crossOf (a .y) (a .z) (b .y) (b .z);
+      yw = crossOf (a .y) (a .w) (b .y) (b .w);
+      zw = crossOf (a .z) (a .w) (b .z) (b .w);
+    }
+
+-- the minors of the first two rows with those of the last two
+abbrev pub meetOf : Line → Line → ℤ
+meetOf l m = threeOf (l .xy) (m .zw) (l .xz) (m .yw) (l .xw) (m .yz) +ℤ threeOf (l .yz) (m .xw) (l .yw) (m .xz) (l .zw) (m .xy)
+
+pub minors-are : (a b c d : Row) → meetOf (joinOf a b) (joinOf c d) ≡ det4 a b c d
+unfolding det4
+minors-are a b c d =
+    ring (rows (a ∷ b ∷ c ∷ d ∷ [])) (by-minors _⊕_ _⊖_ _⊗_ (row 0) (row 1) (row 2) (row 3)) (det (row 0) (row 1) (row 2) (row 3)) tt

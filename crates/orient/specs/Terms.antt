@@ -1,0 +1,131 @@
+-- The sign of four points: the determinant of their shifted rows is c0 + c1·e + c2·e² + c3·e³, e an infinitesimal above zero, and the first term
+-- that is not zero gives the sign. Assumes nothing.
+use mathlib.Core.Bool.{Bool, true, false}
+use Prim.Native.Nat.{ℕ}
+use lib.IntN.{ℤ, pos, _+ℤ_, _-ℤ_, _*ℤ_}
+use Rattle.laws.specs.Sign.{Sign, sign, _or_, minus, none, plus}
+use Rattle.scene.specs.declared.Row.{Row}
+use Rattle.orient.specs.Determinant.{Entries, determinant}
+use Rattle.orient.specs.declared.Point.{Point}
+use Rattle.orient.specs.declared.Terms.{Terms}
+
+-- ---- the infinitesimal
+
+-- what stands at 1, e, e² and e³; a higher power is dropped, and the determinant of shifted rows has none (`Whole.by-powers`)
+pub record Powers (R : Type 0) : Type 0 where
+  pub e0 : R
+  pub e1 : R
+  pub e2 : R
+  pub e3 : R
+
+-- a sum or a difference goes power by power
+abbrev by-power : {R : Type 0} → (R → R → R) → Powers R → Powers R → Powers R
+by-power f p q = record { e0 = f (p .e0) (q .e0); e1 = f (p .e1) (q .e1); e2 = f (p .e2) (q .e2); e3 = f (p .e3) (q .e3) }
+
+module _ {R : Type 0} (_+_ _*_ : R → R → R) where
+  infixl 6 _+_
+  infixl 7 _*_
+  abbrev product : Powers R → Powers R → Powers R
+  product p q =
+      record {
+        e0 = p .e0 * q .e0;
+        e1 = p .e0 * q .e1 + p .e1 * q .e0;
+        e2 = p .e0 * q .e2 + p .e1 * q .e1 + p .e2 * q .e0;
+        e3 = p .e0 * q .e3 + p .e1 * q .e2 + p .e2 * q .e1 + p .e3 * q .e0;
+      }
+
+-- ---- the shift
+
+-- a row, the factor k of its shift, and its number i
+pub record Numbered (R : Type 0) : Type 0 where
+  pub x : R
+  pub y : R
+  pub z : R
+  pub w : R
+  pub k : R
+  pub i : R
+
+module _ {R : Type 0} (_+_ _*_ : R → R → R) where
+  infixl 6 _+_
+  infixl 7 _*_
+  -- the row (x + e·k·i, y + e·k·i², z + e·k·i³, w)
+  abbrev shifted : R → Numbered R → Entries R
+  shifted e p =
+      record {
+        x = p .x + e * p .k * p .i;
+        y = p .y + e * p .k * (p .i * p .i);
+        z = p .z + e * p .k * (p .i * p .i * p .i);
+        w = p .w;
+      }
+
+module _ {R : Type 0} (zero one : R) (_+_ _-_ _*_ : R → R → R) where
+  abbrev infinitesimal : Powers R
+  infinitesimal = record { e0 = zero; e1 = one; e2 = zero; e3 = zero }
+
+  abbrev whole : R → Powers R
+  whole x = record { e0 = x; e1 = zero; e2 = zero; e3 = zero }
+
+  abbrev shifted-row : Numbered R → Entries (Powers R)
+  shifted-row p =
+      shifted (by-power _+_) (product _+_ _*_) infinitesimal
+      (record { x = whole (p .x); y = whole (p .y); z = whole (p .z); w = whole (p .w); k = whole (p .k); i = whole (p .i) })
+
+  -- the determinant of four shifted rows
+  abbrev pub powers : Numbered R → Numbered R → Numbered R → Numbered R → Powers R
+  powers a b c d =
+      determinant (by-power _+_) (by-power _-_) (product _+_ _*_) (shifted-row a) (shifted-row b) (shifted-row c) (shifted-row d)
+
+-- ---- the terms
+
+-- the one factor of the shift: the point's weight
+abbrev pub factor : ℤ → ℤ
+factor w = w
+
+abbrev pub numbered : Point → Numbered ℤ
+numbered p = record { x = p .x; y = p .y; z = p .z; w = p .w; k = factor (p .w); i = p .n }
+
+unfoldable pub terms : Point → Point → Point → Point → Powers ℤ
+terms a b c d = powers (pos 0) (pos 1) _+ℤ_ _-ℤ_ _*ℤ_ (numbered a) (numbered b) (numbered c) (numbered d)
+
+abbrev pub c0 : Point → Point → Point → Point → ℤ
+c0 a b c d = terms a b c d .e0
+
+abbrev pub c1 : Point → Point → Point → Point → ℤ
+c1 a b c d = terms a b c d .e1
+
+abbrev pub c2 : Point → Point → Point → Point → ℤ
+c2 a b c d = terms a b c d .e2
+
+abbrev pub c3 : Point → Point → Point → Point → ℤ
+c3 a b c d = terms a b c d .e3
+
+abbrev pub termsOf : Point → Point → Point → Point → Terms
+termsOf a b c d = record { c0 = c0 a b c d; c1 = c1 a b c d; c2 = c2 a b c d; c3 = c3 a b c d }
+
+-- ---- the sign
+
+-- that of the first term that is not zero, after c0, and from c0 on
+abbrev pub tied : Point → Point → Point → Point → Sign
+tied a b c d = sign (c1 a b c d) or sign (c2 a b c d) or sign (c3 a b c d)
+
+unfoldable pub orientation : Point → Point → Point → Point → Sign
+orientation a b c d = sign (c0 a b c d) or tied a b c d
+
+abbrev pub isPlus : Sign → Bool
+isPlus minus = false
+isPlus none = false
+isPlus plus = true
+
+abbrev pub positive : Point → Point → Point → Point → Bool
+positive a b c d = isPlus (orientation a b c d)
+
+-- ---- by the numbers of a scene's points
+
+abbrev pub pointAt : (ℕ → Row) → ℕ → Point
+pointAt row i = let r = row i in record { x = r .x; y = r .y; z = r .z; w = r .w; n = pos i }
+
+unfoldable pub positiveAt : (ℕ → Row) → (a b c d : ℕ) → Bool
+positiveAt row a b c d = positive (pointAt row a) (pointAt row b) (pointAt row c) (pointAt row d)
+
+unfoldable pub termsAt : (ℕ → Row) → (a b c d : ℕ) → Terms
+termsAt row a b c d = termsOf (pointAt row a) (pointAt row b) (pointAt row c) (pointAt row d)
