@@ -7,7 +7,9 @@ pub mod Range
 pub mod Tests
 pub mod Even
 pub mod Lists
+pub mod Mapped
 pub mod Filled
 pub mod Mask
+pub mod Walk
 pub mod Sign
 pub mod Unique

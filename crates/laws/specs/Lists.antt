@@ -9,7 +9,8 @@ use native.Mathlib.Omega.{arith}
 use native.Mathlib.Decide.{ℕ-discrete}
 use lib.ListN.{length, getD}
 use lib.Dec.{T}
-use Rattle.laws.specs.Even.{count}
+use Rattle.laws.specs.Bools.{_⊕_}
+use Rattle.laws.specs.Even.{odd, count}
 use Rattle.laws.specs.Range.{fold, over, countOf, anyOf, more}
 
 module _ {A : Type 0} where
@@ -41,6 +42,11 @@ module _ {A : Type 0} where
   each-at P [] d h k i = k
   each-at P (x ∷ xs) d h k zero = h .0
   each-at P (x ∷ xs) d h k (suc i) = each-at P xs d (h .1) k i
+
+  -- two tests that agree on the list pass at an odd number of its places alike
+  pub odd-each : {P : A → Type 0} (g k : A → Bool) → ((x : A) → P x → g x ≡ k x) → (xs : List A) → Each P xs → odd g xs ≡ odd k xs
+  odd-each g k e [] h = refl
+  odd-each g k e (x ∷ xs) h = ap₂ _⊕_ (e x (h .0)) (odd-each g k e xs (h .1))
 
   -- a test that decides P counts as many
   pub number-count : (P : A → Type 0) (g : A → Bool) → ((x : A) → (g x ≡ true) ↔ P x) → (xs : List A) → Number P xs (count g xs)

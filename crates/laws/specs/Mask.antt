@@ -12,7 +12,7 @@ use borrow.Author.Tests.{eq-eqb, ne-eqb}
 use lib.Count.{ones, ones-step}
 use lib.Dec.{lit<, eqb}
 use lib.Bits.{bitOr, or-shifted-r, or-block}
-use lib.Pow.{shl-exact}
+use lib.Pow.{shl-exact, shr-shr}
 use Rattle.laws.specs.Bools.{_⊕_}
 use Rattle.laws.specs.Range.{more, fold}
 use Rattle.laws.specs.Even.{odd, count, oddN, odd-count}
@@ -119,19 +119,14 @@ module _ (g : ℕ → Bool) (n k : ℕ) {w : ℕ} (here : k < n) (left : w ≡ m
       next : (k j : ℕ) → k + suc j ≡ k + 1 + j
       next k j = omega arith
 
-  pub bit-on : w % 2 ≡ 1 → g k ≡ true
-  bit-on h = one-only (g k) (omega (arith, lowest-first))
+  pub bit-test : eqb (w % 2) 1 ≡ g k
+  bit-test =
+      let e : w % 2 ≡ digit (g k) = omega (arith, lowest-first, digit-lt (g k)) in
+      ap (λ (r : ℕ). eqb r 1) e ∙ digit-one (g k)
     where
-      one-only : (b : Bool) → digit b % 2 ≡ 1 → b ≡ true
-      one-only true e = refl
-      one-only false e = absurd (omega arith)
-
-  pub bit-off : (w % 2 ≡ 1 → ⊥) → g k ≡ false
-  bit-off h = none-only (g k) (λ e. h (omega (arith, lowest-first, e)))
-    where
-      none-only : (b : Bool) → (digit b ≡ 1 → ⊥) → b ≡ false
-      none-only true e = absurd (e refl)
-      none-only false e = refl
+      digit-one : (b : Bool) → eqb (digit b) 1 ≡ b
+      digit-one true = refl
+      digit-one false = refl
 
   pub bits-left : w / 2 ≡ maskOf (λ j. g (k + 1 + j)) (n - (k + 1))
   bits-left = omega (arith, lowest-first, digit-lt (g k))
@@ -172,3 +167,25 @@ mask-one i (suc n) h = go (ℕ-discrete n i) (mask-one i n)
     go (yes e) before =
         rw (mask-none (λ k. eqb k i) n (λ k b. ne-eqb k i (omega arith)), eq-eqb n i e) (omega (arith, ap (λ (m : ℕ). 2 ^ m) e))
     go (no d) before = rw (ne-eqb n i d) (omega (arith, before (omega arith)))
+
+-- ---- one bit asked for
+
+abbrev pub testBit : (w k : ℕ) → Bool
+testBit w k = eqb (w / 2 ^ k % 2) 1
+
+pub mask-test : (g : ℕ → Bool) (n k : ℕ) → k < n → testBit (maskOf g n) k ≡ g k
+mask-test g zero k h = absurd (omega arith)
+mask-test g (suc n) zero h =
+    let e : maskOf g (suc n) / 2 ^ 0 ≡ maskOf g (suc n) = omega arith in
+    rw e (bit-test g (suc n) 0 (omega arith) (ap (λ (f : ℕ → Bool). maskOf f (suc n)) (λ i j. g (plain j i)) ∙ ap (maskOf (λ j. g (0 + j))) (omega arith)))
+  where
+    plain : (j : ℕ) → j ≡ 0 + j
+    plain j = omega arith
+mask-test g (suc n) (suc k) h =
+    let half : maskOf g (suc n) / 2 ^ 1 ≡ maskOf (λ j. g (suc j)) n = omega (arith, mask-low n g, digit-lt (g 0)) in
+    let e : maskOf g (suc n) / 2 ^ suc k ≡ maskOf (λ j. g (suc j)) n / 2 ^ k =
+    ap (λ (i : ℕ). maskOf g (suc n) / 2 ^ i) (next k) ∙ sym (shr-shr (maskOf g (suc n)) 1 k) ∙ ap (λ (m : ℕ). m / 2 ^ k) half in
+    rw e (mask-test (λ j. g (suc j)) n k (omega arith))
+  where
+    next : (k : ℕ) → suc k ≡ 1 + k
+    next k = omega arith

@@ -3,7 +3,8 @@
 -- loop's end and for a turn, in the form "the rest equals the whole". Assumes nothing.
 use Prim.Native.Nat.{ℕ, zero, suc, _+_, _-_, _<_, _≤_}
 use mathlib.Core.Path.{_≡_, refl, sym, ap, _∙_}
-use mathlib.Core.Bool.{Bool, true, false, cond, _||_}
+use mathlib.Core.Logic.{_≢_}
+use mathlib.Core.Bool.{Bool, true, false, cond, true≢false, _||_}
 use native.Mathlib.Omega.{arith}
 use borrow.Author.Needs.{needs}
 
@@ -122,6 +123,28 @@ module _ (f : ℕ → Bool) (i e : ℕ) {w : ℕ} (inv : lowestOf f i e ≡ w) w
 
   pub lowest-next : {o : Bool} → i < e → o ≡ f i → o ≡ false → lowestOf f (i + 1) e ≡ w
   lowest-next h p q = ap (λ (j : Bool). cond j i (lowestOf f (i + 1) e)) (sym q) ∙ lowest-turn h p
+
+-- where it passes at h, it passes at the lowest, which is at most h
+pub record Lowest (p : ℕ → Bool) (a h l : ℕ) : Type 0 where
+  pub passes : p l ≡ true
+  pub from : a ≤ l
+  pub upto : l ≤ h
+
+lowest-fold : (p : ℕ → Bool) (z a n h : ℕ) → p h ≡ true → a ≤ h → h < a + n → Lowest p a h (fold (λ k rest. cond (p k) k rest) z a n)
+lowest-fold p z a zero h t l m = absurd (omega arith)
+lowest-fold p z a (suc n) h t l m = go (p a) refl (lowest-fold p z (suc a) n h t)
+  where
+    go : (b : Bool) → p a ≡ b → (suc a ≤ h → h < suc a + n → Lowest p (suc a) h (fold (λ k rest. cond (p k) k rest) z (suc a) n)) →
+        Lowest p a h (cond b a (fold (λ k rest. cond (p k) k rest) z (suc a) n))
+    go true e r = record { passes = e; from = omega arith; upto = l }
+    go false e r =
+        let d : a ≢ h = λ q. true≢false (sym t ∙ ap p (sym q) ∙ e) in
+        let x = r (omega arith) (omega arith) in
+        record { passes = x .passes; from = omega arith; upto = x .upto }
+
+pub lowest-passes : (p : ℕ → Bool) (a e h : ℕ) → p h ≡ true → a ≤ h → h < e → Lowest p a h (lowestOf p a e)
+unfolding lowestOf over
+lowest-passes p a e h t l m = lowest-fold p e a (e - a) h t l (omega arith)
 
 -- what a loop's needs are searched with
 pub ruleset loops = (any-end, any-found, any-next, count-end, count-one, count-none, lowest-end, lowest-found, lowest-next, needs)

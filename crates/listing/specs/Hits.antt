@@ -1,0 +1,64 @@
+-- The pierced pairs of a scene in the order of the listing: edges of A with faces of B, then edges of B with faces of A; by lower point, then
+-- higher point, then face. Assumes nothing.
+use Prim.Native.Nat.{ℕ, zero, suc, _+_, _*_, _≤_, _<_}
+use mathlib.Core.Bool.{Bool, cond, _&&_}
+use mathlib.Core.List.{List, [], _∷_, _++_}
+use lib.Dec.{ltb}
+use Rattle.scene.specs.Limits.{limits, mostPoints}
+use Rattle.scene.specs.Arrays.{AllWithin, FacesWithin}
+use Rattle.scene.specs.declared.Row.{Row}
+use Rattle.scene.specs.declared.Face.{Face}
+use Rattle.edges.specs.Edges.{joined, Corners}
+use Rattle.edges.specs.declared.Solid.{Solid}
+use Rattle.pierce.specs.Formula.{pierced}
+
+-- what piercing reads of a scene: the number of its points, the far point's the last, and the rows and faces by their numbers
+pub record View : Type 0 where
+  pub points : ℕ
+  pub row : ℕ → Row
+  pub face : ℕ → Face
+
+-- an edge, lower point first, and a face that it pierces
+pub record Hit : Type 0 where
+  pub low : ℕ
+  pub high : ℕ
+  pub face : ℕ
+
+module _ {A : Type 0} where
+  -- g 0, then g 1, and so on, n of them
+  unfoldable pub upTo : (ℕ → List A) → ℕ → List A
+  upTo g zero = []
+  upTo g (suc n) = upTo g n ++ g n
+
+  abbrev pub only : Bool → List A → List A
+  only b l = cond b l []
+
+module _ (s : View) (k : Solid) where
+  -- the edge u, v with the i-th face of the other solid, from 0, where it is pierced
+  unfoldable pub faceHits : (u v i : ℕ) → List Hit
+  faceHits u v i = only (pierced (s .points) (s .row) u v (s .face (k .other + 1 + i))) (record { low = u; high = v; face = k .other + 1 + i } ∷ [])
+
+  unfoldable pub edgeHits : (u v : ℕ) → List Hit
+  edgeHits u v = upTo (faceHits u v) (k .others)
+
+  -- u and v are an edge where some face has both as corners, and u is the lower
+  unfoldable pub pairHits : (u v : ℕ) → Bool → List Hit
+  pairHits u v both = only (ltb u v && both) (edgeHits u v)
+
+  -- the edges from u to the solid's vertices, in rising order
+  unfoldable pub vertexHits : ℕ → List Hit
+  vertexHits u = upTo (λ m. pairHits u (k .low + 1 + m) (joined (s .face) k u (k .low + 1 + m))) (k .verts)
+
+  -- the edges of the solid
+  unfoldable pub solidHits : List Hit
+  solidHits = upTo (λ i. vertexHits (k .low + 1 + i)) (k .verts)
+
+  -- what the limits and the rules give: with it every number that is formed on the way has room
+  pub record Sound : Type 0 where
+    pub rows : AllWithin limits (s .row)
+    pub faces : FacesWithin limits (s .face)
+    pub points : (6 ≤ s .points) × (s .points ≤ mostPoints limits)
+    pub vertices : (k .verts ≤ limits .mostVertices) × (k .low + k .verts ≤ mostPoints limits)
+    pub own : k .first + k .count ≤ 2 * limits .mostFaces
+    pub other : (k .other + k .others ≤ 2 * limits .mostFaces) × (k .others ≤ limits .mostFaces)
+    pub corners : Corners (s .face) k

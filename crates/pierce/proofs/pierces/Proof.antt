@@ -1,0 +1,43 @@
+-- Where A(u) and A(v) are alike the formula is false; else the sides decide, with a helper that is at most 6.
+use Rattle.pierce.specs.Formula.{pierces}
+use Rattle.pierce.specs.Steps.{ends-alike, ends-differ}
+use Rattle.pierce.specs.Helper.{helper-most}
+use borrow.Author.Needs.{needs}
+use Rattle.pierce.proofs.pierces.Statement.{statement}
+use Rattle.pierce.proofs.pierces.Tie as tie
+
+positive-at-requires : tie.Need-positive-at-requires
+positive-at-requires c κs = search needs
+
+positive-at-requires-2 : tie.Need-positive-at-requires-2
+positive-at-requires-2 c κs = search needs
+
+returns : tie.Need-returns
+unfolding pierces
+returns c = ends-alike _ _ _ _ _ _ _ (c .before .before .positive-at .ensures) (c .before .positive-at2 .ensures) (c .if1 .taken)
+
+helper-requires : tie.Need-helper-requires
+helper-requires c κs = search needs
+
+sides-requires : tie.Need-sides-requires
+sides-requires c κs =
+    let a = c .before .before .before .before .args in
+    let h = helper-most (a .n) (a .u) (a .v) (a .f) (search needs) in
+    search needs
+
+returns-2 : tie.Need-returns-2
+unfolding pierces
+returns-2 c =
+    let q = c .before .before .before in
+    ends-differ _ _ _ _ _ _ _ (q .before .positive-at .ensures) (q .positive-at2 .ensures) (c .before .before .if1 .left) (rw (c .before .helper .ensures) at (c .sides .ensures))
+
+pub pierces-spec : {M : Type 1} → statement M
+pierces-spec =
+    tie.close
+    (tie.spec
+    positive-at-requires
+    positive-at-requires-2
+    returns
+    helper-requires
+    sides-requires
+    returns-2)

@@ -1,0 +1,41 @@
+-- Each side by its own function, and their sum.
+use Rattle.pierce.specs.Steps.{sides-sum}
+use borrow.Author.Needs.{needs}
+use Rattle.pierce.proofs.sides.Statement.{statement}
+use Rattle.pierce.proofs.sides.Tie as tie
+
+positive-at-requires : tie.Need-positive-at-requires
+positive-at-requires c κs = search needs
+
+positive-at-requires-2 : tie.Need-positive-at-requires-2
+positive-at-requires-2 c κs = search needs
+
+positive-at-requires-3 : tie.Need-positive-at-requires-3
+positive-at-requires-3 c κs = search needs
+
+side-requires : tie.Need-side-requires
+side-requires c κs = search needs
+
+side-requires-2 : tie.Need-side-requires-2
+side-requires-2 c κs = search needs
+
+side-requires-3 : tie.Need-side-requires-3
+side-requires-3 c κs = search needs
+
+returns : tie.Need-returns
+returns c =
+    let q = c .before .before .before in
+    sides-sum _ _ _ _ _ _ _ (q .before .before .positive-at .ensures) (q .before .positive-at2 .ensures) (q .positive-at3 .ensures)
+    (c .before .before .side .ensures) (c .before .side2 .ensures) (c .side3 .ensures)
+
+pub sides-spec : {M : Type 1} → statement M
+sides-spec =
+    tie.close
+    (tie.spec
+    positive-at-requires
+    positive-at-requires-2
+    positive-at-requires-3
+    side-requires
+    side-requires-2
+    side-requires-3
+    returns)

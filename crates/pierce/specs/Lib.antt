@@ -1,0 +1,9 @@
+pub mod Formula
+pub mod Steps
+pub mod Helper
+pub mod Five
+pub mod Triangles
+pub mod Closed
+pub mod Faces
+pub mod Parity
+pub mod Scene

@@ -1,0 +1,47 @@
+// The faces of a solid that an edge pierces, as a word.
+ghost use mathlib.Core.Path.{_≡_};
+ghost use Prim.Native.Nat.{_<_};
+ghost use lib.Count.{ones};
+ghost use Rattle.pierce.specs.Faces.{isOdd, valueOf, hasFace, firstFace, withoutFirst};
+
+// Bit k - 1 stands for the solid's k-th face.
+pub struct Mask {
+    pub word: u64,
+}
+
+// How many faces.
+pub fn ones(m: Mask) -> usize
+    ensures { λ r. ⌜ r ≡ ones (valueOf m) ⌝ }
+{
+    u64::count_ones(m.word) as usize
+}
+
+// An odd number of faces.
+pub fn is_odd(m: Mask) -> bool
+    ensures { λ r. ⌜ r ≡ isOdd (valueOf m) ⌝ }
+{
+    ones(m) % 2 == 1
+}
+
+// Some face.
+pub fn has_face(m: Mask) -> bool
+    ensures { λ r. ⌜ r ≡ hasFace (valueOf m) ⌝ }
+{
+    m.word != 0
+}
+
+// k - 1 for the first face k.
+pub fn first_face(m: Mask) -> usize
+    ensures { λ r. ⌜ r ≡ firstFace (valueOf m) ⌝ }
+{
+    u64::trailing_zeros(m.word) as usize
+}
+
+// All but the first face.
+pub fn without_first(m: Mask) -> Mask
+    requires { ⌜ 0 < valueOf m ⌝ }
+    ensures { λ r. ⌜ valueOf r ≡ withoutFirst (valueOf m) ⌝ }
+{
+    let w = m.word;
+    Mask { word: w & (w - 1) }
+}
