@@ -4,19 +4,26 @@ use Prim.Native.Nat.{ℕ, zero, suc, _+_, _*_, _≤_, _<_}
 use mathlib.Core.Bool.{Bool, cond, _&&_}
 use mathlib.Core.List.{List, [], _∷_, _++_}
 use lib.Dec.{ltb}
+use lib.IntN.{ℤ}
+use Rattle.laws.specs.Range.{countOf, lowestOf}
 use Rattle.scene.specs.Limits.{limits, mostPoints}
-use Rattle.scene.specs.Arrays.{AllWithin, FacesWithin}
+use Rattle.scene.specs.Arrays.{rowIn, faceIn, AllWithin, FacesWithin}
 use Rattle.scene.specs.declared.Row.{Row}
 use Rattle.scene.specs.declared.Face.{Face}
 use Rattle.edges.specs.Edges.{joined, Corners}
 use Rattle.edges.specs.declared.Solid.{Solid}
 use Rattle.pierce.specs.Formula.{pierced}
+use Rattle.pierce.specs.Faces.{maskAgainst, enclosed}
 
 -- what piercing reads of a scene: the number of its points, the far point's the last, and the rows and faces by their numbers
 pub record View : Type 0 where
   pub points : ℕ
   pub row : ℕ → Row
   pub face : ℕ → Face
+
+-- as it stands in the arrays that a scene of n points was decoded into
+abbrev pub viewIn : ℕ → List ℤ → List ℕ → View
+viewIn n rows corners = record { points = n; row = rowIn rows; face = faceIn corners }
 
 -- an edge, lower point first, and a face that it pierces
 pub record Hit : Type 0 where
@@ -52,6 +59,20 @@ module _ (s : View) (k : Solid) where
   -- the edges of the solid
   unfoldable pub solidHits : List Hit
   solidHits = upTo (λ i. vertexHits (k .low + 1 + i)) (k .verts)
+
+  -- ---- the edge's mask, and the solid's vertices that the other one encloses: how many, and the lowest (the number behind the last, if none)
+
+  unfoldable pub edgeMask : (u v : ℕ) → ℕ
+  edgeMask u v = maskAgainst (s .points) (s .row) (s .face) u v (k .other) (k .others)
+
+  unfoldable pub isInside : ℕ → Bool
+  isInside u = enclosed (s .points) (s .row) (s .face) u (k .other) (k .others)
+
+  unfoldable pub insideCount : ℕ
+  insideCount = countOf isInside (k .low + 1) (k .low + 1 + k .verts)
+
+  unfoldable pub lowestInside : ℕ
+  lowestInside = lowestOf isInside (k .low + 1) (k .low + 1 + k .verts)
 
   -- what the limits and the rules give: with it every number that is formed on the way has room
   pub record Sound : Type 0 where

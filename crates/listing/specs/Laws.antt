@@ -18,8 +18,7 @@ use Rattle.scene.specs.declared.Face.{Face}
 use Rattle.edges.specs.Edges.{width, joined, neighbours}
 use Rattle.edges.specs.declared.Solid.{Solid}
 use Rattle.pierce.specs.Formula.{pierced}
-use Rattle.pierce.specs.Faces.{maskAgainst}
-use Rattle.listing.specs.Hits.{View, Hit, upTo, only, faceHits, edgeHits, pairHits, vertexHits, solidHits}
+use Rattle.listing.specs.Hits.{View, Hit, upTo, only, edgeMask, faceHits, edgeHits, pairHits, vertexHits, solidHits}
 
 module _ {A : Type 0} where
   pub upTo-more : (g : ℕ → List A) (n : ℕ) → upTo g (n + 1) ≡ upTo g n ++ g n
@@ -100,22 +99,22 @@ module _ (s : View) (k : Solid) where
       one-more false m = omega arith
 
   -- as many as the mask has ones
-  pub edge-ones : (u v : ℕ) → ones (maskAgainst (s .points) (s .row) (s .face) u v (k .other) (k .others)) ≡ length (edgeHits s k u v)
-  unfolding edgeHits faceHits
+  pub edge-ones : (u v : ℕ) → ones (edgeMask s k u v) ≡ length (edgeHits s k u v)
+  unfolding edgeMask edgeHits faceHits
   edge-ones u v =
       mask-ones (pierced (s .points) (s .row) u v) (s .face) (k .other + 1) (k .others)
       ∙ sym (length-count (pierced (s .points) (s .row) u v) (s .face) (k .others) (k .other + 1) (faceHits s k u v)
-      (λ i. one (pierced (s .points) (s .row) u v (s .face (k .other + 1 + i)))))
+      (λ i. one _ (pierced (s .points) (s .row) u v (s .face (k .other + 1 + i)))))
     where
-      one : {h : Hit} (b : Bool) → length (only b (h ∷ [])) ≡ more b 0
-      one true = refl
-      one false = refl
+      one : (h : Hit) (b : Bool) → length (only b (h ∷ [])) ≡ more b 0
+      one h true = refl
+      one h false = refl
 
   -- ---- an edge or none: what is told of u and v by b
 
-  pub pair-none : (u v : ℕ) {b : Bool} → v ≤ u → [] ≡ pairHits s k u v b
+  pub pair-none : (u v : ℕ) (b : Bool) → v ≤ u → [] ≡ pairHits s k u v b
   unfolding pairHits
-  pair-none u v h = simp (le-ltb u v h)
+  pair-none u v b h = simp (le-ltb u v h)
 
   pub pair-apart : (u v : ℕ) {b : Bool} → b ≡ false → [] ≡ pairHits s k u v b
   unfolding pairHits

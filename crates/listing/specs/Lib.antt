@@ -1,2 +1,5 @@
 pub mod Hits
 pub mod Laws
+pub mod Pour
+pub mod Poured
+pub mod First

@@ -2,7 +2,8 @@
 ghost use mathlib.Core.Path.{_≡_};
 ghost use Prim.Native.Nat.{_<_};
 ghost use lib.Count.{ones};
-ghost use Rattle.pierce.specs.Faces.{isOdd, valueOf, hasFace, firstFace, withoutFirst};
+ghost use Rattle.laws.specs.Mask.{testBit};
+ghost use Rattle.pierce.specs.Faces.{width, isOdd, valueOf, hasFace, firstFace, withoutFirst};
 
 // Bit k - 1 stands for the solid's k-th face.
 pub struct Mask {
@@ -28,6 +29,14 @@ pub fn has_face(m: Mask) -> bool
     ensures { λ r. ⌜ r ≡ hasFace (valueOf m) ⌝ }
 {
     m.word != 0
+}
+
+// Whether face k + 1 is one of them.
+pub fn has(m: Mask, k: usize) -> bool
+    requires { ⌜ k < width ⌝ }
+    ensures { λ r. ⌜ r ≡ testBit (valueOf m) k ⌝ }
+{
+    (m.word >> k) % 2 == 1
 }
 
 // k - 1 for the first face k.

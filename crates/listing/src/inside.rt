@@ -1,0 +1,46 @@
+// The solid's vertices that the other one encloses: how many, and the lowest.
+ghost use mathlib.Core.Path.{_≡_};
+ghost use Prim.Native.Nat.{_+_, _≤_, _<_};
+ghost use Rattle.laws.specs.Range.{countOf, lowestOf};
+ghost use Rattle.listing.specs.Hits.{viewIn, Sound, isInside, insideCount, lowestInside};
+use edges::Solid;
+use scene::{Corners, Rows};
+
+fn is_inside(rows: &Rows, corners: &Corners, n: usize, k: Solid, u: usize) -> bool
+    requires { ⌜ Sound (viewIn n (now rows) (now corners)) k × (u ≤ k .low + k .verts) ⌝ }
+    ensures { λ r. ⌜ r ≡ isInside (viewIn n (now (rows .entry)) (now (corners .entry))) k u ⌝ }
+{
+    pierce::enclosed(rows, corners, n, u, k.other, k.others)
+}
+
+pub fn count_inside(rows: &Rows, corners: &Corners, n: usize, k: Solid) -> usize
+    requires { ⌜ Sound (viewIn n (now rows) (now corners)) k ⌝ }
+    ensures { λ r. ⌜ r ≡ insideCount (viewIn n (now (rows .entry)) (now (corners .entry))) k ⌝ }
+{
+    let e = k.low + 1 + k.verts;
+    let mut c: usize = 0;
+    let mut u = k.low + 1;
+    while u < e {
+        if is_inside(rows, corners, n, k, u) {
+            c += 1;
+        }
+        u += 1;
+    }
+    c
+}
+
+// The number behind the solid's last vertex where there is none.
+pub fn lowest_inside(rows: &Rows, corners: &Corners, n: usize, k: Solid) -> usize
+    requires { ⌜ Sound (viewIn n (now rows) (now corners)) k ⌝ }
+    ensures { λ r. ⌜ r ≡ lowestInside (viewIn n (now (rows .entry)) (now (corners .entry))) k ⌝ }
+{
+    let e = k.low + 1 + k.verts;
+    let mut u = k.low + 1;
+    while u < e {
+        if is_inside(rows, corners, n, k, u) {
+            return u;
+        }
+        u += 1;
+    }
+    e
+}
