@@ -5,6 +5,7 @@ pub mod Bound
 pub mod Bools
 pub mod Range
 pub mod Tests
+pub mod Decides
 pub mod Even
 pub mod Lists
 pub mod Mapped

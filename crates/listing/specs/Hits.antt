@@ -52,9 +52,12 @@ module _ (s : View) (k : Solid) where
   unfoldable pub pairHits : (u v : ℕ) → Bool → List Hit
   pairHits u v both = only (ltb u v && both) (edgeHits u v)
 
+  abbrev pub pairsAt : (u m : ℕ) → List Hit
+  pairsAt u m = pairHits u (k .low + 1 + m) (joined (s .face) k u (k .low + 1 + m))
+
   -- the edges from u to the solid's vertices, in rising order
   unfoldable pub vertexHits : ℕ → List Hit
-  vertexHits u = upTo (λ m. pairHits u (k .low + 1 + m) (joined (s .face) k u (k .low + 1 + m))) (k .verts)
+  vertexHits u = upTo (pairsAt u) (k .verts)
 
   -- the edges of the solid
   unfoldable pub solidHits : List Hit

@@ -14,11 +14,13 @@ use Rattle.laws.specs.Even.{count}
 use Rattle.laws.specs.Lists.{run}
 use Rattle.laws.specs.Range.{more}
 use Rattle.laws.specs.Mask.{maskOf, mask-ones, mask-test, bit-test, bits-left, testBit}
+use Rattle.scene.specs.Limits.{limits}
 use Rattle.scene.specs.declared.Face.{Face}
 use Rattle.edges.specs.Edges.{width, joined, neighbours}
 use Rattle.edges.specs.declared.Solid.{Solid}
 use Rattle.pierce.specs.Formula.{pierced}
-use Rattle.listing.specs.Hits.{View, Hit, upTo, only, edgeMask, faceHits, edgeHits, pairHits, vertexHits, solidHits}
+use Rattle.listing.specs.Pour.{maskHit, maskHits}
+use Rattle.listing.specs.Hits.{View, Hit, Sound, upTo, only, edgeMask, faceHits, edgeHits, pairHits, pairsAt, vertexHits, solidHits}
 
 module _ {A : Type 0} where
   pub upTo-more : (g : ℕ → List A) (n : ℕ) → upTo g (n + 1) ≡ upTo g n ++ g n
@@ -50,6 +52,9 @@ module _ {A : Type 0} where
   pub count-more : (g : ℕ → List A) (n : ℕ) {c d : ℕ} → c ≡ length (upTo g n) → d ≡ length (g n) → c + d ≡ length (upTo g (n + 1))
   count-more g n e f = ap₂ _+_ e f ∙ sym (ap length (upTo-more g n) ∙ length-append (upTo g n) (g n))
 
+  pub count-all : (g : ℕ → List A) {i n c : ℕ} → i ≤ n → n ≤ i → c ≡ length (upTo g i) → c ≡ length (upTo g n)
+  count-all g {i} {n} a b e = let d : i ≡ n = omega arith in rw d at e
+
 module _ (s : View) (k : Solid) where
   -- ---- how many there can be
 
@@ -57,23 +62,20 @@ module _ (s : View) (k : Solid) where
   unfolding faceHits
   face-most u v i = only-most (pierced (s .points) (s .row) u v (s .face (k .other + 1 + i))) _ 1 (omega arith)
 
-  pub edge-most : (u v : ℕ) → length (edgeHits s k u v) ≤ k .others
-  unfolding edgeHits
-  edge-most u v = omega (arith, bounded (faceHits s k u v) 1 (k .others) (face-most u v))
+  pub pair-most : Sound s k → (u v : ℕ) (b : Bool) → length (pairHits s k u v b) ≤ limits .mostFaces
+  unfolding pairHits edgeHits
+  pair-most sound u v b =
+      only-most (ltb u v && b) _ (limits .mostFaces) (omega (arith, bounded (faceHits s k u v) 1 (k .others) (face-most u v), sound .other .1))
 
-  pub pair-most : (u v : ℕ) (b : Bool) → length (pairHits s k u v b) ≤ k .others
-  unfolding pairHits
-  pair-most u v b = only-most (ltb u v && b) _ (k .others) (edge-most u v)
-
-  pub vertex-most : (u : ℕ) → length (vertexHits s k u) ≤ k .verts * k .others
+  pub vertex-most : Sound s k → (u : ℕ) → length (vertexHits s k u) ≤ limits .mostVertices * limits .mostFaces
   unfolding vertexHits
-  vertex-most u =
-      bounded (λ m. pairHits s k u (k .low + 1 + m) (joined (s .face) k u (k .low + 1 + m))) (k .others) (k .verts)
-      (λ m. pair-most u (k .low + 1 + m) (joined (s .face) k u (k .low + 1 + m)))
+  vertex-most sound u =
+      omega (arith, bounded (pairsAt s k u) (limits .mostFaces) (k .verts) (λ m. pair-most sound u (k .low + 1 + m) (joined (s .face) k u (k .low + 1 + m))), sound .vertices .0)
 
-  pub solid-most : length (solidHits s k) ≤ k .verts * (k .verts * k .others)
+  pub solid-most : Sound s k → length (solidHits s k) ≤ limits .mostVertices * (limits .mostVertices * limits .mostFaces)
   unfolding solidHits
-  solid-most = bounded (λ i. vertexHits s k (k .low + 1 + i)) (k .verts * k .others) (k .verts) (λ i. vertex-most (k .low + 1 + i))
+  solid-most sound =
+      omega (arith, bounded (λ i. vertexHits s k (k .low + 1 + i)) (limits .mostVertices * limits .mostFaces) (k .verts) (λ i. vertex-most sound (k .low + 1 + i)), sound .vertices .0)
 
   -- ---- an edge's hits by its mask
 
@@ -110,6 +112,13 @@ module _ (s : View) (k : Solid) where
       one h true = refl
       one h false = refl
 
+  -- they are those of the mask's bits
+  pub edge-hits : (u v : ℕ) {w : ℕ} → w ≡ edgeMask s k u v → maskHits w u v (k .other) (k .others) ≡ edgeHits s k u v
+  unfolding edgeMask edgeHits faceHits
+  edge-hits u v e =
+      upTo-same _ (faceHits s k u v) (k .others)
+      (λ i b. ap (λ (t : Bool). maskHit t u v (k .other + 1 + i)) (ap (λ (m : ℕ). testBit m i) e ∙ mask-test (λ j. pierced (s .points) (s .row) u v (s .face (k .other + 1 + j))) (k .others) i b))
+
   -- ---- an edge or none: what is told of u and v by b
 
   pub pair-none : (u v : ℕ) (b : Bool) → v ≤ u → [] ≡ pairHits s k u v b
@@ -130,19 +139,19 @@ module _ (s : View) (k : Solid) where
 
   -- ---- the neighbours of u, read off bit by bit
 
-  abbrev pub left : (u m : ℕ) → ℕ
-  left u m = maskOf (λ j. joined (s .face) k u (k .low + 1 + (m + j))) (width - m)
+  abbrev pub bitsLeft : (u m : ℕ) → ℕ
+  bitsLeft u m = maskOf (λ j. joined (s .face) k u (k .low + 1 + (m + j))) (width - m)
 
-  pub left-all : (u : ℕ) {w : ℕ} → w ≡ neighbours (s .face) k u → w ≡ left u 0
+  pub left-all : (u : ℕ) {w : ℕ} → w ≡ neighbours (s .face) k u → w ≡ bitsLeft u 0
   unfolding neighbours
   left-all u e = e ∙ ap (λ (g : ℕ → Bool). maskOf g width) (λ i j. joined (s .face) k u (k .low + 1 + plain j i))
     where
       plain : (j : ℕ) → j ≡ 0 + j
       plain j = omega arith
 
-  module _ (u m : ℕ) {w : ℕ} (here : m < width) (e : w ≡ left u m) where
+  module _ (u m : ℕ) {w : ℕ} (here : m < width) (e : w ≡ bitsLeft u m) where
     pub left-test : eqb (w % 2) 1 ≡ joined (s .face) k u (k .low + 1 + m)
     left-test = bit-test (λ j. joined (s .face) k u (k .low + 1 + j)) width m here e
 
-    pub left-rest : w / 2 ≡ left u (m + 1)
+    pub left-rest : w / 2 ≡ bitsLeft u (m + 1)
     left-rest = bits-left (λ j. joined (s .face) k u (k .low + 1 + j)) width m here e

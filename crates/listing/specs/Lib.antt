@@ -1,5 +1,5 @@
 pub mod Hits
-pub mod Laws
 pub mod Pour
+pub mod Laws
 pub mod Poured
 pub mod First

@@ -2,17 +2,21 @@
 use mathlib.Core.Path.{_≡_, refl, sym, ap, _∙_}
 use mathlib.Core.Bool.{Bool, true, false, cond}
 use mathlib.Core.List.{List, [], _∷_, _++_, append-nil, append-assoc}
-use Prim.Native.Nat.{ℕ, zero, suc, _+_, _*_, _/_, _-_, _≤_, _<_}
+use Prim.Native.Nat.{ℕ, zero, suc, _+_, _*_, _/_, _%_, _-_, _≤_, _<_}
 use native.Mathlib.Omega.{arith}
 use native.Mathlib.Numerals.{add-one}
 use native.Mathlib.Nat.{add-zero, zero-add}
 use lib.ListN.{length, take, drop, length-append, take-append-drop}
 use lib.Seq.{sets, sets-eq, length-sets, take-at, drop-at, drop-drop, length-take-le, take-all, drop-nil, take-nil}
-use lib.Dec.{leb}
+use lib.Dec.{eqb, leb}
 use borrow.Author.Tests.{leb-true, leb-false, le-leb, lt-leb}
-use Rattle.listing.specs.Hits.{Hit, upTo}
-use Rattle.listing.specs.Pour.{Pours, poured, stepped, three, flat, partIn, allIn, maskHit}
-use Rattle.listing.specs.Laws.{bounded}
+use Rattle.scene.specs.Limits.{limits}
+use Rattle.edges.specs.Edges.{width, joined}
+use Rattle.edges.specs.declared.Solid.{Solid}
+use Rattle.listing.specs.Hits.{View, Hit, Sound, upTo, edgeMask, pairHits, pairsAt, vertexHits}
+use Rattle.listing.specs.Pour.{Pours, poured, stepped, three, flat, partIn, allIn, maskHit, maskHits}
+use Rattle.laws.specs.Mask.{testBit}
+use Rattle.listing.specs.Laws.{bounded, only-most, pair-most, vertex-most, edge-hits, pair-edge, bitsLeft, left-test}
 
 poured-append : (l m : List Hit) (d : List ℕ) (from seen : ℕ) → poured d from seen (l ++ m) ≡ poured (poured d from seen l) from (seen + length l) m
 unfolding poured
@@ -56,6 +60,11 @@ pours-all g {i} {n} a b p = let e : i ≡ n = omega arith in rw e at p
 pub reached : (g : ℕ → List Hit) (b i : ℕ) {from seen : ℕ} {d d₁ : List ℕ} {r : ℕ} → ((j : ℕ) → length (g j) ≤ b) → Pours (upTo g i) from seen d d₁ r → r ≤ seen + i * b
 reached g b i h p = omega (arith, p .count, bounded g b i h)
 
+pub mask-reached : (word u v first i : ℕ) {from seen : ℕ} {d d₁ : List ℕ} {r : ℕ} →
+    Pours (upTo (λ j. maskHit (testBit word j) u v (first + 1 + j)) i) from seen d d₁ r → r ≤ seen + i
+mask-reached word u v first i p =
+    omega (arith, reached (λ j. maskHit (testBit word j) u v (first + 1 + j)) 1 i (λ j. only-most (testBit word j) _ 1 (omega arith)) p)
+
 -- ---- one hit, or none
 
 pub pours-hit : (h : Hit) (from seen : ℕ) {d d₁ : List ℕ} → d₁ ≡ stepped d from seen h → length d₁ ≡ length d → Pours (h ∷ []) from seen d d₁ (seen + 1)
@@ -68,6 +77,30 @@ pours-yes u v f from seen t ex ey ez e l = rw t (pours-hit _ from seen (e ∙ rw
 
 pub pours-no : {b : Bool} (u v f from seen : ℕ) (d : List ℕ) → b ≡ false → Pours (maskHit b u v f) from seen d d seen
 pours-no u v f from seen d t = rw t (pours-none from seen d)
+
+pub pours-told : {b t : Bool} (u v f : ℕ) {from seen r : ℕ} {d d₁ : List ℕ} → b ≡ t → Pours (maskHit b u v f) from seen d d₁ r → Pours (maskHit t u v f) from seen d d₁ r
+pours-told u v f e p = rw (← e) p
+
+-- ---- a pair of points, and one more of those from u on
+
+module _ (s : View) (k : Solid) where
+  -- w is its mask
+  pub pours-edge : (u v : ℕ) {b : Bool} {w from seen r : ℕ} {d d₁ : List ℕ} → w ≡ edgeMask s k u v → b ≡ true → u < v →
+      Pours (maskHits w u v (k .other) (k .others)) from seen d d₁ r → Pours (pairHits s k u v b) from seen d d₁ r
+  pours-edge u v e t h p = pours-same (edge-hits s k u v e ∙ pair-edge s k u v h t) p
+
+  pub pairs-reached : Sound s k → (u m : ℕ) {from seen r : ℕ} {d d₁ : List ℕ} → Pours (upTo (pairsAt s k u) m) from seen d d₁ r → r ≤ seen + m * limits .mostFaces
+  pairs-reached sound u m p =
+      reached (pairsAt s k u) (limits .mostFaces) m (λ j. pair-most s k sound u (k .low + 1 + j) (joined (s .face) k u (k .low + 1 + j))) p
+
+  pub pours-pair : (u m : ℕ) {w from seen r : ℕ} {d d₁ : List ℕ} → m < width → w ≡ bitsLeft s k u m →
+      Pours (pairHits s k u (k .low + 1 + m) (eqb (w % 2) 1)) from seen d d₁ r → Pours (pairsAt s k u m) from seen d d₁ r
+  pours-pair u m h e p = pours-same (ap (pairHits s k u (k .low + 1 + m)) (left-test s k u m h e)) p
+
+  pub vertices-reached : Sound s k → (i : ℕ) {from seen r : ℕ} {d d₁ : List ℕ} → Pours (upTo (λ j. vertexHits s k (k .low + 1 + j)) i) from seen d d₁ r →
+      r ≤ seen + i * (limits .mostVertices * limits .mostFaces)
+  vertices-reached sound i p =
+      reached (λ j. vertexHits s k (k .low + 1 + j)) (limits .mostVertices * limits .mostFaces) i (λ j. vertex-most s k sound (k .low + 1 + j)) p
 
 -- ---- in closed form
 

@@ -6,7 +6,8 @@ ghost use Rattle.listing.specs.Hits.{viewIn, Sound, pairHits, vertexHits
 use crate::edge_mask;
 use edges::Solid;
 use pierce::faces;
-use scene::{Corners, Rows};
+use scene::Corners;
+use scene::Rows;
 
 // Of u and v, where some face has both as corners, and u is the lower.
 fn count_pair(

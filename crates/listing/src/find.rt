@@ -6,7 +6,8 @@ ghost use Rattle.listing.specs.First.{firstOf};
 use crate::edge_mask;
 use edges::Solid;
 use pierce::faces;
-use scene::{Corners, Rows};
+use scene::Corners;
+use scene::Rows;
 
 // An edge, lower point first, and a face that it pierces; or none.
 pub enum Found {

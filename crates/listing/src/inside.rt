@@ -4,7 +4,8 @@ ghost use Prim.Native.Nat.{_+_, _≤_, _<_};
 ghost use Rattle.laws.specs.Range.{countOf, lowestOf};
 ghost use Rattle.listing.specs.Hits.{viewIn, Sound, isInside, insideCount, lowestInside};
 use edges::Solid;
-use scene::{Corners, Rows};
+use scene::Corners;
+use scene::Rows;
 
 fn is_inside(rows: &Rows, corners: &Corners, n: usize, k: Solid, u: usize) -> bool
     requires { ⌜ Sound (viewIn n (now rows) (now corners)) k × (u ≤ k .low + k .verts) ⌝ }

@@ -5,7 +5,8 @@ ghost use Rattle.pierce.specs.Faces.{valueOf};
 ghost use Rattle.listing.specs.Hits.{viewIn, Sound, edgeMask};
 use edges::Solid;
 use pierce::faces::Mask;
-use scene::{Corners, Rows};
+use scene::Corners;
+use scene::Rows;
 
 pub mod count;
 pub mod find;

@@ -1,14 +1,16 @@
 // The pairs into a lent list of numbers, three for each.
 ghost use mathlib.Core.Path.{_≡_};
 ghost use Prim.Native.Nat.{_+_, _*_, _≤_, _<_};
-ghost use Rattle.pierce.specs.Faces.{valueOf};
+ghost use Rattle.scene.specs.Limits.{limits};
+ghost use Rattle.pierce.specs.Faces.{width, valueOf};
 ghost use Rattle.listing.specs.Hits.{viewIn, Sound, pairHits, vertexHits, solidHits, edgeHits};
 ghost use Rattle.listing.specs.Pour.{Pours, stepped, maskHit, maskHits, most};
 use crate::edge_mask;
 use edges::Solid;
 use pierce::faces;
 use pierce::faces::Mask;
-use scene::{Corners, Rows};
+use scene::Corners;
+use scene::Rows;
 
 fn narrow(x: usize) -> u16
     requires { ⌜ x < 65536 ⌝ }
@@ -33,7 +35,15 @@ fn put(out: &mut [u16], from: usize, seen: usize, u: u16, v: u16, f: u16)
 }
 
 // The edge u, v with the face numbered f, where it is pierced.
-fn pour_face(pierced: bool, u: usize, v: usize, f: usize, from: usize, seen: usize, out: &mut [u16]) -> usize
+fn pour_face(
+    pierced: bool,
+    u: usize,
+    v: usize,
+    f: usize,
+    from: usize,
+    seen: usize,
+    out: &mut [u16],
+) -> usize
     requires { ⌜ (u < 65536) × (v < 65536) × (f < 65536) × (seen < most) ⌝ }
     ensures { λ r. ⌜ Pours (maskHit pierced u v f) from seen (now (out .entry)) (now (out .exit)) r ⌝ }
 {
@@ -45,8 +55,17 @@ fn pour_face(pierced: bool, u: usize, v: usize, f: usize, from: usize, seen: usi
 }
 
 // The edge u, v with the faces of its mask, the first of them numbered first + 1.
-fn pour_mask(m: Mask, u: usize, v: usize, first: usize, count: usize, from: usize, seen: usize, out: &mut [u16]) -> usize
-    requires { ⌜ (u < 65536) × (v < 65536) × (first + count < 65535) × (count ≤ 64) × (seen + count < most) ⌝ }
+fn pour_mask(
+    m: Mask,
+    u: usize,
+    v: usize,
+    first: usize,
+    count: usize,
+    from: usize,
+    seen: usize,
+    out: &mut [u16],
+) -> usize
+    requires { ⌜ (u < 65536) × (v < 65536) × (first + count < 65535) × (count ≤ width) × (seen + count < most) ⌝ }
     ensures { λ r. ⌜ Pours (maskHits (valueOf m) u v first count) from seen (now (out .entry)) (now (out .exit)) r ⌝ }
 {
     let mut n = seen;
@@ -70,7 +89,7 @@ fn pour_pair(
     seen: usize,
     out: &mut [u16],
 ) -> usize
-    requires { ⌜ Sound (viewIn n (now rows) (now corners)) k × (u ≤ k .low + k .verts) × (v ≤ k .low + k .verts) × (seen + k .others < most) ⌝ }
+    requires { ⌜ Sound (viewIn n (now rows) (now corners)) k × (u ≤ k .low + k .verts) × (v ≤ k .low + k .verts) × (seen + limits .mostFaces < most) ⌝ }
     ensures { λ r. ⌜ Pours (pairHits (viewIn n (now (rows .entry)) (now (corners .entry))) k u v both) from seen (now (out .entry)) (now (out .exit)) r ⌝ }
 {
     if !both {
@@ -93,7 +112,7 @@ fn pour_vertex(
     seen: usize,
     out: &mut [u16],
 ) -> usize
-    requires { ⌜ Sound (viewIn n (now rows) (now corners)) k × (u ≤ k .low + k .verts) × (seen + k .verts * k .others < most) ⌝ }
+    requires { ⌜ Sound (viewIn n (now rows) (now corners)) k × (u ≤ k .low + k .verts) × (seen + limits .mostVertices * limits .mostFaces < most) ⌝ }
     ensures { λ r. ⌜ Pours (vertexHits (viewIn n (now (rows .entry)) (now (corners .entry))) k u) from seen (now (out .entry)) (now (out .exit)) r ⌝ }
 {
     let low = k.low;
@@ -102,7 +121,18 @@ fn pour_vertex(
     let mut c = seen;
     let mut m: usize = 0;
     while m < verts {
-        c = pour_pair(rows, corners, n, k, u, low + 1 + m, left % 2 == 1, from, c, out);
+        c = pour_pair(
+            rows,
+            corners,
+            n,
+            k,
+            u,
+            low + 1 + m,
+            left % 2 == 1,
+            from,
+            c,
+            out,
+        );
         left = left / 2;
         m += 1;
     }
@@ -118,7 +148,7 @@ pub fn pour_solid(
     seen: usize,
     out: &mut [u16],
 ) -> usize
-    requires { ⌜ Sound (viewIn n (now rows) (now corners)) k × (seen + k .verts * (k .verts * k .others) < most) ⌝ }
+    requires { ⌜ Sound (viewIn n (now rows) (now corners)) k × (seen + limits .mostVertices * (limits .mostVertices * limits .mostFaces) < most) ⌝ }
     ensures { λ r. ⌜ Pours (solidHits (viewIn n (now (rows .entry)) (now (corners .entry))) k) from seen (now (out .entry)) (now (out .exit)) r ⌝ }
 {
     let low = k.low;
