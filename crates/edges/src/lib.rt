@@ -21,7 +21,7 @@ pub struct Solid {
     pub others: usize,
 }
 
-fn is_corner(f: Face, i: usize) -> bool
+pub fn is_corner(f: Face, i: usize) -> bool
     ensures { λ r. ⌜ r ≡ isCorner i f ⌝ }
 {
     if f.p == i {

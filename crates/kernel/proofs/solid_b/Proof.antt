@@ -1,0 +1,35 @@
+use borrow.Author.Needs.{needs}
+use Rattle.kernel.proofs.solid_b.Statement.{statement}
+use Rattle.kernel.proofs.solid_b.Tie as tie
+use Rattle.kernel.proofs.solid_b.Reads as reads
+use Rattle.kernel.proofs.solid_b.Lts as lts
+use Rattle.scene.proofs.read.byte.Reads as byte-reads
+
+byte-requires : tie.Need-byte-requires
+byte-requires c κs = search needs
+
+byte-requires-2 : tie.Need-byte-requires-2
+byte-requires-2 c κs = search needs
+
+byte-requires-3 : tie.Need-byte-requires-3
+byte-requires-3 c κs = search needs
+
+byte-requires-4 : tie.Need-byte-requires-4
+byte-requires-4 c κs = search needs
+
+byte-requires-5 : tie.Need-byte-requires-5
+byte-requires-5 c κs = search needs
+
+returns : tie.Need-returns
+returns c = cc
+
+pub solid-b-spec : {M : Type 1} → statement M
+solid-b-spec =
+    tie.close
+    (tie.spec
+    byte-requires
+    byte-requires-2
+    byte-requires-3
+    byte-requires-4
+    byte-requires-5
+    returns)

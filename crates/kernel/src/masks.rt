@@ -1,0 +1,131 @@
+// Questions about a solid: the faces that an edge pierces, and whether a vertex is enclosed.
+ghost use mathlib.Core.Path.{_≡_};
+ghost use Prim.Native.Nat.{_+_, _≤_};
+ghost use Rattle.scene.specs.Records.{verts};
+ghost use Rattle.pierce.specs.Faces.{valueOf};
+ghost use Rattle.judge.specs.Judge.{judged};
+ghost use Rattle.judge.specs.declared.Judged.the-variants.{Accepted};
+ghost use Rattle.kernel.specs.Answers.{isVertexOf, maskAsked, maskOutside, maskFault, maskIn, saidMask, maskedOf, enclosedFault, enclosedOf};
+use crate::points::{Answer, is_point};
+use crate::points_of;
+use judge::Judged;
+use pierce::faces;
+use pierce::faces::Mask;
+use scene::Refusal;
+use scene::decode;
+use scene::read::byte;
+
+// The mask, and how many ones it has.
+pub enum Masked {
+    Refused(Refusal),
+    Faces(Mask, usize),
+}
+
+// Point i is a vertex of solid k, 1 for A and 2 for B.
+fn is_vertex_of(s: &[u8], k: usize, i: usize) -> bool
+    ensures { λ r. ⌜ r ≡ isVertexOf (now (s .entry)) k i ⌝ }
+{
+    let a = byte(s, 2);
+    if k == 1 {
+        return i <= a;
+    }
+    if i <= a {
+        return false;
+    }
+    i <= a + byte(s, 4)
+}
+
+fn is_asked(s: &[u8], u: usize, v: usize, k: usize) -> bool
+    ensures { λ r. ⌜ r ≡ maskAsked (now (s .entry)) u v k ⌝ }
+{
+    if !is_point(s, u) {
+        return false;
+    }
+    if !is_point(s, v) {
+        return false;
+    }
+    if k < 1 {
+        return false;
+    }
+    k <= 2
+}
+
+fn are_outside(s: &[u8], u: usize, v: usize, k: usize) -> bool
+    ensures { λ r. ⌜ r ≡ maskOutside (now (s .entry)) u v k ⌝ }
+{
+    if u == v {
+        return false;
+    }
+    if is_vertex_of(s, k, u) {
+        return false;
+    }
+    !is_vertex_of(s, k, v)
+}
+
+fn mask_fault(s: &[u8], u: usize, v: usize, k: usize) -> Judged
+    ensures { λ r. ⌜ r ≡ maskFault (now (s .entry)) u v k ⌝ }
+{
+    if let Judged::Refused(r) = judge::judge(s) {
+        return Judged::Refused(r);
+    }
+    if !is_asked(s, u, v, k) {
+        return Judged::Refused(Refusal::Lacking);
+    }
+    if !are_outside(s, u, v, k) {
+        return Judged::Refused(Refusal::Same);
+    }
+    Judged::Accepted
+}
+
+// The mask of u, v against the solid k of an accepted scene.
+fn mask_of(s: &[u8], u: usize, v: usize, k: usize) -> Mask
+    requires { ⌜ (judged (now s) ≡ Accepted) × (u ≤ verts (now s) + 1) × (v ≤ verts (now s) + 1) ⌝ }
+    ensures { λ r. ⌜ valueOf r ≡ maskIn (now (s .entry)) u v k ⌝ }
+{
+    let rows = decode::rows(s);
+    let corners = decode::faces(s);
+    if k == 1 {
+        return pierce::mask(&rows, &corners, points_of(s), u, v, 0, byte(s, 3));
+    }
+    pierce::mask(&rows, &corners, points_of(s), u, v, byte(s, 3), byte(s, 5))
+}
+
+// The mask of u, v against solid k, with the number of its ones.
+pub fn mask(s: &[u8], u: usize, v: usize, k: usize) -> Masked
+    ensures { λ r. ⌜ saidMask r ≡ maskedOf (now (s .entry)) u v k ⌝ }
+{
+    if let Judged::Refused(r) = mask_fault(s, u, v, k) {
+        return Masked::Refused(r);
+    }
+    let m = mask_of(s, u, v, k);
+    Masked::Faces(m, faces::ones(m))
+}
+
+fn enclosed_fault(s: &[u8], i: usize) -> Judged
+    ensures { λ r. ⌜ r ≡ enclosedFault (now (s .entry)) i ⌝ }
+{
+    if let Judged::Refused(r) = judge::judge(s) {
+        return Judged::Refused(r);
+    }
+    if i < 1 {
+        return Judged::Refused(Refusal::Lacking);
+    }
+    if i > byte(s, 2) + byte(s, 4) {
+        return Judged::Refused(Refusal::Lacking);
+    }
+    Judged::Accepted
+}
+
+// Whether the vertex with point number i is enclosed by the other solid.
+pub fn enclosed(s: &[u8], i: usize) -> Answer
+    ensures { λ r. ⌜ r ≡ enclosedOf (now (s .entry)) i ⌝ }
+{
+    if let Judged::Refused(r) = enclosed_fault(s, i) {
+        return Answer::Refused(r);
+    }
+    let k: usize = if i <= byte(s, 2) { 2 } else { 1 };
+    if faces::is_odd(mask_of(s, i, points_of(s), k)) {
+        return Answer::Yes;
+    }
+    Answer::No
+}
