@@ -1,3 +1,4 @@
 pub mod Scene
 pub mod Ready
 pub mod Answers
+pub mod Laws

@@ -1,5 +1,5 @@
 -- An accepted scene, decoded into arrays, is ready for piercing. Assumes nothing.
-use mathlib.Core.Path.{_≡_, refl, sym, ap, _∙_}
+use mathlib.Core.Path.{_≡_, ap₂, _∙_}
 use mathlib.Core.List.{List}
 use Prim.Native.Nat.{ℕ, _+_, _*_, _≤_, _<_}
 use native.Mathlib.Omega.{arith}
@@ -57,9 +57,14 @@ module _ (s : List ℕ) (ok : judged s ≡ Accepted) where
         corners = λ f a b. face-of-b limits s ok f a b;
       }
 
-  module _ (v : View) (k : Solid) (view : v ≡ viewOf s) where
-    pub ready-a : k ≡ solidA s → Sound v k
+  -- so are the arrays that it was decoded into, for both solids
+  module _ (n : ℕ) (rows : List ℤ) (corners : List ℕ) (view : viewIn n rows corners ≡ viewOf s) (k : Solid) where
+    pub ready-a : k ≡ solidA s → Sound (viewIn n rows corners) k
     ready-a e = rw (view, e) sound-a
 
-    pub ready-b : k ≡ solidB s → Sound v k
+    pub ready-b : k ≡ solidB s → Sound (viewIn n rows corners) k
     ready-b e = rw (view, e) sound-b
+
+-- what was found of a solid in the arrays is so of the scene
+pub same-solid : {A : Type 0} (f : View → Solid → A) {v w : View} {k j : Solid} {o : A} → v ≡ w → k ≡ j → o ≡ f v k → o ≡ f w j
+same-solid f e d p = p ∙ ap₂ f e d

@@ -1,9 +1,7 @@
+-- The counts are those of the header.
 use borrow.Author.Needs.{needs}
 use Rattle.kernel.proofs.solid_b.Statement.{statement}
 use Rattle.kernel.proofs.solid_b.Tie as tie
-use Rattle.kernel.proofs.solid_b.Reads as reads
-use Rattle.kernel.proofs.solid_b.Lts as lts
-use Rattle.scene.proofs.read.byte.Reads as byte-reads
 
 byte-requires : tie.Need-byte-requires
 byte-requires c κs = search needs

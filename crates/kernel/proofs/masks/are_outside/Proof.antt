@@ -1,0 +1,28 @@
+-- The ends differ, and none is a vertex of the solid.
+use Rattle.laws.specs.Tests.{ands}
+use Rattle.kernel.specs.Answers.{maskOutside}
+use borrow.Author.Needs.{needs}
+use Rattle.kernel.proofs.masks.are_outside.Statement.{statement}
+use Rattle.kernel.proofs.masks.are_outside.Tie as tie
+
+returns : tie.Need-returns
+unfolding maskOutside
+returns c = search ands depth 12
+
+is-vertex-of-requires : tie.Need-is-vertex-of-requires
+is-vertex-of-requires c κs = search needs
+
+returns-2 : tie.Need-returns-2
+unfolding maskOutside
+returns-2 c = ?
+
+is-vertex-of-requires-2 : tie.Need-is-vertex-of-requires-2
+is-vertex-of-requires-2 c κs = search needs
+
+returns-3 : tie.Need-returns-3
+unfolding maskOutside
+returns-3 c = ?
+
+pub are-outside-spec : {M : Type 1} → statement M
+are-outside-spec =
+    tie.close (tie.spec returns is-vertex-of-requires returns-2 is-vertex-of-requires-2 returns-3)

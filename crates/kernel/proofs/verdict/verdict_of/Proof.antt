@@ -1,0 +1,32 @@
+-- The judge decides; an accepted scene is answered.
+use Rattle.kernel.specs.declared.verdict.Verdict.the-variants.{Refused}
+use Rattle.kernel.specs.Laws.{accepted-so}
+use Rattle.kernel.specs.Answers.{verdictOf}
+use Rattle.kernel.specs.Laws.{refused-so, answered-so}
+use borrow.Author.Needs.{needs}
+use Rattle.kernel.proofs.verdict.verdict_of.Statement.{statement}
+use Rattle.kernel.proofs.verdict.verdict_of.Tie as tie
+
+judge-requires : tie.Need-judge-requires
+judge-requires c κs = search needs
+
+enum-known-r : tie.Need-enum-known-r
+enum-known-r c = search needs
+
+returns : tie.Need-returns
+unfolding verdictOf
+returns c = search (refused-so Refused)
+
+enum-told : tie.Need-enum-told
+enum-told c = search needs
+
+decide-requires : tie.Need-decide-requires
+decide-requires c κs = search accepted-so
+
+returns-2 : tie.Need-returns-2
+unfolding verdictOf
+returns-2 c = search answered-so
+
+pub verdict-of-spec : {M : Type 1} → statement M
+verdict-of-spec =
+    tie.close (tie.spec judge-requires enum-known-r returns enum-told decide-requires returns-2)
