@@ -56,7 +56,7 @@ isVertex s i = within 1 (verts s) i
 unfoldable pub isFace : List ℕ → ℕ → Bool
 isFace s f = within 1 (faces s) f
 
-abbrev pub isSolid : ℕ → Bool
+unfoldable pub isSolid : ℕ → Bool
 isSolid k = within 1 2 k
 
 abbrev pub other : ℕ → ℕ → Bool
@@ -103,7 +103,7 @@ unfoldable pub isVertexOf : List ℕ → (k i : ℕ) → Bool
 isVertexOf s k i = cond (eqb k 1) (leb i (vertsA s)) (within (vertsA s + 1) (verts s) i)
 
 unfoldable pub maskAsked : List ℕ → (u v k : ℕ) → Bool
-maskAsked s u v k = isPoint s u && (isPoint s v && within 1 2 k)
+maskAsked s u v k = isPoint s u && (isPoint s v && isSolid k)
 
 unfoldable pub maskOutside : List ℕ → (u v k : ℕ) → Bool
 maskOutside s u v k = other u v && (not (isVertexOf s k u) && not (isVertexOf s k v))
@@ -130,10 +130,14 @@ maskedOf s u v k = answered refused (maskFault s u v k) (faces-are (maskIn s u v
 -- ---- a vertex enclosed by the other solid: its mask toward the far point has an odd number of ones
 
 unfoldable pub enclosedFault : List ℕ → ℕ → Judged
-enclosedFault s i = andThen (judged s) (rule (within 1 (verts s) i) Lacking Accepted)
+enclosedFault s i = andThen (judged s) (rule (isVertex s i) Lacking Accepted)
+
+-- B for a vertex of A, A for one of B
+unfoldable pub otherSolid : List ℕ → ℕ → ℕ
+otherSolid s i = cond (leb i (vertsA s)) 2 1
 
 unfoldable pub isEnclosed : List ℕ → ℕ → Bool
-isEnclosed s i = isOdd (maskIn s i (verts s + 1) (cond (leb i (vertsA s)) 2 1))
+isEnclosed s i = isOdd (maskIn s i (verts s + 1) (otherSolid s i))
 
 unfoldable pub enclosedOf : List ℕ → ℕ → Answer
 enclosedOf s i = answered answer.Refused (enclosedFault s i) (yesNo (isEnclosed s i))

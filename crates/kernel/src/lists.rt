@@ -8,11 +8,14 @@ ghost use Rattle.judge.specs.declared.Judged.the-variants.{Accepted};
 ghost use Rattle.listing.specs.Pour.{Pours};
 ghost use Rattle.kernel.specs.Scene.{listingOf};
 ghost use Rattle.kernel.specs.Answers.{IsListed, IsPart};
-use crate::{points_of, solid_a, solid_b};
+use crate::points_of;
+use crate::solid_a;
+use crate::solid_b;
 use judge::Judged;
 use listing::pour::pour_solid;
+use scene::Refusal;
+use scene::Scene;
 use scene::decode;
-use scene::{Refusal, Scene};
 
 // How many pairs there are.
 pub enum Listed {

@@ -5,8 +5,9 @@ ghost use Rattle.scene.specs.Records.{verts};
 ghost use Rattle.pierce.specs.Faces.{valueOf};
 ghost use Rattle.judge.specs.Judge.{judged};
 ghost use Rattle.judge.specs.declared.Judged.the-variants.{Accepted};
-ghost use Rattle.kernel.specs.Answers.{isVertexOf, maskAsked, maskOutside, maskFault, maskIn, saidMask, maskedOf, enclosedFault, enclosedOf};
-use crate::points::{Answer, is_point};
+ghost use Rattle.kernel.specs.Answers.{isVertex, isSolid, isVertexOf, maskAsked, maskOutside, maskFault, maskIn, saidMask, maskedOf, enclosedFault, otherSolid, enclosedOf};
+use crate::points::Answer;
+use crate::points::is_point;
 use crate::points_of;
 use judge::Judged;
 use pierce::faces;
@@ -19,6 +20,24 @@ use scene::read::byte;
 pub enum Masked {
     Refused(Refusal),
     Faces(Mask, usize),
+}
+
+fn is_vertex(s: &[u8], i: usize) -> bool
+    ensures { λ r. ⌜ r ≡ isVertex (now (s .entry)) i ⌝ }
+{
+    if i < 1 {
+        return false;
+    }
+    i <= byte(s, 2) + byte(s, 4)
+}
+
+fn is_solid(k: usize) -> bool
+    ensures { λ r. ⌜ r ≡ isSolid k ⌝ }
+{
+    if k < 1 {
+        return false;
+    }
+    k <= 2
 }
 
 // Point i is a vertex of solid k, 1 for A and 2 for B.
@@ -44,10 +63,7 @@ fn is_asked(s: &[u8], u: usize, v: usize, k: usize) -> bool
     if !is_point(s, v) {
         return false;
     }
-    if k < 1 {
-        return false;
-    }
-    k <= 2
+    is_solid(k)
 }
 
 fn are_outside(s: &[u8], u: usize, v: usize, k: usize) -> bool
@@ -107,13 +123,20 @@ fn enclosed_fault(s: &[u8], i: usize) -> Judged
     if let Judged::Refused(r) = judge::judge(s) {
         return Judged::Refused(r);
     }
-    if i < 1 {
-        return Judged::Refused(Refusal::Lacking);
-    }
-    if i > byte(s, 2) + byte(s, 4) {
+    if !is_vertex(s, i) {
         return Judged::Refused(Refusal::Lacking);
     }
     Judged::Accepted
+}
+
+// The solid that may enclose vertex i.
+fn other_solid(s: &[u8], i: usize) -> usize
+    ensures { λ r. ⌜ r ≡ otherSolid (now (s .entry)) i ⌝ }
+{
+    if i <= byte(s, 2) {
+        return 2;
+    }
+    1
 }
 
 // Whether the vertex with point number i is enclosed by the other solid.
@@ -123,8 +146,7 @@ pub fn enclosed(s: &[u8], i: usize) -> Answer
     if let Judged::Refused(r) = enclosed_fault(s, i) {
         return Answer::Refused(r);
     }
-    let k: usize = if i <= byte(s, 2) { 2 } else { 1 };
-    if faces::is_odd(mask_of(s, i, points_of(s), k)) {
+    if faces::is_odd(mask_of(s, i, points_of(s), other_solid(s, i))) {
         return Answer::Yes;
     }
     Answer::No

@@ -8,9 +8,11 @@ ghost use Rattle.kernel.specs.Answers.{isPoint, isFace, arePoints, diffe
 use crate::points_of;
 use judge::Judged;
 use orient::Terms;
+use scene::Face;
+use scene::Refusal;
 use scene::decode;
-use scene::read::{byte, corners};
-use scene::{Face, Refusal};
+use scene::read::byte;
+use scene::read::corners;
 
 // The four terms, and whether the first that is not zero is positive.
 pub enum Signed {

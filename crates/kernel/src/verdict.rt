@@ -2,12 +2,19 @@
 ghost use mathlib.Core.Path.{_≡_};
 ghost use Rattle.judge.specs.Judge.{judged};
 ghost use Rattle.judge.specs.declared.Judged.the-variants.{Accepted};
-ghost use Rattle.kernel.specs.Answers.{verdictIn, verdictOf};
-use crate::{points_of, solid_a, solid_b};
+ghost use Rattle.scene.specs.Tables.{tablesOf, row, face};
+ghost use Rattle.scene.specs.Arrays.{rowIn, faceIn};
+ghost use Rattle.kernel.specs.Answers.{enclosing, verdictIn, verdictOf};
+use crate::points_of;
+use crate::solid_a;
+use crate::solid_b;
 use judge::Judged;
-use listing::find::{Found, find_solid};
+use listing::find::Found;
+use listing::find::find_solid;
 use listing::inside::lowest_inside;
+use scene::Corners;
 use scene::Refusal;
+use scene::Rows;
 use scene::decode;
 use scene::read::byte;
 
@@ -17,6 +24,23 @@ pub enum Verdict {
     AInB(usize),
     BInA(usize),
     Apart,
+}
+
+// Of an accepted scene in whose decoded form nothing pierces.
+fn enclosing(s: &[u8], rows: &Rows, corners: &Corners) -> Verdict
+    requires { ⌜ (judged (now s) ≡ Accepted) × (rowIn (now rows) ≡ row (tablesOf (now s))) × (faceIn (now corners) ≡ face (tablesOf (now s))) ⌝ }
+    ensures { λ r. ⌜ r ≡ enclosing (now (s .entry)) ⌝ }
+{
+    let n = points_of(s);
+    let p = lowest_inside(rows, corners, n, solid_a(s));
+    if p <= byte(s, 2) {
+        return Verdict::AInB(p);
+    }
+    let q = lowest_inside(rows, corners, n, solid_b(s));
+    if q <= byte(s, 2) + byte(s, 4) {
+        return Verdict::BInA(q);
+    }
+    Verdict::Apart
 }
 
 // Of an accepted scene.
@@ -35,15 +59,7 @@ fn decide(s: &[u8]) -> Verdict
     if let Found::Pair(u, v, f) = find_solid(&rows, &corners, n, b) {
         return Verdict::Cross(u, v, f);
     }
-    let p = lowest_inside(&rows, &corners, n, a);
-    if p <= byte(s, 2) {
-        return Verdict::AInB(p);
-    }
-    let q = lowest_inside(&rows, &corners, n, b);
-    if q <= byte(s, 2) + byte(s, 4) {
-        return Verdict::BInA(q);
-    }
-    Verdict::Apart
+    enclosing(s, &rows, &corners)
 }
 
 pub fn verdict_of(s: &[u8]) -> Verdict

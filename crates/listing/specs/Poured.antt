@@ -186,7 +186,7 @@ unfolding Laid poured flat
 all-laid [] d from seen = rw (drop-nil, take-nil) (sym (laid-nil d (3 * (seen - from))))
 all-laid (h ∷ l) d from seen = step d from seen h l _ _ refl refl (λ d′. all-laid l d′ from (seen + 1))
 
-length-flat : (l : List Hit) → length (flat l) ≡ 3 * length l
+pub length-flat : (l : List Hit) → length (flat l) ≡ 3 * length l
 unfolding flat
 length-flat [] = refl
 length-flat (h ∷ l) = omega (arith, length-flat l)

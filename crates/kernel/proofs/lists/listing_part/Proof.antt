@@ -1,10 +1,8 @@
+use Rattle.kernel.specs.Laws.{accepted-so}
+use Rattle.kernel.specs.Listings.{part-refused, part-told}
 use borrow.Author.Needs.{needs}
 use Rattle.kernel.proofs.lists.listing_part.Statement.{statement}
 use Rattle.kernel.proofs.lists.listing_part.Tie as tie
-use Rattle.kernel.proofs.lists.listing_part.Reads as reads
-use Rattle.kernel.proofs.lists.listing_part.Lts as lts
-use Rattle.judge.proofs.judge.Reads as judge-reads
-use Rattle.kernel.proofs.lists.pour.Reads as pour-reads
 
 judge-requires : tie.Need-judge-requires
 judge-requires c κs = search needs
@@ -13,19 +11,19 @@ enum-known-r : tie.Need-enum-known-r
 enum-known-r c = search needs
 
 returns : tie.Need-returns
-returns c = ?
+returns c = search part-refused
 
 enum-told : tie.Need-enum-told
 enum-told c = search needs
 
 pour-requires : tie.Need-pour-requires
-pour-requires c κs = ?
+pour-requires c κs = search accepted-so
 
 same-length : tie.Need-same-length
 same-length c = search needs
 
 returns-2 : tie.Need-returns-2
-returns-2 c = ?
+returns-2 c = search part-told
 
 pub listing-part-spec : {M : Type 1} → statement M
 listing-part-spec =

@@ -1,10 +1,8 @@
+use Rattle.judge.specs.Laws.{chain, rules}
+use Rattle.kernel.specs.Answers.{enclosedFault}
 use borrow.Author.Needs.{needs}
 use Rattle.kernel.proofs.masks.enclosed_fault.Statement.{statement}
 use Rattle.kernel.proofs.masks.enclosed_fault.Tie as tie
-use Rattle.kernel.proofs.masks.enclosed_fault.Reads as reads
-use Rattle.kernel.proofs.masks.enclosed_fault.Lts as lts
-use Rattle.judge.proofs.judge.Reads as judge-reads
-use Rattle.scene.proofs.read.byte.Reads as byte-reads
 
 judge-requires : tie.Need-judge-requires
 judge-requires c κs = search needs
@@ -13,40 +11,24 @@ enum-known-r : tie.Need-enum-known-r
 enum-known-r c = search needs
 
 returns : tie.Need-returns
-returns c = ?
+unfolding enclosedFault
+returns c = search (chain, rules) depth 14
 
 enum-told : tie.Need-enum-told
 enum-told c = search needs
 
+is-vertex-requires : tie.Need-is-vertex-requires
+is-vertex-requires c κs = search needs
+
 returns-2 : tie.Need-returns-2
-returns-2 c = ?
-
-byte-requires : tie.Need-byte-requires
-byte-requires c κs = search needs
-
-byte-requires-2 : tie.Need-byte-requires-2
-byte-requires-2 c κs = search needs
-
-add-if2 : tie.Need-add-if2
-add-if2 c = search needs
+unfolding enclosedFault
+returns-2 c = search (chain, rules) depth 14
 
 returns-3 : tie.Need-returns-3
-returns-3 c = ?
-
-returns-4 : tie.Need-returns-4
-returns-4 c = ?
+unfolding enclosedFault
+returns-3 c = search (chain, rules) depth 14
 
 pub enclosed-fault-spec : {M : Type 1} → statement M
 enclosed-fault-spec =
     tie.close
-    (tie.spec
-    judge-requires
-    enum-known-r
-    returns
-    enum-told
-    returns-2
-    byte-requires
-    byte-requires-2
-    add-if2
-    returns-3
-    returns-4)
+    (tie.spec judge-requires enum-known-r returns enum-told is-vertex-requires returns-2 returns-3)

@@ -1,18 +1,16 @@
+use Rattle.kernel.specs.Laws.{vertex-of-a, vertex-of-lower, vertex-of-b}
 use borrow.Author.Needs.{needs}
 use Rattle.kernel.proofs.masks.is_vertex_of.Statement.{statement}
 use Rattle.kernel.proofs.masks.is_vertex_of.Tie as tie
-use Rattle.kernel.proofs.masks.is_vertex_of.Reads as reads
-use Rattle.kernel.proofs.masks.is_vertex_of.Lts as lts
-use Rattle.scene.proofs.read.byte.Reads as byte-reads
 
 byte-requires : tie.Need-byte-requires
 byte-requires c κs = search needs
 
 returns : tie.Need-returns
-returns c = ?
+returns c = search vertex-of-a
 
 returns-2 : tie.Need-returns-2
-returns-2 c = ?
+returns-2 c = search vertex-of-lower
 
 byte-requires-2 : tie.Need-byte-requires-2
 byte-requires-2 c κs = search needs
@@ -21,7 +19,7 @@ add-result : tie.Need-add-result
 add-result c = search needs
 
 returns-3 : tie.Need-returns-3
-returns-3 c = ?
+returns-3 c = search vertex-of-b
 
 pub is-vertex-of-spec : {M : Type 1} → statement M
 is-vertex-of-spec =

@@ -1,19 +1,14 @@
+use denote.Ref.{now}
+use Rattle.kernel.specs.Ready.{rows-fit, faces-fit, far-fits, point-fits, rows-are, corners-are, a-fits, b-fits, mask-a, mask-b}
 use borrow.Author.Needs.{needs}
 use Rattle.kernel.proofs.masks.mask_of.Statement.{statement}
 use Rattle.kernel.proofs.masks.mask_of.Tie as tie
-use Rattle.kernel.proofs.masks.mask_of.Reads as reads
-use Rattle.kernel.proofs.masks.mask_of.Lts as lts
-use Rattle.kernel.proofs.points_of.Reads as points-of-reads
-use Rattle.pierce.proofs.mask.Reads as mask-reads
-use Rattle.scene.proofs.decode.faces.Reads as faces-reads
-use Rattle.scene.proofs.decode.rows.Reads as rows-reads
-use Rattle.scene.proofs.read.byte.Reads as byte-reads
 
 rows-requires : tie.Need-rows-requires
-rows-requires c κs = ?
+rows-requires c κs = rows-fit (now (c .before .args .s)) (c .before .pre .0)
 
 faces-requires : tie.Need-faces-requires
-faces-requires c κs = ?
+faces-requires c κs = faces-fit (now (c .before .before .args .s)) (c .before .before .pre .0)
 
 points-of-requires : tie.Need-points-of-requires
 points-of-requires c κs = search needs
@@ -22,10 +17,16 @@ byte-requires : tie.Need-byte-requires
 byte-requires c κs = search needs
 
 mask-requires : tie.Need-mask-requires
-mask-requires c κs = ?
+mask-requires c κs =
+    let s = c .before .before .before .before .before .before .before .before in
+    let ok = s .pre .0 in
+    let f = far-fits (now (s .args .s)) ok (c .before .points-of .ensures) in
+    let u = point-fits (now (s .args .s)) ok (s .pre .1) in
+    let v = point-fits (now (s .args .s)) ok (s .pre .2) in
+    ((rows-are (now (s .args .s)) ok (c .before .before .before .before .before .before .rows .ensures), corners-are (now (s .args .s)) ok (c .before .before .before .before .before .faces .ensures)), ((f .0, f .1, u, v), a-fits (now (s .args .s)) ok (c .byte .ensures .0)))
 
 returns : tie.Need-returns
-returns c = ?
+returns c = let s = c .before .before .before .before .before .before .before .before .before in search (mask-a (now (s .args .s)) (c .before .before .before .before .before .before .before .rows .ensures) (s .args .u) (s .args .v) (c .before .before .points-of .ensures) (s .args .k) (c .before .before .before .before .before .before .faces .ensures))
 
 points-of-requires-2 : tie.Need-points-of-requires-2
 points-of-requires-2 c κs = search needs
@@ -37,10 +38,16 @@ byte-requires-3 : tie.Need-byte-requires-3
 byte-requires-3 c κs = search needs
 
 mask-requires-2 : tie.Need-mask-requires-2
-mask-requires-2 c κs = ?
+mask-requires-2 c κs =
+    let s = c .before .before .before .before .before .before .before .before .before in
+    let ok = s .pre .0 in
+    let f = far-fits (now (s .args .s)) ok (c .before .before .points-of2 .ensures) in
+    let u = point-fits (now (s .args .s)) ok (s .pre .1) in
+    let v = point-fits (now (s .args .s)) ok (s .pre .2) in
+    ((rows-are (now (s .args .s)) ok (c .before .before .before .before .before .before .before .rows .ensures), corners-are (now (s .args .s)) ok (c .before .before .before .before .before .before .faces .ensures)), ((f .0, f .1, u, v), b-fits (now (s .args .s)) ok (c .before .byte2 .ensures .0) (c .byte3 .ensures .0)))
 
 returns-2 : tie.Need-returns-2
-returns-2 c = ?
+returns-2 c = let s = c .before .before .before .before .before .before .before .before .before .before in search (mask-b (now (s .args .s)) (c .before .before .before .before .before .before .before .before .rows .ensures) (s .args .u) (s .args .v) (c .before .before .before .points-of2 .ensures) (s .args .k) (c .before .before .before .before .before .before .before .faces .ensures))
 
 pub mask-of-spec : {M : Type 1} → statement M
 mask-of-spec =

@@ -1,5 +1,5 @@
 -- The ends differ, and none is a corner.
-use Rattle.laws.specs.Tests.{ands}
+use Rattle.kernel.specs.Laws.{nots}
 use Rattle.kernel.specs.Answers.{clear}
 use borrow.Author.Needs.{needs}
 use Rattle.kernel.proofs.points.is_clear.Statement.{statement}
@@ -7,21 +7,21 @@ use Rattle.kernel.proofs.points.is_clear.Tie as tie
 
 returns : tie.Need-returns
 unfolding clear
-returns c = search ands depth 12
+returns c = search nots depth 14
 
 is-corner-requires : tie.Need-is-corner-requires
 is-corner-requires c κs = search needs
 
 returns-2 : tie.Need-returns-2
 unfolding clear
-returns-2 c = ?
+returns-2 c = search nots depth 14
 
 is-corner-requires-2 : tie.Need-is-corner-requires-2
 is-corner-requires-2 c κs = search needs
 
 returns-3 : tie.Need-returns-3
 unfolding clear
-returns-3 c = ?
+returns-3 c = search nots depth 14
 
 pub is-clear-spec : {M : Type 1} → statement M
 is-clear-spec =
