@@ -2,11 +2,15 @@
 use Prim.Native.Nat.{ℕ, _+_, _<_, _≤_}
 use mathlib.Core.Path.{_≡_, refl, sym, ap, _∙_}
 use mathlib.Core.Bool.{Bool, true, false, not}
+use mathlib.Core.List.{List}
 use borrow.Author.Needs.{needs}
 use borrow.Author.Tests.{not-true, not-false}
 use Rattle.laws.specs.Range as range
 use Rattle.laws.specs.Range.{any-end, any-found, any-next, count-end, count-one, count-none}
-use Rattle.judge.specs.Judge.{firstFault, andThen, rule}
+use Rattle.laws.specs.Decides.{decides}
+use Rattle.scene.specs.Limits.{Limits}
+use Rattle.scene.specs.Records.{facesA, facesB}
+use Rattle.judge.specs.Judge.{firstFault, andThen, rule, opens, within, countsOk, headerFault}
 use Rattle.scene.specs.declared.Refusal.{Refusal}
 use Rattle.judge.specs.declared.Judged.{Judged}
 use Rattle.judge.specs.declared.Judged.the-variants.{Accepted, Refused}
@@ -73,3 +77,11 @@ pub then-rest : (x y : Judged) → andThen x y ≡ Accepted → y ≡ Accepted
 unfolding andThen
 then-rest Accepted y p = p
 then-rest (Refused r) y p = cc
+
+-- the header's counts of faces
+pub faces-upto : {o : Judged} (l : Limits) (s : List ℕ) → o ≡ headerFault l s → o ≡ Accepted → (facesA s ≤ l .mostFaces) × (facesB s ≤ l .mostFaces)
+unfolding headerFault countsOk within
+faces-upto l s e q =
+    let c = rule-ok (countsOk l s) _ _ (rule-rest (opens s) _ _ (sym e ∙ q)) in
+    let d = simp decides at c in
+    (d .1 .0 .1, d .1 .1 .1 .1)

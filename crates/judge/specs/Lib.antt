@@ -1,3 +1,4 @@
 pub mod Judge
 pub mod Laws
 pub mod Cases
+pub mod Words

@@ -1,13 +1,18 @@
 // Refusal 8, a vertex in no face, and refusal 9, an edge that does not lie in two faces of its solid. A solid's faces are the file's from a up to e.
 ghost use mathlib.Core.Path.{_≡_};
 ghost use Prim.Native.Nat.{_+_, _<_, _≤_};
-ghost use Rattle.laws.specs.Range.{anyOf, countOf};
-ghost use Rattle.scene.specs.Records.{verts, faces};
+ghost use Rattle.laws.specs.Range.{anyOf};
+ghost use Rattle.scene.specs.Limits.{limits};
+ghost use Rattle.scene.specs.Records.{facesA, facesB};
 ghost use Rattle.scene.specs.Tables.{cornerAt};
-ghost use Rattle.judge.specs.Judge.{isCorner, isEdge, isUsed, edgeOk, unusedFault, unusedsFault, sidesOk, closedAt, edgeFault, edgesFault};
+ghost use Rattle.judge.specs.Judge.{isCorner, isUsed, unusedFault, unusedsFault, closedAt, edgeFault, edgesFault};
+ghost use Rattle.judge.specs.Words.{AreWords, SideBy, SidesBy};
 use crate::Judged;
 use crate::records::corner;
 use crate::records::face_record;
+use crate::words::Words;
+use crate::words::in_two;
+use crate::words::words_of;
 use scene::Refusal;
 use scene::read::byte;
 
@@ -22,16 +27,6 @@ fn is_corner(s: &[u8], v: usize, i: usize) -> bool
         return true;
     }
     corner(s, i, 2) == v
-}
-
-fn is_edge(s: &[u8], v: usize, w: usize, i: usize) -> bool
-    requires { ⌜ i < 1024 ⌝ }
-    ensures { λ r. ⌜ r ≡ isEdge (now (s .entry)) v w i ⌝ }
-{
-    if is_corner(s, v, i) {
-        return is_corner(s, w, i);
-    }
-    false
 }
 
 fn is_corner_of_any(s: &[u8], a: usize, e: usize, v: usize) -> bool
@@ -82,77 +77,60 @@ pub fn unuseds_fault(s: &[u8]) -> Judged
     Judged::Accepted
 }
 
-fn count_edges(s: &[u8], a: usize, e: usize, v: usize, w: usize) -> usize
-    requires { ⌜ e < 1024 ⌝ }
-    ensures { λ r. ⌜ r ≡ countOf (isEdge (now (s .entry)) v w) a e ⌝ }
+// The side from corner m to corner n of the file's face i lies in two of the faces whose words these are.
+fn side_ok(s: &[u8], words: &Words, i: usize, m: usize, n: usize) -> bool
+    requires { ⌜ (i < 1024) × (m < 3) × (n < 3) ⌝ }
+    ensures { λ r. ⌜ SideBy (now (s .entry)) (now (words .entry)) (cornerAt (now (s .entry)) i m) (cornerAt (now (s .entry)) i n) r ⌝ }
 {
-    let mut n: usize = 0;
-    let mut i = a;
-    while i < e {
-        if is_edge(s, v, w, i) {
-            n += 1;
-        }
-        i += 1;
-    }
-    n
+    in_two(words, corner(s, i, m), corner(s, i, n))
 }
 
-fn edge_ok(s: &[u8], a: usize, e: usize, v: usize, w: usize) -> bool
-    requires { ⌜ e < 1024 ⌝ }
-    ensures { λ r. ⌜ r ≡ edgeOk (now (s .entry)) a e v w ⌝ }
-{
-    count_edges(s, a, e, v, w) == 2
-}
-
-// The side from corner m to corner n of the file's face i.
-fn side_ok(s: &[u8], a: usize, e: usize, i: usize, m: usize, n: usize) -> bool
-    requires { ⌜ (e < 1024) × (i < 1024) × (m < 3) × (n < 3) ⌝ }
-    ensures { λ r. ⌜ r ≡ edgeOk (now (s .entry)) a e (cornerAt (now (s .entry)) i m) (cornerAt (now (s .entry)) i n) ⌝ }
-{
-    edge_ok(s, a, e, corner(s, i, m), corner(s, i, n))
-}
-
-fn sides_ok(s: &[u8], a: usize, e: usize, i: usize) -> bool
-    requires { ⌜ (e < 1024) × (i < 1024) ⌝ }
-    ensures { λ r. ⌜ r ≡ sidesOk (now (s .entry)) a e i ⌝ }
-{
-    if !side_ok(s, a, e, i, 0, 1) {
-        return false;
-    }
-    if !side_ok(s, a, e, i, 1, 2) {
-        return false;
-    }
-    side_ok(s, a, e, i, 2, 0)
-}
-
-fn is_closed_at(s: &[u8], i: usize) -> bool
+fn sides_ok(s: &[u8], words: &Words, i: usize) -> bool
     requires { ⌜ i < 1024 ⌝ }
+    ensures { λ r. ⌜ SidesBy (now (s .entry)) (now (words .entry)) i r ⌝ }
+{
+    if !side_ok(s, words, i, 0, 1) {
+        return false;
+    }
+    if !side_ok(s, words, i, 1, 2) {
+        return false;
+    }
+    side_ok(s, words, i, 2, 0)
+}
+
+// By wa and wb, the words of A's faces and of B's.
+fn is_closed_at(s: &[u8], wa: &Words, wb: &Words, i: usize) -> bool
+    requires { ⌜ (i < 1024) × AreWords (now s) 0 (facesA (now s)) (now wa) × AreWords (now s) (facesA (now s)) (facesB (now s)) (now wb) ⌝ }
     ensures { λ r. ⌜ r ≡ closedAt (now (s .entry)) i ⌝ }
 {
-    let a = byte(s, 3);
-    if i < a {
-        return sides_ok(s, 0, a, i);
+    if i < byte(s, 3) {
+        return sides_ok(s, wa, i);
     }
-    sides_ok(s, a, a + byte(s, 5), i)
+    sides_ok(s, wb, i)
 }
 
-fn edge_fault(s: &[u8], i: usize) -> Judged
-    requires { ⌜ i < 1024 ⌝ }
+fn edge_fault(s: &[u8], wa: &Words, wb: &Words, i: usize) -> Judged
+    requires { ⌜ (i < 1024) × AreWords (now s) 0 (facesA (now s)) (now wa) × AreWords (now s) (facesA (now s)) (facesB (now s)) (now wb) ⌝ }
     ensures { λ r. ⌜ r ≡ edgeFault (now (s .entry)) i ⌝ }
 {
-    if !is_closed_at(s, i) {
+    if !is_closed_at(s, wa, wb, i) {
         return Judged::Refused(Refusal::Edge(face_record(s, i)));
     }
     Judged::Accepted
 }
 
 pub fn edges_fault(s: &[u8]) -> Judged
+    requires { ⌜ (facesA (now s) ≤ limits .mostFaces) × (facesB (now s) ≤ limits .mostFaces) ⌝ }
     ensures { λ r. ⌜ r ≡ edgesFault (now (s .entry)) ⌝ }
 {
-    let n = byte(s, 3) + byte(s, 5);
+    let a = byte(s, 3);
+    let b = byte(s, 5);
+    let wa = words_of(s, 0, a);
+    let wb = words_of(s, a, b);
+    let n = a + b;
     let mut i = 0;
     while i < n {
-        if let Judged::Refused(r) = edge_fault(s, i) {
+        if let Judged::Refused(r) = edge_fault(s, &wa, &wb, i) {
             return Judged::Refused(r);
         }
         i += 1;

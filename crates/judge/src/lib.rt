@@ -1,17 +1,12 @@
-// The judge of a scene's bytes: accepted, or the first refusal in the order of checking; and a record shown.
+// The judge of a scene's bytes: accepted, or the first refusal in the order of checking.
 ghost use mathlib.Core.Path.{_≡_};
-ghost use Prim.Native.Nat.{_+_, _*_, _≤_, _<_};
-ghost use lib.ListN.{length};
-ghost use Rattle.scene.specs.Limits.{limits};
-ghost use Rattle.scene.specs.Records.{lengthOf};
-ghost use Rattle.judge.specs.Judge.{judged, headerFault, recordsFault, unusedsFault, edgesFault};
+ghost use Rattle.judge.specs.Judge.{judged};
 use scene::Refusal;
-use scene::Scene;
-use scene::read;
 
 mod edges;
 mod header;
 mod records;
+mod words;
 
 pub enum Judged {
     Accepted,

@@ -86,7 +86,7 @@ pub fn face_record(s: &[u8], i: usize) -> usize
 
 pub fn corner(s: &[u8], i: usize, m: usize) -> usize
     requires { ⌜ (i < 1024) × (m < 3) ⌝ }
-    ensures { λ r. ⌜ r ≡ cornerAt (now (s .entry)) i m ⌝ }
+    ensures { λ r. ⌜ (r ≡ cornerAt (now (s .entry)) i m) × (r < 256) ⌝ }
 {
     byte(s, face_start(s, i) + 2 + m)
 }

@@ -6,3 +6,4 @@ pub mod Copy
 pub mod Asked
 pub mod Both
 pub mod Listings
+pub mod Inside

@@ -10,6 +10,7 @@ use edges::Solid;
 use scene::read::byte;
 
 pub mod counts;
+pub mod inside;
 pub mod lists;
 pub mod masks;
 pub mod points;

@@ -31,7 +31,7 @@ fn is_vertex(s: &[u8], i: usize) -> bool
     i <= byte(s, 2) + byte(s, 4)
 }
 
-fn is_solid(k: usize) -> bool
+pub fn is_solid(k: usize) -> bool
     ensures { λ r. ⌜ r ≡ isSolid k ⌝ }
 {
     if k < 1 {

@@ -146,5 +146,25 @@ pub lowest-passes : (p : ℕ → Bool) (a e h : ℕ) → p h ≡ true → a ≤ 
 unfolding lowestOf over
 lowest-passes p a e h t l m = lowest-fold p e a (e - a) h t l (omega arith)
 
+-- ---- two folds that agree at each number from a up to e
+
+module _ {A : Type 0} (g h : ℕ → A → A) (z : A) where
+  fold-same : (a n : ℕ) → ((k : ℕ) → a ≤ k → k < a + n → (r : A) → g k r ≡ h k r) → fold g z a n ≡ fold h z a n
+  fold-same a zero e = refl
+  fold-same a (suc n) e = ap (g a) (fold-same (suc a) n (λ k l m. e k (omega arith) (omega arith))) ∙ e a (omega arith) (omega arith) (fold h z (suc a) n)
+
+  pub over-same : (a e : ℕ) → ((k : ℕ) → a ≤ k → k < e → (r : A) → g k r ≡ h k r) → over g z a e ≡ over h z a e
+  unfolding over
+  over-same a e s = fold-same a (e - a) (λ k l m. s k l (omega arith))
+
+module _ (p q : ℕ → Bool) (a e : ℕ) (same : (k : ℕ) → a ≤ k → k < e → p k ≡ q k) where
+  pub count-same : countOf p a e ≡ countOf q a e
+  unfolding countOf
+  count-same = over-same (λ k rest. more (p k) rest) (λ k rest. more (q k) rest) 0 a e (λ k l m r. ap (λ (b : Bool). more b r) (same k l m))
+
+  pub lowest-same : lowestOf p a e ≡ lowestOf q a e
+  unfolding lowestOf
+  lowest-same = over-same (λ k rest. cond (p k) k rest) (λ k rest. cond (q k) k rest) e a e (λ k l m r. ap (λ (b : Bool). cond b k r) (same k l m))
+
 -- what a loop's needs are searched with
 pub ruleset loops = (any-end, any-found, any-next, count-end, count-one, count-none, lowest-end, lowest-found, lowest-next, needs)

@@ -2,10 +2,9 @@
 use mathlib.Core.Path.{_≡_, refl, sym, ap, _∙_}
 use mathlib.Core.Logic.{_≢_}
 use mathlib.Core.Bool.{Bool, true, false, not}
-use Prim.Native.Nat.{ℕ, _+_, _-_, _%_, _<_}
+use Prim.Native.Nat.{ℕ, _+_, _%_, _<_}
 use native.Mathlib.Omega.{arith}
 use borrow.Author.Tests.{eqb-true, eqb-false, not-true, not-false}
-use lib.Bits.{bitAnd}
 use lib.Count.{ones, trailingZeros}
 use lib.Dec.{eqb}
 use Rattle.laws.specs.Even.{odd}
@@ -41,15 +40,12 @@ valueOf m = m .word
 abbrev pub width : ℕ
 width = 64
 
--- some face is in the mask; k - 1 for the first face k, and the mask without it
+-- some face is in the mask; k - 1 for the first face k
 abbrev pub hasFace : ℕ → Bool
 hasFace m = not (eqb m 0)
 
 abbrev pub firstFace : ℕ → ℕ
 firstFace m = trailingZeros width m
-
-abbrev pub withoutFirst : ℕ → ℕ
-withoutFirst m = bitAnd m (m - 1)
 
 pub some-face : (m : ℕ) {o : Bool} → o ≡ hasFace m → o ≡ true → 0 < m
 some-face m e t = let d : m ≢ 0 = eqb-false m 0 (not-true (eqb m 0) (sym e ∙ t)) in omega arith

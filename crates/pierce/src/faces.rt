@@ -3,7 +3,7 @@ ghost use mathlib.Core.Path.{_≡_};
 ghost use Prim.Native.Nat.{_<_};
 ghost use lib.Count.{ones};
 ghost use Rattle.laws.specs.Mask.{testBit};
-ghost use Rattle.pierce.specs.Faces.{width, isOdd, valueOf, hasFace, firstFace, withoutFirst};
+ghost use Rattle.pierce.specs.Faces.{width, isOdd, valueOf, hasFace, firstFace};
 
 // Bit k - 1 stands for the solid's k-th face.
 pub struct Mask {
@@ -44,13 +44,4 @@ pub fn first_face(m: Mask) -> usize
     ensures { λ r. ⌜ r ≡ firstFace (valueOf m) ⌝ }
 {
     u64::trailing_zeros(m.word) as usize
-}
-
-// All but the first face.
-pub fn without_first(m: Mask) -> Mask
-    requires { ⌜ 0 < valueOf m ⌝ }
-    ensures { λ r. ⌜ valueOf r ≡ withoutFirst (valueOf m) ⌝ }
-{
-    let w = m.word;
-    Mask { word: w & (w - 1) }
 }

@@ -1,6 +1,7 @@
 -- The first stage that refuses decides.
 use Rattle.judge.specs.Judge.{judgedAt}
-use Rattle.judge.specs.Laws.{chain}
+use Rattle.judge.specs.Laws.{chain, faces-upto}
+use Rattle.scene.specs.Limits.{limits}
 use borrow.Author.Needs.{needs}
 use Rattle.judge.proofs.judge.Statement.{statement}
 use Rattle.judge.proofs.judge.Tie as tie
@@ -45,7 +46,9 @@ enum-told-3 : tie.Need-enum-told-3
 enum-told-3 c = search needs
 
 edges-fault-requires : tie.Need-edges-fault-requires
-edges-fault-requires c κs = search needs
+edges-fault-requires c κs =
+    let d = c .before .before .before .before .before .before .before .before in
+    faces-upto limits _ (d .header-fault .ensures) (search needs)
 
 returns-4 : tie.Need-returns-4
 unfolding judgedAt

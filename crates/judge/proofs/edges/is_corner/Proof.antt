@@ -26,8 +26,8 @@ returns-3 : tie.Need-returns-3
 unfolding isCorner
 returns-3 c =
     let b = c .before .before in
-    or-goes-on (b .before .before .corner .ensures) (b .before .if1 .left)
-    (or-goes-on (b .corner2 .ensures) (c .before .if2 .left) (same _ (c .corner3 .ensures)))
+    or-goes-on (b .before .before .corner .ensures .0) (b .before .if1 .left)
+    (or-goes-on (b .corner2 .ensures .0) (c .before .if2 .left) (same _ (c .corner3 .ensures .0)))
 
 pub is-corner-spec : {M : Type 1} → statement M
 is-corner-spec =

@@ -10,21 +10,28 @@ side-ok-requires c κs = search needs
 
 returns : tie.Need-returns
 unfolding sidesOk
-returns c = search ands depth 14
+returns c = λ a k are. let e = c .before .side-ok .ensures a k are in search ands depth 14
 
 side-ok-requires-2 : tie.Need-side-ok-requires-2
 side-ok-requires-2 c κs = search needs
 
 returns-2 : tie.Need-returns-2
 unfolding sidesOk
-returns-2 c = search ands depth 14
+returns-2 c = λ a k are.
+    let e = c .before .before .before .side-ok .ensures a k are in
+    let f = c .before .side-ok2 .ensures a k are in
+    search ands depth 14
 
 side-ok-requires-3 : tie.Need-side-ok-requires-3
 side-ok-requires-3 c κs = search needs
 
 returns-3 : tie.Need-returns-3
 unfolding sidesOk
-returns-3 c = search ands depth 14
+returns-3 c = λ a k are.
+    let e = c .before .before .before .before .side-ok .ensures a k are in
+    let f = c .before .before .side-ok2 .ensures a k are in
+    let g = c .side-ok3 .ensures a k are in
+    search ands depth 14
 
 pub sides-ok-spec : {M : Type 1} → statement M
 sides-ok-spec =

@@ -18,7 +18,7 @@ byte-requires c κs = search needs
 
 returns : tie.Need-returns
 unfolding cornerAt
-returns c = cc
+returns c = (cc, c .byte .ensures .1)
 
 pub corner-spec : {M : Type 1} → statement M
 corner-spec = tie.close (tie.spec face-start-requires add-byte add-byte-2 byte-requires returns)

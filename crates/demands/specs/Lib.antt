@@ -1,0 +1,13 @@
+pub mod Parity
+pub mod ParityProof
+pub mod Once
+pub mod OnceProof
+pub mod Scenes
+pub mod Computing
+pub mod Marked
+pub mod MarkedProof
+pub mod Witnesses
+pub mod WitnessesProof
+pub mod Shift
+pub mod Same
+pub mod ShiftProof

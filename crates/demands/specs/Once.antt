@@ -1,0 +1,126 @@
+-- No second answer. For each public function of every crate, and of the very relation that its contract names: what is asked has no second answer,
+-- nor second contents of a lent place. Bytes that are shown are said by what they hold, and an array is as long as its type says. `limits_agree`
+-- answers nothing. Assumes nothing.
+use mathlib.Core.Path.{_≡_}
+use mathlib.Core.Bool.{Bool}
+use mathlib.Core.List.{List}
+use Prim.Native.Nat.{ℕ, _<_}
+use lib.Count.{ones}
+use lib.IntN.{ℤ}
+use lib.ListN.{length}
+use Rattle.laws.specs.Unique.{Once}
+use Rattle.laws.specs.Mask.{testBit}
+use Rattle.scene.specs.Limits.{limits}
+use Rattle.scene.specs.Refusal.{numberOf, placeOf}
+use Rattle.scene.specs.Bytes.{byteAt, twoAt}
+use Rattle.scene.specs.Records.{countsOf, faceStart, faceRecord}
+use Rattle.scene.specs.Tables.{tablesOf, row, face, cornerAt}
+use Rattle.scene.specs.Arrays.{rowIn, faceIn}
+use Rattle.scene.specs.declared.Refusal.{Refusal}
+use Rattle.scene.specs.declared.Scene.{Scene}
+use Rattle.scene.specs.declared.Row.{Row}
+use Rattle.scene.specs.declared.Face.{Face}
+use Rattle.judge.specs.Judge.{within, judged, headerFault, recordsFault, unusedsFault, edgesFault}
+use Rattle.judge.specs.declared.Judged.{Judged}
+use Rattle.record.specs.Shown.{refusal, shown}
+use Rattle.orient.specs.Terms.{positiveAt, termsAt}
+use Rattle.orient.specs.declared.Terms.{Terms}
+use Rattle.edges.specs.Edges.{isCorner, neighbours}
+use Rattle.edges.specs.declared.Solid.{Solid}
+use Rattle.pierce.specs.Formula.{pierced}
+use Rattle.pierce.specs.Faces.{maskAgainst, enclosed, valueOf, isOdd, hasFace, firstFace}
+use Rattle.pierce.specs.declared.faces.Mask.{Mask}
+use Rattle.listing.specs.Hits.{viewIn, solidHits, insideCount, lowestInside}
+use Rattle.listing.specs.First.{firstOf}
+use Rattle.listing.specs.Pour.{Pours}
+use Rattle.listing.specs.declared.find.Found.{Found}
+use Rattle.kernel.specs.Inside.{insideOf}
+use Rattle.kernel.specs.declared.inside.Enclosing.{Enclosing}
+use Rattle.kernel.specs.Answers.{isPoint, signOf, piercesOf, saidMask, maskedOf, enclosedOf, countedOf, verdictOf, IsListed, IsPart}
+use Rattle.kernel.specs.declared.points.Signed.{Signed}
+use Rattle.kernel.specs.declared.points.Answer.{Answer}
+use Rattle.kernel.specs.declared.masks.Masked.{Masked}
+use Rattle.kernel.specs.declared.counts.Counted.{Counted}
+use Rattle.kernel.specs.declared.verdict.Verdict.{Verdict}
+use Rattle.kernel.specs.declared.lists.Listed.{Listed}
+
+-- the same, among answers that are lists of one length
+abbrev pub OnceOfLength : {A B : Type 0} → (A → List B → Type 0) → Type 0
+OnceOfLength {A} {B} R = (a : A) (b c : List B) → length b ≡ length c → R a b → R a c → b ≡ c
+
+pub record SceneOnce : Type 0 where
+  pub number : Once (λ (r : Refusal) (n : ℕ). n ≡ numberOf r)
+  pub place : Once (λ (r : Refusal) (n : ℕ). n ≡ placeOf r)
+  pub read-byte : (i : ℕ) → Once (λ (s : List ℕ) (r : ℕ). (r ≡ byteAt s i) × (r < 256))
+  pub read-two : (i : ℕ) → Once (λ (s : List ℕ) (r : ℕ). (r ≡ twoAt s i) × (r < 65536))
+  pub read-counts : Once (λ (s : List ℕ) (r : Scene). r ≡ countsOf s)
+  pub read-row : (i : ℕ) → Once (λ (s : List ℕ) (r : Row). r ≡ row (tablesOf s) i)
+  pub read-corners : (k : ℕ) → Once (λ (s : List ℕ) (r : Face). r ≡ face (tablesOf s) k)
+  pub decode-rows : OnceOfLength (λ (s : List ℕ) (r : List ℤ). rowIn r ≡ row (tablesOf s))
+  pub decode-faces : OnceOfLength (λ (s r : List ℕ). faceIn r ≡ face (tablesOf s))
+  pub decode-face-in : (k : ℕ) → Once (λ (corners : List ℕ) (r : Face). r ≡ faceIn corners k)
+
+pub record JudgeOnce : Type 0 where
+  pub judge : Once (λ (s : List ℕ) (r : Judged). r ≡ judged s)
+  pub is-within : (low high : ℕ) → Once (λ (n : ℕ) (r : Bool). r ≡ within low high n)
+  pub header-fault : Once (λ (s : List ℕ) (r : Judged). r ≡ headerFault limits s)
+  pub face-start : (i : ℕ) → Once (λ (s : List ℕ) (r : ℕ). (r ≡ faceStart s i) × (r < 16384))
+  pub face-record : (i : ℕ) → Once (λ (s : List ℕ) (r : ℕ). r ≡ faceRecord s i)
+  pub corner : (i m : ℕ) → Once (λ (s : List ℕ) (r : ℕ). r ≡ cornerAt s i m)
+  pub records-fault : Once (λ (s : List ℕ) (r : Judged). r ≡ recordsFault limits s)
+  pub unuseds-fault : Once (λ (s : List ℕ) (r : Judged). r ≡ unusedsFault s)
+  pub edges-fault : Once (λ (s : List ℕ) (r : Judged). r ≡ edgesFault s)
+
+pub record RecordOnce : Type 0 where
+  pub record-refusal : (k : ℕ) → Once (λ (s : List ℕ) (r : Judged). r ≡ refusal s k)
+  pub record-shown : (k : ℕ) → Once (λ (s r : List ℕ). r ≡ shown s k)
+
+pub record OrientOnce : Type 0 where
+  pub positive-at : (a b c d : ℕ) → Once (λ (rows : List ℤ) (r : Bool). r ≡ positiveAt (rowIn rows) a b c d)
+  pub terms-at : (a b c d : ℕ) → Once (λ (rows : List ℤ) (r : Terms). r ≡ termsAt (rowIn rows) a b c d)
+
+pub record EdgesOnce : Type 0 where
+  pub is-corner : (i : ℕ) → Once (λ (f : Face) (r : Bool). r ≡ isCorner i f)
+  pub neighbours-of : (k : Solid) (u : ℕ) → Once (λ (corners : List ℕ) (r : ℕ). r ≡ neighbours (faceIn corners) k u)
+
+pub record PierceOnce : Type 0 where
+  pub mask : (corners : List ℕ) (n u v first count : ℕ) →
+      Once (λ (rows : List ℤ) (r : Mask). valueOf r ≡ maskAgainst n (rowIn rows) (faceIn corners) u v first count)
+  pub is-enclosed : (corners : List ℕ) (n u first count : ℕ) → Once (λ (rows : List ℤ) (r : Bool). r ≡ enclosed n (rowIn rows) (faceIn corners) u first count)
+  pub pierces : (n u v : ℕ) (f : Face) → Once (λ (rows : List ℤ) (r : Bool). r ≡ pierced n (rowIn rows) u v f)
+  pub ones-of : Once (λ (m : Mask) (r : ℕ). r ≡ ones (valueOf m))
+  pub is-odd : Once (λ (m : Mask) (r : Bool). r ≡ isOdd (valueOf m))
+  pub has-face : Once (λ (m : Mask) (r : Bool). r ≡ hasFace (valueOf m))
+  pub has : (k : ℕ) → Once (λ (m : Mask) (r : Bool). r ≡ testBit (valueOf m) k)
+  pub first-face : Once (λ (m : Mask) (r : ℕ). r ≡ firstFace (valueOf m))
+
+-- what is left: the lent list's later contents, and the answer
+pub record ListingOnce : Type 0 where
+  pub count-solid : (corners : List ℕ) (n : ℕ) (k : Solid) → Once (λ (rows : List ℤ) (r : ℕ). r ≡ length (solidHits (viewIn n rows corners) k))
+  pub find-solid : (corners : List ℕ) (n : ℕ) (k : Solid) → Once (λ (rows : List ℤ) (r : Found). r ≡ firstOf (solidHits (viewIn n rows corners) k))
+  pub count-inside : (corners : List ℕ) (n : ℕ) (k : Solid) → Once (λ (rows : List ℤ) (r : ℕ). r ≡ insideCount (viewIn n rows corners) k)
+  pub lowest-inside : (corners : List ℕ) (n : ℕ) (k : Solid) → Once (λ (rows : List ℤ) (r : ℕ). r ≡ lowestInside (viewIn n rows corners) k)
+  pub pour-solid : (rows : List ℤ) (corners : List ℕ) (n : ℕ) (k : Solid) (from seen : ℕ) →
+      Once (λ (out : List ℕ) (left : List ℕ × ℕ). Pours (solidHits (viewIn n rows corners) k) from seen out (left .0) (left .1))
+
+pub record KernelOnce : Type 0 where
+  pub is-point : (i : ℕ) → Once (λ (s : List ℕ) (r : Bool). r ≡ isPoint s i)
+  pub sign : (a b c d : ℕ) → Once (λ (s : List ℕ) (r : Signed). r ≡ signOf s a b c d)
+  pub pierces : (u v f : ℕ) → Once (λ (s : List ℕ) (r : Answer). r ≡ piercesOf s u v f)
+  pub mask : (u v k : ℕ) → Once (λ (s : List ℕ) (r : Masked). saidMask r ≡ maskedOf s u v k)
+  pub enclosed : (i : ℕ) → Once (λ (s : List ℕ) (r : Answer). r ≡ enclosedOf s i)
+  pub count : Once (λ (s : List ℕ) (r : Counted). r ≡ countedOf s)
+  pub inside : (k : ℕ) → Once (λ (s : List ℕ) (r : Enclosing). r ≡ insideOf s k)
+  pub verdict-of : Once (λ (s : List ℕ) (r : Verdict). r ≡ verdictOf s)
+  pub listing : (s : List ℕ) → Once (λ (out : List ℕ) (left : List ℕ × Listed). IsListed s out (left .0) (left .1))
+  pub listing-part : (s : List ℕ) (from : ℕ) → Once (λ (out : List ℕ) (left : List ℕ × Listed). IsPart s from out (left .0) (left .1))
+
+pub record NoSecondAnswer : Type 0 where
+  pub of-scene : SceneOnce
+  pub of-judge : JudgeOnce
+  pub of-record : RecordOnce
+  pub of-orient : OrientOnce
+  pub of-edges : EdgesOnce
+  pub of-pierce : PierceOnce
+  pub of-listing : ListingOnce
+  pub of-kernel : KernelOnce

@@ -1,0 +1,143 @@
+-- No second answer: an equation with a definition has none, a mask is its number, and the arrays of a scene are read at every place.
+-- Assumes nothing.
+use mathlib.Core.Path.{_≡_, sym, ap, _∙_}
+use mathlib.Core.List.{List}
+use Prim.Native.Nat.{ℕ, zero, suc, _+_, _*_, _/_, _%_, _<_}
+use native.Mathlib.Omega.{arith}
+use lib.IntN.{ℤ, pos}
+use lib.ListN.{length, getD}
+use lib.Seq.{ext-getD}
+use Rattle.laws.specs.Unique.{once}
+use Rattle.scene.specs.Arrays.{rowIn, faceIn}
+use Rattle.scene.specs.declared.Row.{Row}
+use Rattle.scene.specs.declared.Face.{Face}
+use Rattle.pierce.specs.Faces.{valueOf}
+use Rattle.pierce.specs.declared.faces.Mask.{Mask}
+use Rattle.kernel.specs.Answers.{saidMask}
+use Rattle.kernel.specs.declared.masks.Masked.{Masked}
+use Rattle.kernel.specs.declared.masks.Masked.the-variants.{Refused, Faces}
+use Rattle.demands.specs.Once.{SceneOnce, JudgeOnce, RecordOnce, OrientOnce, EdgesOnce, PierceOnce, ListingOnce, KernelOnce, NoSecondAnswer}
+
+-- ---- a mask is its number
+
+same-mask : (m o : Mask) → valueOf m ≡ valueOf o → m ≡ o
+unfolding valueOf
+same-mask m o e i = record { word = e i }
+
+same-said : (a b : Masked) → saidMask a ≡ saidMask b → a ≡ b
+same-said (Refused q) (Refused r) e = cc
+same-said (Refused q) (Faces o n) e = cc
+same-said (Faces m k) (Refused r) e = cc
+same-said (Faces m k) (Faces o n) e = let d : valueOf m ≡ valueOf o = cc in let f : k ≡ n = cc in let g : m ≡ o = same-mask m o d in cc
+
+-- ---- the arrays of a scene
+
+same-rows : (a b : List ℤ) → length a ≡ length b → rowIn a ≡ rowIn b → a ≡ b
+same-rows a b l e = ext-getD (pos 0) a b l (λ i h. at i (i / 4) (i % 4) (omega arith) (omega arith))
+  where
+    at : (i q m : ℕ) → i ≡ 4 * q + m → m < 4 → getD a i (pos 0) ≡ getD b i (pos 0)
+    at i q zero h k = let j : i ≡ 4 * q = omega arith in rw j (ap (λ (f : ℕ → Row). f q .x) e)
+    at i q (suc zero) h k = rw h (ap (λ (f : ℕ → Row). f q .y) e)
+    at i q (suc (suc zero)) h k = rw h (ap (λ (f : ℕ → Row). f q .z) e)
+    at i q (suc (suc (suc zero))) h k = rw h (ap (λ (f : ℕ → Row). f q .w) e)
+    at i q (suc (suc (suc (suc m)))) h k = absurd (omega arith)
+
+same-faces : (a b : List ℕ) → length a ≡ length b → faceIn a ≡ faceIn b → a ≡ b
+same-faces a b l e = ext-getD 0 a b l (λ i h. at i (i / 3) (i % 3) (omega arith) (omega arith))
+  where
+    at : (i q m : ℕ) → i ≡ 3 * q + m → m < 3 → getD a i 0 ≡ getD b i 0
+    at i q zero h k = let j : i ≡ 3 * q = omega arith in rw j (ap (λ (f : ℕ → Face). f q .p) e)
+    at i q (suc zero) h k = rw h (ap (λ (f : ℕ → Face). f q .q) e)
+    at i q (suc (suc zero)) h k = rw h (ap (λ (f : ℕ → Face). f q .r) e)
+    at i q (suc (suc (suc m))) h k = absurd (omega arith)
+
+-- ---- by crate
+
+of-scene : SceneOnce
+of-scene =
+    record {
+      number = once _;
+      place = once _;
+      read-byte = λ i s b c p q. p .0 ∙ sym (q .0);
+      read-two = λ i s b c p q. p .0 ∙ sym (q .0);
+      read-counts = once _;
+      read-row = λ i. once _;
+      read-corners = λ k. once _;
+      decode-rows = λ s b c l p q. same-rows b c l (p ∙ sym q);
+      decode-faces = λ s b c l p q. same-faces b c l (p ∙ sym q);
+      decode-face-in = λ k. once _;
+    }
+
+of-judge : JudgeOnce
+of-judge =
+    record {
+      judge = once _;
+      is-within = λ low high. once _;
+      header-fault = once _;
+      face-start = λ i s b c p q. p .0 ∙ sym (q .0);
+      face-record = λ i. once _;
+      corner = λ i m. once _;
+      records-fault = once _;
+      unuseds-fault = once _;
+      edges-fault = once _;
+    }
+
+of-record : RecordOnce
+of-record = record { record-refusal = λ k. once _; record-shown = λ k. once _ }
+
+of-orient : OrientOnce
+of-orient = record { positive-at = λ a b c d. once _; terms-at = λ a b c d. once _ }
+
+of-edges : EdgesOnce
+of-edges = record { is-corner = λ i. once _; neighbours-of = λ k u. once _ }
+
+of-pierce : PierceOnce
+of-pierce =
+    record {
+      mask = λ corners n u v first count rows b c p q. same-mask b c (p ∙ sym q);
+      is-enclosed = λ corners n u first count. once _;
+      pierces = λ n u v f. once _;
+      ones-of = once _;
+      is-odd = once _;
+      has-face = once _;
+      has = λ k. once _;
+      first-face = once _;
+    }
+
+of-listing : ListingOnce
+of-listing =
+    record {
+      count-solid = λ corners n k. once _;
+      find-solid = λ corners n k. once _;
+      count-inside = λ corners n k. once _;
+      lowest-inside = λ corners n k. once _;
+      pour-solid = λ rows corners n k from seen out b c p q i. ((p .held ∙ sym (q .held)) i, (p .count ∙ sym (q .count)) i);
+    }
+
+of-kernel : KernelOnce
+of-kernel =
+    record {
+      is-point = λ i. once _;
+      sign = λ a b c d. once _;
+      pierces = λ u v f. once _;
+      mask = λ u v k s b c p q. same-said b c (p ∙ sym q);
+      enclosed = λ i. once _;
+      count = once _;
+      inside = λ k. once _;
+      verdict-of = once _;
+      listing = λ s out b c p q i. ((p .held ∙ sym (q .held)) i, (p .answer ∙ sym (q .answer)) i);
+      listing-part = λ s from out b c p q i. ((p .held ∙ sym (q .held)) i, (p .answer ∙ sym (q .answer)) i);
+    }
+
+pub no-second-answer : NoSecondAnswer
+no-second-answer =
+    record {
+      of-scene = of-scene;
+      of-judge = of-judge;
+      of-record = of-record;
+      of-orient = of-orient;
+      of-edges = of-edges;
+      of-pierce = of-pierce;
+      of-listing = of-listing;
+      of-kernel = of-kernel;
+    }

@@ -1,0 +1,103 @@
+-- Parity holds: an accepted scene's points have weights and its solids are closed. Assumes nothing.
+use mathlib.Core.Path.{_≡_}
+use mathlib.Core.Logic.{inl, inr}
+use mathlib.Core.Bool.{true, false}
+use mathlib.Core.List.{List}
+use Prim.Native.Nat.{ℕ, _+_, _≤_}
+use native.Mathlib.Omega.{arith}
+use borrow.Author.Tests.{ne-eqb}
+use lib.Dec.{leb}
+use Rattle.laws.specs.Decides.{leb-iff, fails-iff}
+use Rattle.laws.specs.Lists.{run}
+use Rattle.scene.specs.Limits.{limits}
+use Rattle.scene.specs.Records.{vertsA, facesA, facesB, verts}
+use Rattle.scene.specs.Tables.{tablesOf, row, face}
+use Rattle.scene.specs.Read.{points-are}
+use Rattle.judge.specs.Judge.{judged, rule, andThen, within}
+use Rattle.judge.specs.declared.Judged.the-variants.{Accepted}
+use Rattle.rules.specs.Given.{weighted, each-of-a, each-of-b, edges-of-a, edges-of-b}
+use Rattle.rules.specs.Tests.{within-iff}
+use Rattle.orient.specs.Signs.{Upto}
+use Rattle.orient.specs.Weighted.{Weighted}
+use Rattle.pierce.specs.Parity.{Solid, Triangle, solid-by-edges}
+use Rattle.pierce.specs.Scene.{scene-parity, scene-route}
+use Rattle.kernel.specs.Answers.{answered, isPoint, isVertexOf, maskAsked, maskOutside, maskFault, maskIn, maskedOf}
+use Rattle.demands.specs.Parity.{SolidNumber, VertexOf, Outside, Parity, Route, Asked}
+
+module _ (s : List ℕ) (ok : judged s ≡ Accepted) where
+  pub scene-weighted : Weighted (verts s + 1) (row (tablesOf s))
+  scene-weighted i a b = weighted limits s ok i a (omega (arith, points-are s))
+
+  solid-a : Solid (verts s + 1) 0 (vertsA s) (run (face (tablesOf s)) (0 + 1) (facesA s))
+  solid-a = solid-by-edges _ (omega arith) (each-of-a limits s ok) (edges-of-a limits s ok)
+
+  solid-b : Solid (verts s + 1) (vertsA s) (verts s) (run (face (tablesOf s)) (facesA s + 1) (facesB s))
+  solid-b = solid-by-edges _ (omega arith) (each-of-b limits s ok) (edges-of-b limits s ok)
+
+module _ {s : List ℕ} {k u v w : ℕ} (h : Outside s k u v w) where
+  triangle-a : k ≡ 1 → Triangle (verts s + 1) 0 (vertsA s) u v w
+  triangle-a e =
+      record {
+        u-in = h .u-point;
+        v-in = h .v-point;
+        w-in = h .w-point;
+        uv = h .uv;
+        uw = h .uw;
+        vw = h .vw;
+        u-out = λ x. h .u-out (inl (e, omega arith, omega arith));
+        v-out = λ x. h .v-out (inl (e, omega arith, omega arith));
+        w-out = λ x. h .w-out (inl (e, omega arith, omega arith));
+      }
+
+  triangle-b : k ≡ 2 → Triangle (verts s + 1) (vertsA s) (verts s) u v w
+  triangle-b e =
+      record {
+        u-in = h .u-point;
+        v-in = h .v-point;
+        w-in = h .w-point;
+        uv = h .uv;
+        uw = h .uw;
+        vw = h .vw;
+        u-out = λ x. h .u-out (inr (e, omega arith, omega arith));
+        v-out = λ x. h .v-out (inr (e, omega arith, omega arith));
+        w-out = λ x. h .w-out (inr (e, omega arith, omega arith));
+      }
+
+pub parity : Parity
+unfolding maskIn
+parity s ok k (inl e) u v w h = rw e (scene-parity _ _ (scene-weighted s ok) (face (tablesOf s)) 0 (facesA s) (solid-a s ok) u v w (triangle-a h e))
+parity s ok k (inr e) u v w h = rw e (scene-parity _ _ (scene-weighted s ok) (face (tablesOf s)) (facesA s) (facesB s) (solid-b s ok) u v w (triangle-b h e))
+
+pub route : Route
+unfolding maskIn
+route s ok k (inl e) u v w h = rw e (scene-route _ _ (scene-weighted s ok) (face (tablesOf s)) 0 (facesA s) (solid-a s ok) u v w (triangle-a h e))
+route s ok k (inr e) u v w h = rw e (scene-route _ _ (scene-weighted s ok) (face (tablesOf s)) (facesA s) (facesB s) (solid-b s ok) u v w (triangle-b h e))
+
+-- ---- the questions are not refused
+
+module _ (s : List ℕ) (k i : ℕ) where
+  point : Upto (verts s + 1) i → isPoint s i ≡ true
+  unfolding isPoint
+  point h = within-iff 1 (verts s + 1) i .1 h
+
+  out : SolidNumber k → (VertexOf s k i → ⊥) → 1 ≤ i → isVertexOf s k i ≡ false
+  unfolding isVertexOf
+  out (inl e) n l = rw e (fails-iff (leb i (vertsA s)) (leb-iff i (vertsA s)) .1 (λ h. n (inl (e, l, h))))
+  out (inr e) n l = rw e (fails-iff (within (vertsA s + 1) (verts s) i) (within-iff (vertsA s + 1) (verts s) i) .1 (λ h. n (inr (e, h .0, h .1))))
+
+solid-asked : {k : ℕ} → SolidNumber k → within 1 2 k ≡ true
+solid-asked {k} (inl e) = within-iff 1 2 k .1 (omega arith, omega arith)
+solid-asked {k} (inr e) = within-iff 1 2 k .1 (omega arith, omega arith)
+
+pub asked : Asked
+unfolding maskedOf maskFault maskAsked maskOutside answered rule andThen
+asked s ok k n u v w h =
+    rw (
+      ok,
+      point s k u (h .u-point),
+      point s k v (h .v-point),
+      solid-asked n,
+      ne-eqb u v (h .uv),
+      out s k u n (h .u-out) (h .u-point .0),
+      out s k v n (h .v-out) (h .v-point .0),
+    )

@@ -1,0 +1,270 @@
+// The stop-watch: makes scenes, checks that the kernel and the engine answer the same, and prints what each takes. Both are handed the bytes, and
+// each time is the least of several rounds in which the two take turns.
+#include <algorithm>
+#include <chrono>
+#include <cmath>
+#include <cstdio>
+#include <cstdlib>
+#include <random>
+#include <vector>
+
+#include "bodhranhaze.h"
+#include "engine.hpp"
+
+namespace {
+
+using Bytes = std::vector<std::uint8_t>;
+
+// ---- scenes
+
+struct Vertex {
+  int x, y, z;
+};
+
+// The faces have corners from 1, as in the file.
+struct Solid {
+  std::vector<Vertex> vertices;
+  std::vector<engine::Face> faces;
+};
+
+enum Kind { overlapping, apart, nested, touching, flat, kinds };
+const char* const nameOf[kinds] = {"overlapping", "apart", "nested", "touching", "flat"};
+
+const int sizes[] = {4, 8, 16, 32};
+const int seeds = 5;
+
+// Rings of as many vertices each between two poles: n vertices and 2n - 4 faces; of 4 vertices, a tetrahedron.
+void addFaces(Solid& s, int rings, int around) {
+  auto at = [&](int ring, int i) { return 2 + ring * around + i % around; };
+  int south = 2 + rings * around;
+  for (int i = 0; i < around; i++) {
+    s.faces.push_back({1, at(0, i), at(0, i + 1)});
+    for (int ring = 0; ring + 1 < rings; ring++) {
+      s.faces.push_back({at(ring, i), at(ring + 1, i), at(ring + 1, i + 1)});
+      s.faces.push_back({at(ring, i), at(ring + 1, i + 1), at(ring, i + 1)});
+    }
+    s.faces.push_back({south, at(rings - 1, i + 1), at(rings - 1, i)});
+  }
+}
+
+// A ball around (centre, 0, 0), each vertex at a distance from `least` to 1 times the radius, so that it is not convex.
+Solid ball(std::mt19937& random, int n, double radius, double least, int centre) {
+  const double pi = 3.14159265358979;
+  int rings = n == 32 ? 5 : n == 4 ? 1 : 2, around = n == 4 ? 3 : (n - 2) / rings;
+  double turn = std::uniform_real_distribution<>(0, 2 * pi)(random);
+  std::uniform_real_distribution<> distance(least * radius, radius);
+  Solid s;
+  auto add = [&](double height, double angle) {
+    double d = distance(random), flat = std::sqrt(1 - height * height);
+    s.vertices.push_back({centre + static_cast<int>(d * height), static_cast<int>(d * flat * std::cos(angle)), static_cast<int>(d * flat * std::sin(angle))});
+  };
+  add(1, 0);
+  for (int ring = 0; ring < rings; ring++)
+    for (int i = 0; i < around; i++) add(n == 4 ? -0.3 : std::cos(pi * (ring + 1) / (rings + 1)), turn + 2 * pi * (i + 0.5 * ring) / around);
+  if (n == 4) {
+    s.faces = {{1, 2, 3}, {1, 3, 4}, {1, 4, 2}, {2, 4, 3}};
+  } else {
+    add(-1, 0);
+    addFaces(s, rings, around);
+  }
+  return s;
+}
+
+void putRow(Bytes& b, char first, char second, const Vertex& v) {
+  b.push_back(first);
+  b.push_back(second);
+  for (int n : {v.x, v.y, v.z}) {
+    b.push_back(n & 255);
+    b.push_back(n >> 8 & 255);
+  }
+  b.push_back(1);
+}
+
+Bytes write(const Solid& a, const Solid& b, const Vertex& far) {
+  Bytes out = {'S', 'C'};
+  for (const Solid* s : {&a, &b}) {
+    out.push_back(s->vertices.size());
+    out.push_back(s->faces.size());
+  }
+  putRow(out, 'F', 'P', far);
+  for (const Solid* s : {&a, &b})
+    for (const Vertex& v : s->vertices) putRow(out, 'V', 'X', v);
+  for (const Solid* s : {&a, &b})
+    for (const engine::Face& f : s->faces)
+      for (int n : {int('F'), int('C'), f.p, f.q, f.r}) out.push_back(n);
+  out.push_back('E');
+  out.push_back('N');
+  return out;
+}
+
+Bytes sceneOf(Kind kind, int n, int seed) {
+  std::mt19937 random(1000 * seed + 10 * n + kind);
+  Vertex far = {4091, 4093, 4095};
+  Solid a, b;
+  switch (kind) {
+    case apart:
+      a = ball(random, n, 1200, 0.6, -2200);
+      b = ball(random, n, 1200, 0.6, 2200);
+      break;
+    case nested:
+      a = ball(random, n, 3600, 0.9, 0);
+      b = ball(random, n, 90, 0.6, 0);
+      break;
+    case touching:  // A's cap is cut off flat, and B is its image in the cut: they share corners, edges and faces
+      a = ball(random, n, 1800, 0.7, 0);
+      for (Vertex& v : a.vertices) v.x = std::min(v.x, 300);
+      b = a;
+      for (Vertex& v : b.vertices) v.x = 600 - v.x;
+      for (engine::Face& f : b.faces) std::swap(f.q, f.r);
+      break;
+    default:
+      a = ball(random, n, 1800, 0.6, -500);
+      b = ball(random, n, 1800, 0.6, 500);
+  }
+  if (kind == flat) {  // every point in one plane, the far point too: no determinant of the rows as they are says anything
+    far.z = 0;
+    for (Solid* s : {&a, &b})
+      for (Vertex& v : s->vertices) v.z = 0;
+  }
+  return write(a, b, far);
+}
+
+// ---- the same answers
+
+struct Answers {
+  std::size_t refusal = 0, place = 0, verdict = 4, pairs = 0, inside[2] = {0, 0};
+  std::vector<std::uint16_t> list;
+  bool operator==(const Answers& o) const {
+    return refusal == o.refusal && place == o.place && verdict == o.verdict && pairs == o.pairs && inside[0] == o.inside[0] && inside[1] == o.inside[1] && list == o.list;
+  }
+};
+
+Answers byEngine(const Bytes& b) {
+  engine::Scene s;
+  engine::Refusal r = engine::read(b.data(), b.size(), s);
+  Answers a;
+  a.refusal = r.number;
+  a.place = r.place;
+  if (r.number != 0) return a;
+  a.verdict = engine::verdict(s);
+  engine::list(s, a.list);
+  a.pairs = a.list.size() / 3;
+  for (int k : {0, 1}) a.inside[k] = engine::countInside(s, k);
+  return a;
+}
+
+// A list one place too short must be left as it is, and one with places to spare must be kept behind the listing.
+Answers byKernel(const Bytes& b) {
+  Answers a;
+  a.refusal = bodhranhaze_refusal(b.data(), b.size());
+  a.place = bodhranhaze_place(b.data(), b.size());
+  a.verdict = bodhranhaze_verdict(b.data(), b.size());
+  a.pairs = bodhranhaze_pairs(b.data(), b.size());
+  for (int k : {0, 1}) a.inside[k] = bodhranhaze_inside(b.data(), b.size(), k + 1);
+  const std::uint16_t pattern = 0xABCD;
+  std::vector<std::uint16_t> room(3 * a.pairs + 4, pattern);
+  bool kept = true;
+  if (a.pairs > 0) {
+    kept = bodhranhaze_listing(b.data(), b.size(), room.data(), 3 * a.pairs - 1) == a.pairs;
+    for (std::uint16_t n : room) kept = kept && n == pattern;
+  }
+  kept = kept && bodhranhaze_listing(b.data(), b.size(), room.data(), room.size()) == a.pairs;
+  for (std::size_t i = 3 * a.pairs; i < room.size(); i++) kept = kept && room[i] == pattern;
+  a.list.assign(room.begin(), room.begin() + 3 * a.pairs);
+  if (!kept) a.pairs = ~std::size_t(0);
+  return a;
+}
+
+void printBytes(const Bytes& b) {
+  for (std::uint8_t n : b) std::printf("%02x", n);
+  std::printf("\n");
+}
+
+// Each scene, and the same with a byte changed, at some places.
+int compareAll() {
+  int scenes = 0;
+  std::mt19937 random(7);
+  for (int kind = 0; kind < kinds; kind++)
+    for (int n : sizes)
+      for (int seed = 0; seed < seeds; seed++)
+        for (int damage = 0; damage < 8; damage++, scenes++) {
+          Bytes b = sceneOf(static_cast<Kind>(kind), n, seed);
+          if (damage > 0) b[random() % b.size()] = random() % 256;
+          if (byKernel(b) == byEngine(b)) continue;
+          std::printf("the answers differ: %s, %d vertices\n", nameOf[kind], n);
+          printBytes(b);
+          std::exit(1);
+        }
+  return scenes;
+}
+
+// ---- the time
+
+using Clock = std::chrono::steady_clock;
+
+volatile std::size_t sink;
+
+// Microseconds for one call of f, over as many calls as take some 200 microseconds.
+template <class F>
+double once(F f, int calls) {
+  auto start = Clock::now();
+  for (int i = 0; i < calls; i++) sink = sink + f();
+  return std::chrono::duration<double, std::micro>(Clock::now() - start).count() / calls;
+}
+
+struct Pair {
+  double kernel = 0, engine = 0;
+};
+
+template <class K, class E>
+void add(Pair& total, K kernel, E eng) {
+  int calls = std::max(1, static_cast<int>(200 / (once(kernel, 1) + 0.01)));
+  double k = 1e18, e = 1e18;
+  for (int round = 0; round < 15; round++) {
+    k = std::min(k, once(kernel, calls));
+    e = std::min(e, once(eng, calls));
+  }
+  total.kernel += k;
+  total.engine += e;
+}
+
+void printPair(const Pair& p) { std::printf(" %9.2f %9.2f %5.2f |", p.kernel / seeds, p.engine / seeds, p.kernel / p.engine); }
+
+void printTable() {
+  std::printf("\nMicroseconds a scene: the kernel, the engine, and the ratio.\n");
+  std::printf("All is the listing and both enclosed counts: three calls, each of which judges and decodes, of the kernel; one of the engine.\n\n");
+  std::printf("| %-11s | %8s | %-25s | %-25s | %-25s |\n", "solids", "vertices", "judge", "verdict", "all");
+  std::printf("|-------------|----------|---------------------------|---------------------------|---------------------------|\n");
+  std::vector<std::uint16_t> room(3 * 2 * engine::mostFaces * engine::mostFaces), list;
+  for (int kind = 0; kind < kinds; kind++)
+    for (int n : sizes) {
+      Pair judge, verdict, all;
+      for (int seed = 0; seed < seeds; seed++) {
+        Bytes b = sceneOf(static_cast<Kind>(kind), n, seed);
+        engine::Scene s;
+        auto read = [&] { return engine::read(b.data(), b.size(), s).number; };
+        add(judge, [&] { return bodhranhaze_refusal(b.data(), b.size()); }, read);
+        add(verdict, [&] { return bodhranhaze_verdict(b.data(), b.size()); }, [&] { return read() + engine::verdict(s); });
+        add(all,
+            [&] {
+              return bodhranhaze_listing(b.data(), b.size(), room.data(), room.size()) + bodhranhaze_inside(b.data(), b.size(), 1) +
+                     bodhranhaze_inside(b.data(), b.size(), 2);
+            },
+            [&] {
+              read();
+              engine::list(s, list);
+              return list.size() + engine::countInside(s, 0) + engine::countInside(s, 1);
+            });
+      }
+      std::printf("| %-11s | %8d |", nameOf[kind], n);
+      for (const Pair& p : {judge, verdict, all}) printPair(p);
+      std::printf("\n");
+    }
+}
+
+}  // namespace
+
+int main() {
+  std::printf("%d scenes, and the kernel and the engine answer the same.\n", compareAll());
+  printTable();
+}
