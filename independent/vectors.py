@@ -18,7 +18,7 @@ from judge import LONGEST_SCENE, judge
 from scenes import kind_of_scene, random_scene
 
 CRATE = Path(__file__).resolve().parent.parent / "crates" / "vectors"
-SCENES, PRINTS = CRATE / "data" / "scenes", CRATE / "stdout"
+SCENES, PRINTS = CRATE / "stdin", CRATE / "stdout"
 
 SEED = 5
 REFUSED_KINDS = (

@@ -21,7 +21,7 @@ use Rattle.orient.specs.Signs.{Upto}
 use Rattle.orient.specs.Weighted.{Weighted}
 use Rattle.pierce.specs.Parity.{Solid, Triangle, solid-by-edges}
 use Rattle.pierce.specs.Scene.{scene-parity, scene-route}
-use Rattle.kernel.specs.Answers.{answered, isPoint, isVertexOf, maskAsked, maskOutside, maskFault, maskIn, maskedOf}
+use Rattle.kernel.specs.Answers.{answered, isPoint, isVertexOf, maskAsked, maskOutside, maskFault, maskIn, maskedOf, isSolid}
 use Rattle.demands.specs.Parity.{SolidNumber, VertexOf, Outside, Parity, Route, Asked}
 
 module _ (s : List ℕ) (ok : judged s ≡ Accepted) where
@@ -90,7 +90,7 @@ solid-asked {k} (inl e) = within-iff 1 2 k .1 (omega arith, omega arith)
 solid-asked {k} (inr e) = within-iff 1 2 k .1 (omega arith, omega arith)
 
 pub asked : Asked
-unfolding maskedOf maskFault maskAsked maskOutside answered rule andThen
+unfolding maskedOf maskFault maskAsked isSolid maskOutside answered rule andThen
 asked s ok k n u v w h =
     rw (
       ok,

@@ -1,0 +1,160 @@
+// The question on the command line.
+ghost use Prim.Native.Nat.{_<_};
+use check::same;
+
+pub enum Asked {
+    Unknown,
+    Judge,
+    Sign(usize, usize, usize, usize),
+    Pierces(usize, usize, usize),
+    Mask(usize, usize, usize),
+    Enclosed(usize),
+    Verdict,
+    Record(usize),
+    Counts,
+    Listing,
+    Lent(usize),
+    Why,
+}
+
+enum Number {
+    Is(usize),
+    None,
+}
+
+// Room for a word; a longer one is no question.
+const WORD: usize = 4096;
+
+// n with a digit d behind it. What comes near the largest number counts as the largest: no scene has so many of anything.
+fn with_digit(n: usize, d: usize) -> usize
+    requires { ⌜ d < 10 ⌝ }
+{
+    if n < usize::MAX / 10 {
+        n * 10 + d
+    } else {
+        usize::MAX
+    }
+}
+
+// The whole number that a word of digits writes.
+fn number_in(word: &[u8]) -> Number {
+    if word.len() == 0 {
+        return Number::None;
+    }
+    let mut n: usize = 0;
+    let mut i = 0;
+    while i < word.len() {
+        let b = word[i];
+        if b < b'0' {
+            return Number::None;
+        }
+        if b > b'9' {
+            return Number::None;
+        }
+        n = with_digit(n, (b - b'0') as usize);
+        i += 1;
+    }
+    Number::Is(n)
+}
+
+fn number_at(i: usize) -> Number {
+    let mut word = [0u8; WORD];
+    let n = os::arg(i, &mut word);
+    if os::errno() != 0 {
+        return Number::None;
+    }
+    number_in(&word[..n])
+}
+
+fn without_number(word: &[u8]) -> Asked {
+    if same(word, b"judge") {
+        return Asked::Judge;
+    }
+    if same(word, b"verdict") {
+        return Asked::Verdict;
+    }
+    if same(word, b"counts") {
+        return Asked::Counts;
+    }
+    if same(word, b"listing") {
+        return Asked::Listing;
+    }
+    if same(word, b"why") {
+        return Asked::Why;
+    }
+    Asked::Unknown
+}
+
+fn with_one(word: &[u8]) -> Asked {
+    let Number::Is(n) = number_at(2) else {
+        return Asked::Unknown;
+    };
+    if same(word, b"enclosed") {
+        return Asked::Enclosed(n);
+    }
+    if same(word, b"record") {
+        return Asked::Record(n);
+    }
+    if same(word, b"listing") {
+        return Asked::Lent(n);
+    }
+    Asked::Unknown
+}
+
+fn with_three(word: &[u8]) -> Asked {
+    let Number::Is(u) = number_at(2) else {
+        return Asked::Unknown;
+    };
+    let Number::Is(v) = number_at(3) else {
+        return Asked::Unknown;
+    };
+    let Number::Is(k) = number_at(4) else {
+        return Asked::Unknown;
+    };
+    if same(word, b"pierces") {
+        return Asked::Pierces(u, v, k);
+    }
+    if same(word, b"mask") {
+        return Asked::Mask(u, v, k);
+    }
+    Asked::Unknown
+}
+
+fn with_four(word: &[u8]) -> Asked {
+    let Number::Is(a) = number_at(2) else {
+        return Asked::Unknown;
+    };
+    let Number::Is(b) = number_at(3) else {
+        return Asked::Unknown;
+    };
+    let Number::Is(c) = number_at(4) else {
+        return Asked::Unknown;
+    };
+    let Number::Is(d) = number_at(5) else {
+        return Asked::Unknown;
+    };
+    if same(word, b"sign") {
+        return Asked::Sign(a, b, c, d);
+    }
+    Asked::Unknown
+}
+
+// The question, of `count` words with the program's own.
+fn asked_by(count: usize, word: &[u8]) -> Asked {
+    match count {
+        2 => without_number(word),
+        3 => with_one(word),
+        5 => with_three(word),
+        6 => with_four(word),
+        _ => Asked::Unknown,
+    }
+}
+
+pub fn question() -> Asked {
+    let mut word = [0u8; 16];
+    let n = os::arg(1, &mut word);
+    if os::errno() != 0 {
+        return Asked::Unknown;
+    }
+    asked_by(os::arg_count(), &word[..n])
+}

@@ -1,0 +1,178 @@
+-- A question's rules: the scene's come first, so that the number of a refusal tells which of them gave it; and what the tests of each question decide.
+-- Assumes nothing.
+use mathlib.Core.Path.{_≡_, refl, sym, ap, _∙_}
+use mathlib.Core.Logic.{_⊎_, inl, inr, ⊎-elim, _↔_, Iff·rfl, Iff·trans, Iff·and}
+use mathlib.Core.Bool.{Bool, true, false, not, cond, _&&_, true≢false}
+use mathlib.Core.List.{List}
+use Prim.Native.Nat.{ℕ, suc, _+_, _≤_}
+use native.Mathlib.Omega.{arith}
+use lib.Dec.{eqb, leb}
+use borrow.Author.Tests.{eqb-true, eq-eqb, not-false}
+use Rattle.laws.specs.Decides.{eqb-iff, leb-iff, and-iff, or-iff, fails-iff}
+use Rattle.scene.specs.Limits.{limits}
+use Rattle.scene.specs.Records.{vertsA, verts}
+use Rattle.scene.specs.Tables.{tablesOf, face}
+use Rattle.scene.specs.Faces.{Corner}
+use Rattle.scene.specs.Refusal.{numberOf}
+use Rattle.scene.specs.declared.Face.{Face}
+use Rattle.scene.specs.declared.Refusal.{Refusal}
+use Rattle.scene.specs.declared.Refusal.the-variants.{Room, Lacking, Same}
+use Rattle.judge.specs.Judge.{rule, andThen, within, judged}
+use Rattle.judge.specs.declared.Judged.{Judged}
+use Rattle.judge.specs.declared.Judged.the-variants.{Accepted, Refused}
+use Rattle.rules.specs.Rules.{FileOk}
+use Rattle.rules.specs.Tests.{never, within-iff, then-refused, rule-iff, then-iff}
+use Rattle.rules.specs.Numbers.{Gives, gives-none, gives-rule, gives-wider, rule-here, rule-next, then-here, then-next}
+use Rattle.rules.specs.Parts.{refused-by}
+use Rattle.rules.specs.Accepted.{accepted}
+use Rattle.rules.specs.Refused as table
+use Rattle.edges.specs.Edges.{isCorner}
+use Rattle.kernel.specs.Answers.{answered, isPoint, isFace, other, differ, arePoints, clear, edgeAndFace, isVertexOf, maskAsked, maskOutside, refused, isSolid}
+use Rattle.demands.specs.Words.{SolidNumber, VertexOf, FourPoints, TwoAlike, EdgeAndFace, AlikeOrCorner, EdgeAndSolid, AlikeOrVertex}
+use Rattle.demands.specs.Answers.{Refusals, Never, Always}
+
+-- ---- a test that fails
+
+either-fails : {P Q : Type 0} (a b : Bool) → (a ≡ false) ↔ P → (b ≡ false) ↔ Q → ((a && b) ≡ false) ↔ (P ⊎ Q)
+either-fails false b p q = (λ _. inl (p .0 refl), λ _. refl)
+either-fails {P} {Q} true b p q = (λ e. inr (q .0 e), back)
+  where
+    back : P ⊎ Q → b ≡ false
+    back (inl x) = absurd (true≢false (p .1 x))
+    back (inr y) = q .1 y
+
+not-fails : {P : Type 0} (b : Bool) → (b ≡ true) ↔ P → (not b ≡ false) ↔ P
+not-fails b h = (λ e. h .0 (not-false b e), λ x. ap not (h .1 x))
+
+same-fails : (a b : ℕ) → (other a b ≡ false) ↔ (a ≡ b)
+same-fails a b = not-fails (eqb a b) (eqb-iff a b)
+
+-- ---- the scene's rules, then: the scene has the numbers (p), and no two points are alike (q)
+
+module _ (s : List ℕ) where
+  module _ {Has Alike : Type 0} (p q : Bool) (has : (p ≡ true) ↔ Has) (alike : Has → (q ≡ false) ↔ Alike) where
+    abbrev alone : Judged
+    alone = rule q Same Accepted
+
+    abbrev own : Judged
+    own = rule p Lacking alone
+
+    own-gives : Gives 11 12 own
+    own-gives = gives-rule 11 12 p Lacking alone (omega arith) (gives-rule 11 12 q Same Accepted (omega arith) (gives-none 11 12))
+
+    alone-gives : Gives 12 12 alone
+    alone-gives = gives-rule 12 12 q Same Accepted (omega arith) (gives-none 12 12)
+
+    pub asked : Refusals s (λ r. andThen (judged s) own ≡ Refused r) Has Alike
+    asked =
+        record {
+          scene = λ r h. Iff·trans (then-here (judged s) own r 12 (gives-wider (suc (numberOf r)) 12 (omega arith) (omega arith) own-gives)) (table.refused limits s r);
+          room = λ n e. ⊎-elim (λ k. omega (arith, refused-by limits s (Room n) k)) (λ k. omega (arith, own-gives (Room n) (k .1))) (then-refused (judged s) own (Room n) .0 e);
+          lacking =
+              Iff·trans (then-next (judged s) own Lacking 1 9 (refused-by limits s) (omega arith))
+              (Iff·and (accepted limits s)
+              (Iff·trans (rule-here p Lacking Lacking alone 12 alone-gives) (λ h. fails-iff p has .0 (h .0), λ n. (fails-iff p has .1 n, refl))));
+          same =
+              Iff·trans (then-next (judged s) own Same 1 9 (refused-by limits s) (omega arith))
+              (Iff·trans (Iff·and (accepted limits s) (Iff·trans (rule-next p Lacking Same alone (omega arith)) (Iff·and Iff·rfl (rule-here q Same Same Accepted 13 (gives-none 13 13))))) (
+                λ h. let x = has .0 (h .1 .0) in (h .0, x, alike x .0 (h .1 .1 .0)),
+                λ h. (h .0, (has .1 (h .1), (alike (h .1) .1 (h .2), refl))),
+              ));
+        }
+
+    -- none of them is at fault
+    pub asked-ok : (andThen (judged s) own ≡ Accepted) ↔ (FileOk limits s × Has × ¬ Alike)
+    asked-ok =
+        Iff·trans (then-iff (judged s) own) (Iff·trans (Iff·and (accepted limits s) (Iff·trans (rule-iff p Lacking alone) (Iff·and has (rule-iff q Same Accepted)))) (
+          λ h. (h .0, h .1 .0, λ x. true≢false (sym (h .1 .1 .0) ∙ alike (h .1 .0) .1 x)),
+          λ h. (h .0, (h .1, (passes q (alike (h .1)) (h .2), refl))),
+        ))
+      where
+        passes : (q : Bool) → (q ≡ false) ↔ Alike → ¬ Alike → q ≡ true
+        passes true e n = refl
+        passes false e n = absurd (n (e .0 refl))
+
+  -- no rules of its own
+  pub plain : Refusals s (λ r. judged s ≡ Refused r) Always Never
+  plain =
+      record {
+        scene = λ r h. table.refused limits s r;
+        room = λ n e. omega (arith, refused-by limits s (Room n) e);
+        lacking = (λ e. absurd (omega (arith, refused-by limits s Lacking e)), λ h. absurd (h .1 tt));
+        same = (λ e. absurd (omega (arith, refused-by limits s Same e)), λ h. absurd (h .2));
+      }
+
+  -- said otherwise
+  pub told : {R S : Refusal → Type 0} {Has Alike : Type 0} → ((r : Refusal) → S r ↔ R r) → Refusals s R Has Alike → Refusals s S Has Alike
+  told e t =
+      record {
+        scene = λ r h. Iff·trans (e r) (t .scene r h);
+        room = λ n x. t .room n (e (Room n) .0 x);
+        lacking = Iff·trans (e Lacking) (t .lacking);
+        same = Iff·trans (e Same) (t .same);
+      }
+
+pub nonsense : {X : Type 0} → _≡_ {A = ℕ} 0 1 → X
+nonsense e = absurd (omega arith)
+
+-- an answer is a refusal exactly when something is at fault
+pub answered-iff : {X : Type 0} (refuse : Refusal → X) → ((q r : Refusal) → refuse q ≡ refuse r → q ≡ r) → (x : X) → ((r : Refusal) → ¬ (x ≡ refuse r)) →
+    (j : Judged) (r : Refusal) → (answered refuse j x ≡ refuse r) ↔ (j ≡ Refused r)
+unfolding answered
+answered-iff refuse one x not-refused Accepted r = (λ e. absurd (not-refused r e), λ e. absurd (never e))
+answered-iff refuse one x not-refused (Refused q) r = (λ e. ap Refused (one q r e), λ e. let d : q ≡ r = cc in ap refuse d)
+
+-- and it is another answer exactly when nothing is
+pub answered-ok : {X : Type 0} (refuse : Refusal → X) (v : X) → ((r : Refusal) → ¬ (refuse r ≡ v)) → (j : Judged) (x : X) → (answered refuse j x ≡ v) ↔ ((j ≡ Accepted) × (x ≡ v))
+unfolding answered
+answered-ok refuse v n Accepted x = (λ e. (refl, e), λ h. h .1)
+answered-ok refuse v n (Refused r) x = (λ e. absurd (n r e), λ h. absurd (never (sym (h .0))))
+
+-- ---- what each question asks of its numbers
+
+pub corner-iff : (i : ℕ) (f : Face) → (isCorner i f ≡ true) ↔ Corner i f
+unfolding isCorner
+corner-iff i f = or-iff _ _ (eqb-iff (f .p) i) (or-iff _ _ (eqb-iff (f .q) i) (eqb-iff (f .r) i))
+
+module _ (s : List ℕ) where
+  pub points-iff : (a b c d : ℕ) → (arePoints s a b c d ≡ true) ↔ FourPoints s a b c d
+  unfolding arePoints isPoint
+  points-iff a b c d = (
+    λ e. let h = simp (and-iff, within-iff) at e in (h .0, h .1 .0, h .1 .1 .0, h .1 .1 .1),
+    λ h. simp (and-iff, within-iff) (h .0, (h .1, (h .2, h .3))),
+  )
+
+  pub edge-iff : (u v f : ℕ) → (edgeAndFace s u v f ≡ true) ↔ EdgeAndFace s u v f
+  unfolding edgeAndFace isPoint isFace
+  edge-iff u v f = (λ e. let h = simp (and-iff, within-iff) at e in (h .0, h .1 .0, h .1 .1), λ h. simp (and-iff, within-iff) (h .0, (h .1, h .2)))
+
+  pub mask-iff : (u v k : ℕ) → (maskAsked s u v k ≡ true) ↔ EdgeAndSolid s u v k
+  unfolding maskAsked isPoint isSolid
+  mask-iff u v k = (λ e. let h = simp (and-iff, within-iff) at e in (h .0, h .1 .0, h .1 .1), λ h. simp (and-iff, within-iff) (h .0, (h .1, h .2)))
+
+  vertex-iff : (k i : ℕ) → SolidNumber k → 1 ≤ i → (isVertexOf s k i ≡ true) ↔ VertexOf s k i
+  unfolding isVertexOf
+  vertex-iff k i h from = go (eqb k 1) refl
+    where
+      go : (b : Bool) → eqb k 1 ≡ b → (cond b (leb i (vertsA s)) (within (vertsA s + 1) (verts s) i) ≡ true) ↔ VertexOf s k i
+      go true e =
+          let one : k ≡ 1 = eqb-true k 1 e in
+          (λ t. inl (one, (from, leb-iff i (vertsA s) .0 t)), ⊎-elim (λ x. leb-iff i (vertsA s) .1 (x .1 .1)) (λ x. absurd (omega (arith, x .0))))
+      go false e =
+          let two : ¬ (k ≡ 1) = λ x. true≢false (sym (eq-eqb k 1 x) ∙ e) in
+          (λ t. inr (omega arith, within-iff (vertsA s + 1) (verts s) i .0 t), ⊎-elim (λ x. absurd (two (x .0))) (λ x. within-iff (vertsA s + 1) (verts s) i .1 (x .1)))
+
+  pub alike-points : (a b c d : ℕ) → (differ a b c d ≡ false) ↔ TwoAlike a b c d
+  unfolding differ
+  alike-points a b c d =
+      either-fails _ _ (same-fails a b) (either-fails _ _ (same-fails a c) (either-fails _ _ (same-fails a d)
+      (either-fails _ _ (same-fails b c) (either-fails _ _ (same-fails b d) (same-fails c d)))))
+
+  pub alike-corner : (u v f : ℕ) → (clear u v (face (tablesOf s) f) ≡ false) ↔ AlikeOrCorner s u v f
+  unfolding clear
+  alike-corner u v f = either-fails _ _ (same-fails u v) (either-fails _ _ (not-fails _ (corner-iff u _)) (not-fails _ (corner-iff v _)))
+
+  pub alike-vertex : (u v k : ℕ) → EdgeAndSolid s u v k → (maskOutside s u v k ≡ false) ↔ AlikeOrVertex s u v k
+  unfolding maskOutside
+  alike-vertex u v k h =
+      either-fails _ _ (same-fails u v) (either-fails _ _ (not-fails _ (vertex-iff k u (h .2) (h .0 .0))) (not-fails _ (vertex-iff k v (h .2) (h .1 .0))))

@@ -1,0 +1,48 @@
+use native.Mathlib.Omega.{arith}
+use lib.ListN.{length-take}
+use borrow.Author.Needs.{needs}
+use Rattle.print.proofs.listings.lend.Statement.{statement}
+use Rattle.print.proofs.listings.lend.Tie as tie
+use Rattle.print.proofs.listings.lend.Reads as reads
+use Rattle.print.proofs.listings.lend.Lts as lts
+use Rattle.kernel.proofs.lists.listing.Reads as listing-reads
+use Rattle.print.proofs.listings.fill.Reads as fill-reads
+use Rattle.print.proofs.listings.least.Reads as least-reads
+use Rattle.print.proofs.listings.say_listed.Reads as say-listed-reads
+
+fill-requires : tie.Need-fill-requires
+fill-requires c κs = search needs
+
+least-requires : tie.Need-least-requires
+least-requires c κs = search needs
+
+slice-relend-prefix-listing : tie.Need-slice-relend-prefix-listing
+slice-relend-prefix-listing c = search needs
+
+slice-aggregate-listing : tie.Need-slice-aggregate-listing
+slice-aggregate-listing c = simp length-take (omega arith)
+
+listing-requires : tie.Need-listing-requires
+listing-requires c κs = search needs
+
+say-listed-requires : tie.Need-say-listed-requires
+say-listed-requires c κs = search needs
+
+same-length : tie.Need-same-length
+same-length c = search needs
+
+returns : tie.Need-returns
+returns c = search needs
+
+pub lend-spec : {M : Type 1} → statement M
+lend-spec =
+    tie.close
+    (tie.spec
+    fill-requires
+    least-requires
+    slice-relend-prefix-listing
+    slice-aggregate-listing
+    listing-requires
+    say-listed-requires
+    same-length
+    returns)

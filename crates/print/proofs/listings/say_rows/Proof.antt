@@ -1,0 +1,96 @@
+use Prim.Native.Nat.{ℕ, _+_, _*_, _/_, _≤_, _<_, _-_}
+use mathlib.Core.Path.{_≡_, refl}
+use native.Mathlib.Omega.{arith}
+use borrow.Author.Needs.{needs}
+use lib.ListN.{length}
+use Rattle.print.proofs.listings.say_rows.Statement.{statement}
+use Rattle.print.proofs.listings.say_rows.Tie as tie
+use Rattle.print.proofs.listings.say_rows.Reads as reads
+use Rattle.print.proofs.listings.say_rows.Lts as lts
+use Rattle.print.proofs.listings.least.Reads as least-reads
+use Rattle.print.proofs.listings.say_row.Reads as say-row-reads
+
+abbrev Inv-loop : tie.InvT-loop
+Inv-loop l n m i₀ i = (i ≤ m) × (3 * m ≤ length l)
+
+abbrev μ-loop : tie.MeasureT-loop
+μ-loop l n m i₀ i = m - i
+
+least-requires : tie.Need-least-requires Inv-loop μ-loop
+least-requires c κs = search needs
+
+loop-holds : tie.Need-loop-holds Inv-loop μ-loop
+loop-holds c = search needs
+
+mul-say-row : tie.Need-mul-say-row Inv-loop μ-loop
+mul-say-row c = search needs
+
+mul-say-row-2 : tie.Need-mul-say-row-2 Inv-loop μ-loop
+mul-say-row-2 c = search needs
+
+shared-slice-read-say-row : tie.Need-shared-slice-read-say-row Inv-loop μ-loop
+shared-slice-read-say-row c = search needs
+
+mul-say-row-3 : tie.Need-mul-say-row-3 Inv-loop μ-loop
+mul-say-row-3 c = search needs
+
+add-say-row : tie.Need-add-say-row Inv-loop μ-loop
+add-say-row c = search needs
+
+mul-say-row-4 : tie.Need-mul-say-row-4 Inv-loop μ-loop
+mul-say-row-4 c = search needs
+
+shared-slice-read-say-row-2 : tie.Need-shared-slice-read-say-row-2 Inv-loop μ-loop
+shared-slice-read-say-row-2 c = search needs
+
+mul-say-row-5 : tie.Need-mul-say-row-5 Inv-loop μ-loop
+mul-say-row-5 c = search needs
+
+add-say-row-2 : tie.Need-add-say-row-2 Inv-loop μ-loop
+add-say-row-2 c = search needs
+
+mul-say-row-6 : tie.Need-mul-say-row-6 Inv-loop μ-loop
+mul-say-row-6 c = search needs
+
+shared-slice-read-say-row-3 : tie.Need-shared-slice-read-say-row-3 Inv-loop μ-loop
+shared-slice-read-say-row-3 c = search needs
+
+say-row-requires : tie.Need-say-row-requires Inv-loop μ-loop
+say-row-requires c κs = search needs
+
+add-i : tie.Need-add-i Inv-loop μ-loop
+add-i c = search needs
+
+loop-less : tie.Need-loop-less Inv-loop μ-loop
+loop-less c = search needs
+
+loop-again : tie.Need-loop-again Inv-loop μ-loop
+loop-again c = search needs
+
+returns : tie.Need-returns Inv-loop μ-loop
+returns c = search needs
+
+pub say-rows-spec : {M : Type 1} → statement M
+say-rows-spec =
+    tie.close
+    (tie.spec
+    Inv-loop
+    μ-loop
+    least-requires
+    loop-holds
+    mul-say-row
+    mul-say-row-2
+    shared-slice-read-say-row
+    mul-say-row-3
+    add-say-row
+    mul-say-row-4
+    shared-slice-read-say-row-2
+    mul-say-row-5
+    add-say-row-2
+    mul-say-row-6
+    shared-slice-read-say-row-3
+    say-row-requires
+    add-i
+    loop-less
+    loop-again
+    returns)

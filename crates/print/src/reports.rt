@@ -1,0 +1,42 @@
+// The report of a scene.
+use crate::answers::say_word;
+use crate::end;
+use crate::listings::say_pairs;
+use crate::number;
+use crate::refusal;
+use crate::text;
+use kernel::counts;
+use kernel::counts::Counted;
+use kernel::counts::Counts;
+use kernel::verdict;
+use scene::Scene;
+use scene::read;
+
+fn say_header(h: Scene) {
+    text(b"scene");
+    number(h.vertices_a);
+    number(h.faces_a);
+    number(h.vertices_b);
+    number(h.faces_b);
+    end();
+}
+
+// Of an accepted scene.
+fn say_all(s: &[u8], c: Counts) {
+    say_header(read::counts(s));
+    say_word(verdict::verdict_of(s));
+    end();
+    text(b"inside");
+    number(c.a_in_b);
+    number(c.b_in_a);
+    end();
+    say_pairs(s, c.pairs);
+}
+
+pub fn say_report(s: &[u8]) {
+    let answer = counts::count(s);
+    match answer {
+        Counted::Refused(r) => refusal(r),
+        Counted::Counts(c) => say_all(s, c),
+    }
+}

@@ -1,0 +1,51 @@
+use Prim.Native.Nat.{ℕ, _+_, _*_, _/_, _≤_, _<_, _-_}
+use mathlib.Core.Path.{_≡_, refl}
+use native.Mathlib.Omega.{arith}
+use borrow.Author.Needs.{needs}
+use lib.ListN.{length}
+use Rattle.vectors.proofs.main.Statement.{statement}
+use Rattle.vectors.proofs.main.Tie as tie
+use Rattle.vectors.proofs.main.Reads as reads
+use Rattle.vectors.proofs.main.Lts as lts
+use Rattle.vectors.proofs.say_entry.Reads as say-entry-reads
+
+abbrev Inv-loop : tie.InvT-loop
+Inv-loop n₀ n = n ≤ 18446744073709551615
+
+abbrev μ-loop : tie.MeasureT-loop
+μ-loop n₀ n = 18446744073709551615 - n
+
+loop-holds : tie.Need-loop-holds Inv-loop μ-loop
+loop-holds c = search needs
+
+say-entry-requires : tie.Need-say-entry-requires Inv-loop μ-loop
+say-entry-requires c κs = search needs
+
+returns : tie.Need-returns Inv-loop μ-loop
+returns c = search needs
+
+add-n : tie.Need-add-n Inv-loop μ-loop
+add-n c = search needs
+
+loop-less : tie.Need-loop-less Inv-loop μ-loop
+loop-less c = search needs
+
+loop-again : tie.Need-loop-again Inv-loop μ-loop
+loop-again c = search needs
+
+returns-2 : tie.Need-returns-2 Inv-loop μ-loop
+returns-2 c = search needs
+
+pub main-spec : {M : Type 1} → statement M
+main-spec =
+    tie.close
+    (tie.spec
+    Inv-loop
+    μ-loop
+    loop-holds
+    say-entry-requires
+    returns
+    add-n
+    loop-less
+    loop-again
+    returns-2)
