@@ -1,7 +1,6 @@
 pub mod Integers
 pub mod Ring
 pub mod Size
-pub mod Bound
 pub mod Bools
 pub mod Range
 pub mod Tests
