@@ -22,8 +22,8 @@ enum Number {
     None,
 }
 
-// Room for a word; a longer one is no question.
-const WORD: usize = 4096;
+// The longest word that the system passes on.
+const WORD: usize = 131072;
 
 // n with a digit d behind it. What comes near the largest number counts as the largest: no scene has so many of anything.
 fn with_digit(n: usize, d: usize) -> usize
