@@ -1,14 +1,10 @@
+-- `ask::why::count_faces` is safe and ends: the count is at most the index.
 use mathlib.Core.Logic.{⊎-elim}
-use Prim.Native.Nat.{ℕ, _+_, _*_, _/_, _≤_, _<_, _-_}
-use mathlib.Core.Path.{_≡_, refl}
+use Prim.Native.Nat.{_≤_, _-_}
 use native.Mathlib.Omega.{arith}
 use borrow.Author.Needs.{needs}
-use lib.ListN.{length}
 use Rattle.ask.proofs.why.count_faces.Statement.{statement}
 use Rattle.ask.proofs.why.count_faces.Tie as tie
-use Rattle.ask.proofs.why.count_faces.Reads as reads
-use Rattle.ask.proofs.why.count_faces.Lts as lts
-use Rattle.ask.proofs.why.is_edge.Reads as is-edge-reads
 
 abbrev Inv-loop : tie.InvT-loop
 Inv-loop s a e v w n₀ i₀ n i = n ≤ i

@@ -1,13 +1,9 @@
-use Prim.Native.Nat.{ℕ, _+_, _*_, _/_, _≤_, _<_, _-_}
-use mathlib.Core.Path.{_≡_, refl}
-use native.Mathlib.Omega.{arith}
+-- `ask::words::number_in` is safe and ends: what is added to the number is a digit.
+use Prim.Native.Nat.{_≤_, _-_}
 use borrow.Author.Needs.{needs}
 use lib.ListN.{length}
 use Rattle.ask.proofs.words.number_in.Statement.{statement}
 use Rattle.ask.proofs.words.number_in.Tie as tie
-use Rattle.ask.proofs.words.number_in.Reads as reads
-use Rattle.ask.proofs.words.number_in.Lts as lts
-use Rattle.ask.proofs.words.with_digit.Reads as with-digit-reads
 
 abbrev Inv-loop : tie.InvT-loop
 Inv-loop word n₀ i₀ n i = i ≤ length word
