@@ -1,13 +1,10 @@
-use Prim.Native.Nat.{ℕ, _+_, _*_, _/_, _≤_, _<_, _-_}
-use mathlib.Core.Path.{_≡_, refl}
-use native.Mathlib.Omega.{arith}
+-- `limits::paste` is safe and ends: the index goes up to the length of what is pasted.
+use Prim.Native.Nat.{_≤_, _-_}
+use mathlib.Core.Path.{_≡_}
 use borrow.Author.Needs.{needs}
 use lib.ListN.{length}
 use Rattle.limits.proofs.paste.Statement.{statement}
 use Rattle.limits.proofs.paste.Tie as tie
-use Rattle.limits.proofs.paste.Reads as reads
-use Rattle.limits.proofs.paste.Lts as lts
-use Rattle.limits.proofs.largest.put.Reads as put-reads
 
 abbrev Inv-loop : tie.InvT-loop
 Inv-loop t s₀ at i₀ s i = (i ≤ length t) × (length s ≡ length s₀)

@@ -1,13 +1,8 @@
-use Prim.Native.Nat.{ℕ, _+_, _*_, _/_, _≤_, _<_, _-_}
-use mathlib.Core.Path.{_≡_, refl}
-use native.Mathlib.Omega.{arith}
+-- `vectors::main` is safe and ends, after as many scenes as a number can count.
+use Prim.Native.Nat.{_≤_, _-_}
 use borrow.Author.Needs.{needs}
-use lib.ListN.{length}
 use Rattle.vectors.proofs.main.Statement.{statement}
 use Rattle.vectors.proofs.main.Tie as tie
-use Rattle.vectors.proofs.main.Reads as reads
-use Rattle.vectors.proofs.main.Lts as lts
-use Rattle.vectors.proofs.say_entry.Reads as say-entry-reads
 
 abbrev Inv-loop : tie.InvT-loop
 Inv-loop n₀ n = n ≤ 18446744073709551615

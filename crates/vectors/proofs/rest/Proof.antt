@@ -1,10 +1,9 @@
+-- `vectors::rest` meets its contract: a remainder is below its divisor.
 use native.Mathlib.Nat.{le-of-lt, mod-lt}
 use native.Mathlib.Omega.{arith}
 use borrow.Author.Needs.{needs}
 use Rattle.vectors.proofs.rest.Statement.{statement}
 use Rattle.vectors.proofs.rest.Tie as tie
-use Rattle.vectors.proofs.rest.Reads as reads
-use Rattle.vectors.proofs.rest.Lts as lts
 
 rem-result : tie.Need-rem-result
 rem-result c = search needs

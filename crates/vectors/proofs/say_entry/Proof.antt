@@ -1,14 +1,9 @@
+-- `vectors::say_entry` is safe: two bytes give no more than the buffer has.
 use native.Mathlib.Omega.{arith}
 use lib.ListN.{length-take}
 use borrow.Author.Needs.{needs}
 use Rattle.vectors.proofs.say_entry.Statement.{statement}
 use Rattle.vectors.proofs.say_entry.Tie as tie
-use Rattle.vectors.proofs.say_entry.Reads as reads
-use Rattle.vectors.proofs.say_entry.Lts as lts
-use Rattle.io.proofs.large_buffer.Reads as large-buffer-reads
-use Rattle.io.proofs.read_full.Reads as read-full-reads
-use Rattle.scene.proofs.read.two.Reads as two-reads
-use Rattle.vectors.proofs.say_next.Reads as say-next-reads
 
 slice-aggregate-read-full : tie.Need-slice-aggregate-read-full
 slice-aggregate-read-full c = search needs

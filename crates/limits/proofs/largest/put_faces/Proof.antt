@@ -1,13 +1,10 @@
-use Prim.Native.Nat.{ℕ, _+_, _*_, _/_, _≤_, _<_, _-_}
-use mathlib.Core.Path.{_≡_, refl}
-use native.Mathlib.Omega.{arith}
+-- `limits::largest::put_faces` is safe and ends: no face begins beyond its bound.
+use Prim.Native.Nat.{_≤_, _-_}
+use mathlib.Core.Path.{_≡_}
 use borrow.Author.Needs.{needs}
 use lib.ListN.{length}
 use Rattle.limits.proofs.largest.put_faces.Statement.{statement}
 use Rattle.limits.proofs.largest.put_faces.Tie as tie
-use Rattle.limits.proofs.largest.put_faces.Reads as reads
-use Rattle.limits.proofs.largest.put_faces.Lts as lts
-use Rattle.limits.proofs.largest.put_one.Reads as put-one-reads
 
 abbrev Inv-loop : tie.InvT-loop
 Inv-loop s₀ at v f i₀ s i = (i ≤ f) × (length s ≡ length s₀)

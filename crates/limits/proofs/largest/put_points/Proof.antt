@@ -1,14 +1,10 @@
-use Prim.Native.Nat.{ℕ, _+_, _*_, _/_, _≤_, _<_, _-_}
-use mathlib.Core.Path.{_≡_, refl}
-use native.Mathlib.Omega.{arith}
+-- `limits::largest::put_points` is safe and ends: no point begins beyond its bound.
+use Prim.Native.Nat.{_+_, _*_, _≤_, _-_}
+use mathlib.Core.Path.{_≡_}
 use borrow.Author.Needs.{needs}
 use lib.ListN.{length}
 use Rattle.limits.proofs.largest.put_points.Statement.{statement}
 use Rattle.limits.proofs.largest.put_points.Tie as tie
-use Rattle.limits.proofs.largest.put_points.Reads as reads
-use Rattle.limits.proofs.largest.put_points.Lts as lts
-use Rattle.limits.proofs.largest.put_point.Reads as put-point-reads
-use Rattle.limits.proofs.largest.weight.Reads as weight-reads
 
 abbrev Inv-loop : tie.InvT-loop
 Inv-loop s₀ v k₀ s k = (k ≤ 2 * v + 1) × (length s ≡ length s₀)

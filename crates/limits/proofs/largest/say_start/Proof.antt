@@ -1,11 +1,9 @@
+-- `limits::largest::say_start` is safe: the start is no longer than the whole.
 use native.Mathlib.Omega.{arith}
 use lib.ListN.{length-take}
 use borrow.Author.Needs.{needs}
 use Rattle.limits.proofs.largest.say_start.Statement.{statement}
 use Rattle.limits.proofs.largest.say_start.Tie as tie
-use Rattle.limits.proofs.largest.say_start.Reads as reads
-use Rattle.limits.proofs.largest.say_start.Lts as lts
-use Rattle.limits.proofs.say.Reads as say-reads
 
 slice-aggregate-say : tie.Need-slice-aggregate-say
 slice-aggregate-say c = simp length-take (omega arith)

@@ -1,14 +1,9 @@
-use Prim.Native.Nat.{ℕ, _+_, _*_, _/_, _≤_, _<_, _-_}
-use mathlib.Core.Path.{_≡_, refl}
-use native.Mathlib.Omega.{arith}
+-- `print::answers::say_bytes` is safe and ends: the index goes up to the length.
+use Prim.Native.Nat.{_≤_, _-_}
 use borrow.Author.Needs.{needs}
 use lib.ListN.{length}
 use Rattle.print.proofs.answers.say_bytes.Statement.{statement}
 use Rattle.print.proofs.answers.say_bytes.Tie as tie
-use Rattle.print.proofs.answers.say_bytes.Reads as reads
-use Rattle.print.proofs.answers.say_bytes.Lts as lts
-use Rattle.print.proofs.number.Reads as number-reads
-use Rattle.scene.proofs.read.byte.Reads as byte-reads
 
 abbrev Inv-loop : tie.InvT-loop
 Inv-loop t i₀ i = i ≤ length t

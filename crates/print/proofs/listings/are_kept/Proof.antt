@@ -1,13 +1,9 @@
-use Prim.Native.Nat.{ℕ, _+_, _*_, _/_, _≤_, _<_, _-_}
-use mathlib.Core.Path.{_≡_, refl}
-use native.Mathlib.Omega.{arith}
+-- `print::listings::are_kept` is safe and ends: the index goes up to the length.
+use Prim.Native.Nat.{_≤_, _-_}
 use borrow.Author.Needs.{needs}
 use lib.ListN.{length}
 use Rattle.print.proofs.listings.are_kept.Statement.{statement}
 use Rattle.print.proofs.listings.are_kept.Tie as tie
-use Rattle.print.proofs.listings.are_kept.Reads as reads
-use Rattle.print.proofs.listings.are_kept.Lts as lts
-use Rattle.print.proofs.listings.pattern.Reads as pattern-reads
 
 abbrev Inv-loop : tie.InvT-loop
 Inv-loop l from i₀ i = from ≤ i

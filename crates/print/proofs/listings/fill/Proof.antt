@@ -1,13 +1,11 @@
-use Prim.Native.Nat.{ℕ, _+_, _*_, _/_, _≤_, _<_, _-_}
-use mathlib.Core.Path.{_≡_, refl}
+-- `print::listings::fill` is safe and ends: each store keeps the list's length, and the index goes up to it.
+use Prim.Native.Nat.{_≤_, _-_}
+use mathlib.Core.Path.{_≡_}
 use native.Mathlib.Omega.{arith}
 use borrow.Author.Needs.{needs}
 use lib.ListN.{length, length-set}
 use Rattle.print.proofs.listings.fill.Statement.{statement}
 use Rattle.print.proofs.listings.fill.Tie as tie
-use Rattle.print.proofs.listings.fill.Reads as reads
-use Rattle.print.proofs.listings.fill.Lts as lts
-use Rattle.print.proofs.listings.pattern.Reads as pattern-reads
 
 abbrev Inv-loop : tie.InvT-loop
 Inv-loop l₀ i₀ l i = (i ≤ length l) × (length l ≡ length l₀)

@@ -1,14 +1,9 @@
+-- `print::listings::lend` is safe: the places that are lent are no more than there are.
 use native.Mathlib.Omega.{arith}
 use lib.ListN.{length-take}
 use borrow.Author.Needs.{needs}
 use Rattle.print.proofs.listings.lend.Statement.{statement}
 use Rattle.print.proofs.listings.lend.Tie as tie
-use Rattle.print.proofs.listings.lend.Reads as reads
-use Rattle.print.proofs.listings.lend.Lts as lts
-use Rattle.kernel.proofs.lists.listing.Reads as listing-reads
-use Rattle.print.proofs.listings.fill.Reads as fill-reads
-use Rattle.print.proofs.listings.least.Reads as least-reads
-use Rattle.print.proofs.listings.say_listed.Reads as say-listed-reads
 
 fill-requires : tie.Need-fill-requires
 fill-requires c κs = search needs

@@ -1,16 +1,10 @@
-use Prim.Native.Nat.{ℕ, _+_, _*_, _/_, _≤_, _<_, _-_}
-use mathlib.Core.Path.{_≡_, refl}
-use native.Mathlib.Omega.{arith}
+-- `print::listings::say_pairs` is safe and ends: each part passes at least one pair, and no more than are left.
+use Prim.Native.Nat.{_≤_, _-_}
+use mathlib.Core.Path.{_≡_}
 use borrow.Author.Needs.{needs}
 use lib.ListN.{length}
 use Rattle.print.proofs.listings.say_pairs.Statement.{statement}
 use Rattle.print.proofs.listings.say_pairs.Tie as tie
-use Rattle.print.proofs.listings.say_pairs.Reads as reads
-use Rattle.print.proofs.listings.say_pairs.Lts as lts
-use Rattle.kernel.proofs.lists.listing_part.Reads as listing-part-reads
-use Rattle.print.proofs.listings.least.Reads as least-reads
-use Rattle.print.proofs.listings.say_count.Reads as say-count-reads
-use Rattle.print.proofs.listings.say_rows.Reads as say-rows-reads
 
 abbrev Inv-loop : tie.InvT-loop
 Inv-loop s n part₀ k₀ part k = (k ≤ n) × (length part ≡ 12288)

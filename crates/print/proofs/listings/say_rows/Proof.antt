@@ -1,14 +1,9 @@
-use Prim.Native.Nat.{ℕ, _+_, _*_, _/_, _≤_, _<_, _-_}
-use mathlib.Core.Path.{_≡_, refl}
-use native.Mathlib.Omega.{arith}
+-- `print::listings::say_rows` is safe and ends: three numbers a row lie within the list.
+use Prim.Native.Nat.{_*_, _≤_, _-_}
 use borrow.Author.Needs.{needs}
 use lib.ListN.{length}
 use Rattle.print.proofs.listings.say_rows.Statement.{statement}
 use Rattle.print.proofs.listings.say_rows.Tie as tie
-use Rattle.print.proofs.listings.say_rows.Reads as reads
-use Rattle.print.proofs.listings.say_rows.Lts as lts
-use Rattle.print.proofs.listings.least.Reads as least-reads
-use Rattle.print.proofs.listings.say_row.Reads as say-row-reads
 
 abbrev Inv-loop : tie.InvT-loop
 Inv-loop l n m i₀ i = (i ≤ m) × (3 * m ≤ length l)
