@@ -70,11 +70,11 @@ def open_edge(rng, parts):
         faces.insert(rng.randint(0, len(faces)), tuple(rng.sample(faces[k], 3)))
 
 
-def doubled(rng, parts):
-    """Every edge in four faces, where there is room for them."""
+def three_times(rng, parts):
+    """A face there twice more, and once more after that: edges in five faces, where there is room for them."""
     _, faces = any_solid(rng, parts)
-    if 2 * len(faces) in FACE_COUNTS:
-        faces += faces
+    if len(faces) + 3 in FACE_COUNTS:
+        faces += 3 * [rng.choice(faces)]
 
 
 def lone_and_open(rng, parts):
@@ -84,7 +84,7 @@ def lone_and_open(rng, parts):
 
 
 TABLE_DAMAGE = (bad_coordinate, bad_coordinate, bad_weight, bad_weight, bad_corner, other_corner,
-                lone_vertex, lone_and_open, open_edge, doubled)
+                lone_vertex, lone_and_open, open_edge, three_times)
 
 
 def set_byte(data, offset, value):

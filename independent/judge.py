@@ -104,11 +104,11 @@ def face_edges(face):
 
 
 def judge_edges(data):
-    """Refusal 9: the lowest face with any edge that is not in exactly two faces of its solid."""
+    """Refusal 9: the lowest face with any edge that is in an odd number of its solid's faces."""
     a, fa, b, _ = data[2:HEADER_BYTES]
     for faces, first_record in zip(stored_faces(data), (2 + a + b, 2 + a + b + fa)):
         edges = [edge for face in faces for edge in face_edges(face)]
         for place, face in enumerate(faces, first_record):
-            if any(edges.count(edge) != 2 for edge in face_edges(face)):
+            if any(edges.count(edge) % 2 for edge in face_edges(face)):
                 return 9, place
     return None

@@ -1,4 +1,4 @@
-"""Closed tables of triangles: every edge in exactly two faces.
+"""Closed tables of triangles: every edge in an even number of faces, in most of them in two.
 
 A table is a list of faces (corners from 1) and a natural place for each vertex: three numbers of
 size about one, so that the table makes a plain body around the origin.
@@ -105,8 +105,25 @@ def parts(rng):
     return faces, places
 
 
+def on_one_edge(rng):
+    """Two to five tetrahedra on one stored edge, each turned round it: that edge is in 4 to 10 faces."""
+    faces, places = [], [(0, 0, -1), (0, 0, 1)]
+    parts = rng.choice((2, 2, 2, 3, 5))
+    for part in range(parts):
+        p, q = len(places) + 1, len(places) + 2
+        faces += [(1, 2, p), (1, 2, q), (1, p, q), (2, p, q)]
+        places += [direction((part + turn) / parts, rng.uniform(-0.5, 0.5)) for turn in (0, 0.4)]
+    return faces, places
+
+
+def stored_again(rng):
+    """Some faces stored four times, or the whole table twice: every edge still in an even number of faces."""
+    faces, places = rng.choice((two_face, tetrahedron, box))(rng)
+    return (faces * 2 if rng.random() < 0.5 else faces + 2 * [rng.choice(faces)]), places
+
+
 FAMILIES = (two_face, tetrahedron, tetrahedron, box, globe, globe, torus, grown, bound_to_cross,
-            stack, parts)
+            stack, parts, on_one_edge, stored_again)
 
 
 def table(rng, least, most):

@@ -68,9 +68,9 @@ struct EdgeCount {
   Byte& of(int i, int j) { return i < j ? faces[i][j] : faces[j][i]; }
 };
 
-inline bool closed(EdgeCount& count, const Face& f) { return count.of(f.p, f.q) == 2 && count.of(f.q, f.r) == 2 && count.of(f.r, f.p) == 2; }
+inline bool closed(EdgeCount& count, const Face& f) { return (count.of(f.p, f.q) | count.of(f.q, f.r) | count.of(f.r, f.p)) % 2 == 0; }
 
-// Rules 8 and 9: every vertex is in a face, and every edge in exactly two of its solid.
+// Rules 8 and 9: every vertex is in a face, and every edge in an even number of its solid's.
 inline Refusal judgeShape(const Scene& s) {
   bool used[mostPoints + 1] = {};
   EdgeCount count;

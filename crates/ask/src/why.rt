@@ -333,7 +333,7 @@ fn count_faces(s: &[u8], a: usize, e: usize, v: usize, w: usize) -> usize
     n
 }
 
-// Whether the side from corner m to corner n of the face in record k is in two faces of its solid; if not, it is told.
+// Whether the side from corner m to corner n of the face in record k is in an even number of its solid's faces; if not, it is told.
 fn is_shared(s: &[u8], k: usize, m: usize, n: usize) -> bool
     requires { ⌜ (k < 1024) × (m ≤ 3) × (n ≤ 3) ⌝ }
 {
@@ -347,7 +347,7 @@ fn is_shared(s: &[u8], k: usize, m: usize, n: usize) -> bool
     } else {
         count_faces(s, a, a + byte(s, 5), v, w)
     };
-    if c == 2 {
+    if c % 2 == 0 {
         return true;
     }
     say_at(k, at + m);
@@ -357,7 +357,7 @@ fn is_shared(s: &[u8], k: usize, m: usize, n: usize) -> bool
     number(w);
     text(b" is in");
     number(c);
-    text(b" of the solid's faces, and it must be in exactly 2");
+    text(b" of the solid's faces, and it must be in an even number");
     false
 }
 

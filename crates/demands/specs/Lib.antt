@@ -9,6 +9,7 @@ pub mod Computing
 pub mod Marked
 pub mod Witnesses
 pub mod Shift
+pub mod Kept
 pub mod AnswersTests
 pub mod AnswersProof
 pub mod AnswersGivenProof
@@ -24,3 +25,4 @@ pub mod MarkedProof
 pub mod WitnessesProof
 pub mod Same
 pub mod ShiftProof
+pub mod KeptProof

@@ -1,5 +1,5 @@
 -- The judge: what is refused, in the order of checking. Assumes nothing.
-use Prim.Native.Nat.{ℕ, _+_, _-_}
+use Prim.Native.Nat.{ℕ, _+_, _-_, _%_}
 use mathlib.Core.List.{List}
 use mathlib.Core.Bool.{Bool, true, false, not, cond, _&&_, _||_}
 use lib.ListN.{length}
@@ -114,17 +114,17 @@ unusedFault s p = rule (isUsed s p) (Unused p) Accepted
 unfoldable pub unusedsFault : List ℕ → Judged
 unusedsFault s = firstFault (unusedFault s) 1 (verts s + 1)
 
--- ---- refusal 9: an edge not in exactly two faces of its solid, whose faces are the file's from a up to e
+-- ---- refusal 9: an edge in an odd number of faces of its solid, whose faces are the file's from a up to e
 
 unfoldable pub edgeOk : List ℕ → (a e v w : ℕ) → Bool
-edgeOk s a e v w = eqb (countOf (isEdge s v w) a e) 2
+edgeOk s a e v w = eqb (countOf (isEdge s v w) a e % 2) 0
 
 unfoldable pub sidesOk : List ℕ → (a e i : ℕ) → Bool
 sidesOk s a e i =
     edgeOk s a e (cornerAt s i 0) (cornerAt s i 1)
     && (edgeOk s a e (cornerAt s i 1) (cornerAt s i 2) && edgeOk s a e (cornerAt s i 2) (cornerAt s i 0))
 
--- each side of the file's face i is an edge in exactly two faces of its solid
+-- each side of the file's face i is an edge in an even number of faces of its solid
 unfoldable pub closedAt : List ℕ → ℕ → Bool
 closedAt s i = cond (ltb i (facesA s)) (sidesOk s 0 (facesA s) i) (sidesOk s (facesA s) (faces s) i)
 

@@ -1,6 +1,6 @@
 -- The faces that have a vertex as a corner, as a word: the word of one vertex and that of another have a one in common for each face that has
 -- both. Assumes nothing.
-use Prim.Native.Nat.{ℕ, zero, suc, _+_, _-_, _*_, _^_, _<_}
+use Prim.Native.Nat.{ℕ, zero, suc, _+_, _-_, _*_, _%_, _^_, _<_}
 use mathlib.Core.Path.{_≡_, refl, sym, ap, ap₂, _∙_}
 use mathlib.Core.Bool.{Bool, true, false, _&&_, _||_}
 use mathlib.Core.List.{List}
@@ -137,12 +137,12 @@ ones-count g a n =
     let e : n ≡ a + n - a = omega arith in
     mask-ones g (λ i. i) a n ∙ counted g a n ∙ ap (fold (λ j rest. more (g j) rest) 0 a) e
 
--- v and w lie in exactly two of the faces
-pub in-two : (s : List ℕ) (a n v w : ℕ) (words : List ℕ) → AreWords s a n words → v < places → w < places →
-    eqb (ones (bitAnd (getD words v 0) (getD words w 0))) 2 ≡ edgeOk s a (a + n) v w
+-- v and w lie in an even number of the faces
+pub in-even : (s : List ℕ) (a n v w : ℕ) (words : List ℕ) → AreWords s a n words → v < places → w < places →
+    eqb (ones (bitAnd (getD words v 0) (getD words w 0)) % 2) 0 ≡ edgeOk s a (a + n) v w
 unfolding wordOf isEdge edgeOk
-in-two s a n v w words are hv hw =
-    ap (λ (c : ℕ). eqb c 2)
+in-even s a n v w words are hv hw =
+    ap (λ (c : ℕ). eqb (c % 2) 0)
     (ap ones (ap₂ bitAnd (are .at v hv) (are .at w hw) ∙ and-masks (λ k. isCorner s v (a + k)) (λ k. isCorner s w (a + k)) n)
     ∙ ones-count (isEdge s v w) a n)
 

@@ -3,7 +3,7 @@ ghost use mathlib.Core.Path.{_≡_};
 ghost use Rattle.judge.specs.Judge.{judged};
 use scene::Refusal;
 
-mod edges;
+mod closed;
 mod header;
 mod records;
 mod words;
@@ -23,8 +23,8 @@ pub fn judge(s: &[u8]) -> Judged
     if let Judged::Refused(r) = records::records_fault(s) {
         return Judged::Refused(r);
     }
-    if let Judged::Refused(r) = edges::unuseds_fault(s) {
+    if let Judged::Refused(r) = closed::unuseds_fault(s) {
         return Judged::Refused(r);
     }
-    edges::edges_fault(s)
+    closed::edges_fault(s)
 }

@@ -1,6 +1,6 @@
 // The faces that have a vertex as a corner, as a word for each vertex of a solid, so that the faces of an edge are counted at once.
 ghost use mathlib.Core.Path.{_≡_};
-ghost use Prim.Native.Nat.{_+_, _<_, _≤_};
+ghost use Prim.Native.Nat.{_+_, _%_, _<_, _≤_};
 ghost use lib.Bits.{bitAnd};
 ghost use lib.Count.{ones};
 ghost use lib.Dec.{eqb};
@@ -44,10 +44,10 @@ pub fn words_of(s: &[u8], a: usize, n: usize) -> Words
     words
 }
 
-// Exactly two faces have both v and w as corners.
-pub fn in_two(words: &Words, v: usize, w: usize) -> bool
+// An even number of faces have both v and w as corners.
+pub fn in_even(words: &Words, v: usize, w: usize) -> bool
     requires { ⌜ (v < places) × (w < places) ⌝ }
-    ensures { λ r. ⌜ r ≡ eqb (ones (bitAnd (getD (now (words .entry)) v 0) (getD (now (words .entry)) w 0))) 2 ⌝ }
+    ensures { λ r. ⌜ r ≡ eqb (ones (bitAnd (getD (now (words .entry)) v 0) (getD (now (words .entry)) w 0)) % 2) 0 ⌝ }
 {
-    u64::count_ones(words[v] & words[w]) == 2
+    u64::count_ones(words[v] & words[w]) % 2 == 0
 }

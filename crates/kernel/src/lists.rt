@@ -23,7 +23,7 @@ pub enum Listed {
     Count(usize),
 }
 
-// Room for the longest listing: a face's plane parts two sides of a triangle at most, and each edge is in two faces, so that no more
+// Room for the longest listing: a face's plane parts two sides of a triangle at most, and each edge is in two faces or more, so that no more
 // than as many edges as the solid has faces pierce a face of the other.
 const MOST_PAIRS: usize = 2 * Scene::MOST_FACES * Scene::MOST_FACES;
 

@@ -4,7 +4,7 @@ use mathlib.Core.Path.{_≡_, refl, sym, ap, ap₂, _∙_, subst}
 use mathlib.Core.Logic.{_⊎_, inl, inr, _↔_}
 use mathlib.Core.Bool.{Bool, true, false, not, _||_}
 use mathlib.Core.List.{List, [], _∷_, _++_}
-use Prim.Native.Nat.{ℕ, zero, suc, _+_, _-_, _≤_, _<_}
+use Prim.Native.Nat.{ℕ, zero, suc, _+_, _-_, _%_, _≤_, _<_}
 use native.Mathlib.Omega.{arith}
 use native.Mathlib.Decide.{ℕ-discrete}
 use lib.ListN.{length, getD}
@@ -29,6 +29,10 @@ module _ {A : Type 0} where
     none : Number P [] 0
     one-more : {x : A} {xs : List A} {n : ℕ} → P x → Number P xs n → Number P (x ∷ xs) (suc n)
     not-this : {x : A} {xs : List A} {n : ℕ} → (P x → ⊥) → Number P xs n → Number P (x ∷ xs) n
+
+  -- an even number of the list are so
+  abbrev pub Even : (A → Type 0) → List A → Type 0
+  Even P xs = (n : ℕ) × Number P xs n × (n % 2 ≡ 0)
 
   pub each-map : {P Q : A → Type 0} → ((x : A) → P x → Q x) → (xs : List A) → Each P xs → Each Q xs
   each-map m [] h = tt
@@ -70,6 +74,12 @@ module _ {A : Type 0} where
 
   pub number-iff : (P : A → Type 0) (g : A → Bool) → ((x : A) → (g x ≡ true) ↔ P x) → (xs : List A) (n : ℕ) → (count g xs ≡ n) ↔ Number P xs n
   number-iff P g e xs n = (λ h. subst (Number P xs) h (number-count P g e xs), λ h. number-once (number-count P g e xs) h)
+
+  pub even-iff : (P : A → Type 0) (g : A → Bool) → ((x : A) → (g x ≡ true) ↔ P x) → (xs : List A) → (count g xs % 2 ≡ 0) ↔ Even P xs
+  even-iff P g e xs = (
+    λ h. (count g xs, number-count P g e xs, h),
+    λ h. ap (λ (n : ℕ). n % 2) (number-once (number-count P g e xs) (h .1)) ∙ h .2,
+  )
 
   -- ---- f at n numbers from k on
 

@@ -98,6 +98,13 @@ pub oddN-mod : (n : ℕ) → digit (oddN n) ≡ n % 2
 oddN-mod zero = refl
 oddN-mod (suc n) = omega (arith, oddN-mod n, digit-not (oddN n))
 
+pub not-odd : (n : ℕ) → n % 2 ≡ 0 → oddN n ≡ false
+not-odd n h = go (oddN n) (oddN-mod n)
+  where
+    go : (b : Bool) → digit b ≡ n % 2 → b ≡ false
+    go true e = absurd (omega arith)
+    go false e = refl
+
 -- they are odd in number exactly where the test passes at an odd number of places
 pub mask-odd : {K : Type 0} (t : K → Bool) (f : ℕ → K) (k n : ℕ) → ones (maskOf (λ i. t (f (k + i))) n) % 2 ≡ digit (odd t (run f k n))
 mask-odd t f k n = ap (λ (m : ℕ). m % 2) (mask-ones t f k n) ∙ sym (oddN-mod (count t (run f k n))) ∙ ap digit (odd-count t (run f k n))

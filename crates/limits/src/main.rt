@@ -140,9 +140,19 @@ fn edges() {
     changed(b"B open", 124, b"\x01\x02\x03");
     changed(b"A open and B open", 104, b"\x01\x02\x03FC\x01\x02\x04");
     changed(
-        b"edges in four faces of A",
+        b"an edge in four faces of A",
         87,
         b"FC\x01\x02\x03FC\x01\x02\x03FC\x01\x02\x04FC\x01\x02\x04",
+    );
+    changed(
+        b"edges in three faces of A",
+        87,
+        b"FC\x01\x02\x03FC\x01\x02\x03FC\x01\x02\x03FC\x01\x02\x04",
+    );
+    changed(
+        b"an edge in four faces of B",
+        119,
+        b"\x01\x02\x04FC\x01\x02\x03",
     );
     changed(b"corners in another order", 109, b"\x03\x02\x01");
 }

@@ -11,8 +11,9 @@ use native.Mathlib.Decide.{ℕ-discrete}
 use lib.Dec.{T, eqb, eqb→eq, eqb-refl}
 use borrow.Author.Tests.{eq-eqb}
 use Rattle.laws.specs.Bools.{_⊕_, all, _≐_, law, both, left, right}
-use Rattle.laws.specs.Even.{odd, even-sum, oddN, odd-count}
-use Rattle.laws.specs.Lists.{Each, odd-each, number-iff}
+use Rattle.laws.specs.Even.{odd, even-sum, count, odd-count}
+use Rattle.laws.specs.Lists.{Each, odd-each, even-iff}
+use Rattle.laws.specs.Mask.{not-odd}
 use Rattle.scene.specs.declared.Face.{Face}
 use Rattle.scene.specs.Faces.{Both, Proper, Sides, EdgeOk, EdgesOk}
 
@@ -158,9 +159,9 @@ has-both i j d f = (to, from)
     from (inr (inr a), inr (inl b)) = second (inr (b, a))
     from (inr (inr a), inr (inr b)) = absurd (d (sym a ∙ b))
 
--- the one place that counts: two is even
 edge-even : (fs : List Face) (i j : ℕ) → i ≢ j → EdgeOk fs i j → odd (hasEdge (edge i j)) fs ≡ false
-edge-even fs i j d h = sym (odd-count (hasEdge (edge i j)) fs) ∙ ap oddN (number-iff (Both i j) (hasEdge (edge i j)) (has-both i j d) fs 2 .1 h)
+edge-even fs i j d h =
+    sym (odd-count (hasEdge (edge i j)) fs) ∙ not-odd (count (hasEdge (edge i j)) fs) (even-iff (Both i j) (hasEdge (edge i j)) (has-both i j d) fs .1 h)
 
 -- an edge of no face lies in none; an edge of a face is covered by the rule
 module _ (all : List Face) (e : Edge) where

@@ -3,13 +3,13 @@ use mathlib.Core.Path.{_≡_, refl, subst}
 use mathlib.Core.Logic.{_↔_, Iff·trans, Iff·and}
 use mathlib.Core.Bool.{Bool, true, _&&_, _||_}
 use mathlib.Core.List.{List}
-use Prim.Native.Nat.{ℕ, _-_, _≤_, _<_}
+use Prim.Native.Nat.{ℕ, _-_, _%_, _≤_, _<_}
 use native.Mathlib.Omega.{arith}
 use native.Mathlib.Decide.{decLt}
 use lib.Dec.{eqb}
 use Rattle.laws.specs.Decides.{and-iff, or-iff, eqb-iff}
 use Rattle.laws.specs.Range.{anyOf, countOf}
-use Rattle.laws.specs.Lists.{Some, run, any-iff, count-run, number-iff}
+use Rattle.laws.specs.Lists.{Some, run, any-iff, count-run, even-iff}
 use Rattle.scene.specs.Records.{vertsA, verts, facesA, facesB, faces}
 use Rattle.scene.specs.Tables.{faceAt, tablesOf}
 use Rattle.scene.specs.Faces.{Corner, Both, Sides, EdgeOk}
@@ -45,8 +45,8 @@ module _ (s : List ℕ) where
     edge-iff : (v w : ℕ) → (edgeOk s a e v w ≡ true) ↔ EdgeOk fs v w
     unfolding edgeOk isEdge isCorner
     edge-iff v w =
-        Iff·trans (eqb-iff (countOf (isEdge s v w) a e) 2)
-        (rw (count-run (faceAt s) (hasBoth v w) (isEdge s v w) a e n long (λ i. refl)) (number-iff (Both v w) (hasBoth v w) (both-iff v w) fs 2))
+        Iff·trans (eqb-iff (countOf (isEdge s v w) a e % 2) 0)
+        (rw (count-run (faceAt s) (hasBoth v w) (isEdge s v w) a e n long (λ i. refl)) (even-iff (Both v w) (hasBoth v w) (both-iff v w) fs))
 
     sides-iff : (i : ℕ) → (sidesOk s a e i ≡ true) ↔ Sides (EdgeOk fs) (faceAt s i)
     unfolding sidesOk

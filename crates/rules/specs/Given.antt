@@ -43,10 +43,13 @@ module _ (m : ℕ) where
   face-raised v f h = omega arith
 
   edge-raised : (fs : List Face) (i j : ℕ) → EdgeOk fs i j → EdgeOk (map (raise m) fs) (m + i) (m + j)
-  edge-raised fs i j =
-      number-mapped (Both i j) (Both (m + i) (m + j)) (raise m) (λ f.
-      let a = corner-raised i f in
-      let b = corner-raised j f in (λ h. (a .0 (h .0), b .0 (h .1)), λ h. (a .1 (h .0), b .1 (h .1))))
+  edge-raised fs i j h = (
+    h .0,
+    number-mapped (Both i j) (Both (m + i) (m + j)) (raise m) (λ f.
+        let a = corner-raised i f in
+        let b = corner-raised j f in (λ h. (a .0 (h .0), b .0 (h .1)), λ h. (a .1 (h .0), b .1 (h .1)))) (h .1),
+    h .2,
+  )
 
   edges-raised : (fs : List Face) → EdgesOk fs → EdgesOk (map (raise m) fs)
   edges-raised fs =
@@ -159,7 +162,7 @@ module _ (l : Limits) (s : List ℕ) (ok : judgedAt l s ≡ Accepted) where
       (subst (λ (i : ℕ). Some (Corner i) (map (raise (vertsA s)) (tablesOf s .b .faces))) e
       (some-mapped (Corner v) (Corner (vertsA s + v)) (raise (vertsA s)) (λ f. corner-raised (vertsA s) v f .0) (tablesOf s .b .faces) u))
 
-  -- ---- each edge lies in exactly two faces of its solid
+  -- ---- each edge lies in an even number of faces of its solid
 
   pub edges-of-a : EdgesOk (run (face (tablesOf s)) 1 (facesA s))
   edges-of-a = rw (faces-a s) (tables-ok .a .edges)

@@ -82,7 +82,7 @@ pub record Used (s : List ℕ) (p : ℕ) : Type 0 where
 abbrev pub AllUsed : List ℕ → Type 0
 AllUsed s = (p : ℕ) → 1 ≤ p → p ≤ verts s → Used s p
 
--- ---- each side of the file's face i is an edge in exactly two faces of its solid (refusal 9)
+-- ---- each side of the file's face i is an edge in an even number of faces of its solid (refusal 9)
 
 pub record SidesOk (s : List ℕ) (i : ℕ) : Type 0 where
   pub of-a : i < facesA s → Sides (EdgeOk (tablesOf s .a .faces)) (faceAt s i)

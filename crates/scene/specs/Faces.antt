@@ -1,9 +1,9 @@
--- Faces and their edges: corners, sides, and the rule that an edge lies in two faces of its solid. Assumes nothing.
+-- Faces and their edges: corners, sides, and the rule that an edge lies in an even number of its solid's faces. Assumes nothing.
 use mathlib.Core.Path.{_≡_}
 use mathlib.Core.Logic.{_≢_, _⊎_}
 use mathlib.Core.List.{List}
 use Prim.Native.Nat.{ℕ, _≤_, _<_}
-use Rattle.laws.specs.Lists.{Each, Number}
+use Rattle.laws.specs.Lists.{Each, Even}
 use Rattle.scene.specs.declared.Face.{Face}
 
 -- i is a corner of the face; i and j are
@@ -33,9 +33,9 @@ pub record FaceOf (low high : ℕ) (f : Face) : Type 0 where
 abbrev pub Sides : (ℕ → ℕ → Type 0) → Face → Type 0
 Sides X f = X (f .p) (f .q) × X (f .q) (f .r) × X (f .r) (f .p)
 
--- the edge of i and j lies in exactly two of the faces
+-- the edge of i and j: the number of faces that have both is even
 abbrev pub EdgeOk : List Face → ℕ → ℕ → Type 0
-EdgeOk fs i j = Number (Both i j) fs 2
+EdgeOk fs i j = Even (Both i j) fs
 
 -- the rule of edges, for each side of each face
 abbrev pub EdgesOk : List Face → Type 0

@@ -1,0 +1,81 @@
+-- What the change requests left as it was: scenes accepted before are accepted still, with the same answers. Assumes nothing.
+use mathlib.Core.Path.{_≡_}
+use mathlib.Core.List.{List}
+use Prim.Native.Nat.{ℕ, _+_, _*_, _≤_, _<_}
+use lib.Count.{ones}
+use lib.Dec.{leb}
+use lib.ListN.{length}
+use Rattle.laws.specs.Lists.{Number}
+use Rattle.scene.specs.Limits.{limits}
+use Rattle.scene.specs.Records.{facesA, verts, faces}
+use Rattle.scene.specs.Tables.{faceAt, tablesOf, row, face}
+use Rattle.scene.specs.Faces.{Both, Sides}
+use Rattle.scene.specs.declared.Refusal.the-variants.{Room, Lacking, Same}
+use Rattle.judge.specs.Judge.{rule, judged}
+use Rattle.judge.specs.declared.Judged.{Judged}
+use Rattle.judge.specs.declared.Judged.the-variants.{Accepted}
+use Rattle.rules.specs.Rules.{HeaderOk, RecordsOk, AllUsed}
+use Rattle.orient.specs.Terms.{positiveAt, termsAt}
+use Rattle.pierce.specs.Formula.{pierced}
+use Rattle.listing.specs.Pour.{allIn, partIn}
+use Rattle.kernel.specs.Scene.{listingOf}
+use Rattle.kernel.specs.Answers.{answered, arePoints, differ, signOf, yesNo, edgeAndFace, clear, piercesOf, maskAsked, maskOutside, maskIn, refused, faces-are, maskedOf, isVertex, isEnclosed, enclosedOf, countsIn, countedOf, verdictIn, verdictOf, IsListed, IsPart}
+use Rattle.kernel.specs.declared.points.Signed.the-variants as sign
+use Rattle.kernel.specs.declared.points.Answer.the-variants as answer
+use Rattle.kernel.specs.declared.counts.Counted.the-variants as counted
+use Rattle.kernel.specs.declared.lists.Listed.{Listed}
+use Rattle.kernel.specs.declared.lists.Listed.the-variants as listed
+
+-- ---- the answers about a scene that is accepted: nothing on the right of an equation asks the judge, so they are the same whatever rules accepted it
+
+module _ (s : List ℕ) where
+  abbrev signAsked : (a b c d : ℕ) → Judged
+  signAsked a b c d = rule (arePoints s a b c d) Lacking (rule (differ a b c d) Same Accepted)
+
+  abbrev piercesAsked : (u v f : ℕ) → Judged
+  piercesAsked u v f = rule (edgeAndFace s u v f) Lacking (rule (clear u v (face (tablesOf s) f)) Same Accepted)
+
+  abbrev maskRules : (u v k : ℕ) → Judged
+  maskRules u v k = rule (maskAsked s u v k) Lacking (rule (maskOutside s u v k) Same Accepted)
+
+  abbrev roomFor : List ℕ → Judged
+  roomFor d = rule (leb (3 * length (listingOf s)) (length d)) (Room (length (listingOf s))) Accepted
+
+  pub record ListedStill (d d′ : List ℕ) (r : Listed) : Type 0 where
+    pub answer : r ≡ answered listed.Refused (roomFor d) (listed.Count (length (listingOf s)))
+    pub held : d′ ≡ answered (λ _. d) (roomFor d) (allIn (listingOf s) d)
+
+  pub record PartStill (from : ℕ) (d d′ : List ℕ) (r : Listed) : Type 0 where
+    pub answer : r ≡ listed.Count (length (listingOf s))
+    pub held : d′ ≡ partIn (listingOf s) from d
+
+  pub record Answers : Type 0 where
+    pub sign : (a b c d : ℕ) →
+        signOf s a b c d ≡ answered sign.Refused (signAsked a b c d) (sign.Sign (termsAt (row (tablesOf s)) a b c d) (positiveAt (row (tablesOf s)) a b c d))
+    pub pierces : (u v f : ℕ) →
+        piercesOf s u v f ≡ answered answer.Refused (piercesAsked u v f) (yesNo (pierced (verts s + 1) (row (tablesOf s)) u v (face (tablesOf s) f)))
+    pub mask : (u v k : ℕ) → maskedOf s u v k ≡ answered refused (maskRules u v k) (faces-are (maskIn s u v k) (ones (maskIn s u v k)))
+    pub enclosed : (i : ℕ) → enclosedOf s i ≡ answered answer.Refused (rule (isVertex s i) Lacking Accepted) (yesNo (isEnclosed s i))
+    pub counts : countedOf s ≡ counted.Counts (countsIn s)
+    pub verdict : verdictOf s ≡ verdictIn s
+    pub listing : (d d′ : List ℕ) (r : Listed) → IsListed s d d′ r → ListedStill d d′ r
+    pub part : (from : ℕ) (d d′ : List ℕ) (r : Listed) → IsPart s from d d′ r → PartStill from d d′ r
+
+  pub record Still : Type 0 where
+    pub accepted : judged s ≡ Accepted
+    pub answers : Answers
+
+  -- ---- before two blocks might share an edge: each side of the file's face i was an edge in exactly two faces of its solid
+
+  pub record InTwo (i : ℕ) : Type 0 where
+    pub of-a : i < facesA s → Sides (λ v w. Number (Both v w) (tablesOf s .a .faces) 2) (faceAt s i)
+    pub of-b : facesA s ≤ i → Sides (λ v w. Number (Both v w) (tablesOf s .b .faces) 2) (faceAt s i)
+
+  pub record RulesOfTwo : Type 0 where
+    pub header : HeaderOk limits s
+    pub records : RecordsOk limits s
+    pub used : AllUsed s
+    pub sides : (i : ℕ) → i < faces s → InTwo i
+
+abbrev pub SharedEdges : Type 0
+SharedEdges = (s : List ℕ) → RulesOfTwo s → Still s

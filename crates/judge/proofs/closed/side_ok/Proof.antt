@@ -1,0 +1,28 @@
+-- The two corners are read, and the faces of both are counted.
+use denote.Ref.{now}
+use Prim.Native.Nat.{_+_}
+use mathlib.Core.Path.{_∙_}
+use Rattle.judge.specs.Judge.{edgeOk}
+use borrow.Author.Needs.{needs}
+use Rattle.judge.specs.Words.{in-even}
+use Rattle.judge.proofs.closed.side_ok.Statement.{statement}
+use Rattle.judge.proofs.closed.side_ok.Tie as tie
+
+corner-requires : tie.Need-corner-requires
+corner-requires c κs = search needs
+
+corner-requires-2 : tie.Need-corner-requires-2
+corner-requires-2 c κs = search needs
+
+in-even-requires : tie.Need-in-even-requires
+in-even-requires c κs = search needs
+
+returns : tie.Need-returns
+returns c = λ a k are.
+    let d = c .before in
+    c .in-even .ensures
+    ∙ in-even _ _ _ _ _ _ are (d .before .corner .ensures .1) (d .corner2 .ensures .1)
+    ∙ (λ j. edgeOk (now (d .before .before .before .args .s)) a (a + k) (d .before .corner .ensures .0 j) (d .corner2 .ensures .0 j))
+
+pub side-ok-spec : {M : Type 1} → statement M
+side-ok-spec = tie.close (tie.spec corner-requires corner-requires-2 in-even-requires returns)
