@@ -18,7 +18,7 @@ use Rattle.scene.specs.declared.Refusal.the-variants.{Opening, Counts, Length, 
 use Rattle.judge.specs.Judge.{rule, andThen, within, judged}
 use Rattle.judge.specs.declared.Judged.{Judged}
 use Rattle.judge.specs.declared.Judged.the-variants.{Accepted, Refused}
-use Rattle.rules.specs.Tests.{within-iff, then-refused}
+use Rattle.judge.specs.Tests.{within-iff, then-refused}
 use Rattle.rules.specs.Numbers.{Gives, gives-none, gives-rule, gives-wider, rule-here, then-here, then-next}
 use Rattle.rules.specs.Parts.{refused-by}
 use Rattle.rules.specs.Accepted.{accepted}

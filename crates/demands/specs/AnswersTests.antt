@@ -21,7 +21,7 @@ use Rattle.judge.specs.Judge.{rule, andThen, within, judged}
 use Rattle.judge.specs.declared.Judged.{Judged}
 use Rattle.judge.specs.declared.Judged.the-variants.{Accepted, Refused}
 use Rattle.rules.specs.Rules.{FileOk}
-use Rattle.rules.specs.Tests.{never, within-iff, then-refused, rule-iff, then-iff}
+use Rattle.judge.specs.Tests.{never, within-iff, then-refused, rule-iff, then-iff}
 use Rattle.rules.specs.Numbers.{Gives, gives-none, gives-rule, gives-wider, rule-here, rule-next, then-here, then-next}
 use Rattle.rules.specs.Parts.{refused-by}
 use Rattle.rules.specs.Accepted.{accepted}

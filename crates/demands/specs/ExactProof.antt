@@ -18,7 +18,7 @@ use Rattle.scene.specs.declared.Refusal.{Refusal}
 use Rattle.judge.specs.Judge.{judged}
 use Rattle.judge.specs.declared.Judged.the-variants.{Accepted, Refused}
 use Rattle.rules.specs.Rules.{FileOk}
-use Rattle.rules.specs.Tests.{within-iff, rule-iff, then-iff}
+use Rattle.judge.specs.Tests.{within-iff, rule-iff, then-iff}
 use Rattle.rules.specs.Accepted as rules
 use Rattle.orient.specs.Terms.{positiveAt, termsAt}
 use Rattle.orient.specs.declared.Terms.{Terms}

@@ -16,7 +16,7 @@ use Rattle.scene.specs.Read.{points-are}
 use Rattle.judge.specs.Judge.{judged, rule, andThen, within}
 use Rattle.judge.specs.declared.Judged.the-variants.{Accepted}
 use Rattle.rules.specs.Given.{weighted, each-of-a, each-of-b, edges-of-a, edges-of-b}
-use Rattle.rules.specs.Tests.{within-iff}
+use Rattle.judge.specs.Tests.{within-iff}
 use Rattle.orient.specs.Signs.{Upto}
 use Rattle.orient.specs.Weighted.{Weighted}
 use Rattle.pierce.specs.Parity.{Solid, Triangle, solid-by-edges}

@@ -7,7 +7,7 @@ use native.Mathlib.Decide.{ℕ-discrete}
 use lib.Bits.{bitOr}
 use lib.Dec.{eqb}
 use borrow.Author.Tests.{eq-eqb, ne-eqb, not-true, not-false}
-use Rattle.laws.specs.Range.{anyOf, over, fold}
+use Rattle.laws.specs.Range.{anyOf, over, fold, any-more}
 use Rattle.laws.specs.Mask.{maskOf, or-masks, mask-none, mask-same, mask-one}
 use Rattle.scene.specs.Faces.{FaceOf}
 use Rattle.scene.specs.declared.Face.{Face}
@@ -55,26 +55,6 @@ module _ (low n : ℕ) where
       go false = sym (mask-none (λ m. false) n (λ m b. refl))
 
 -- ---- face by face
-
-any-last : (p : ℕ → Bool) (a n : ℕ) → fold (λ k rest. p k || rest) false a (suc n) ≡ (fold (λ k rest. p k || rest) false a n || p (a + n))
-any-last p a zero = or-false (p a) ∙ ap p (omega arith)
-  where
-    or-false : (b : Bool) → (b || false) ≡ b
-    or-false true = refl
-    or-false false = refl
-any-last p a (suc n) = ap (λ (b : Bool). p a || b) (any-last p (suc a) n ∙ ap (λ (k : ℕ). fold (λ k rest. p k || rest) false (suc a) n || p k) (omega arith)) ∙ regroup (p a) _ _
-  where
-    regroup : (a b c : Bool) → (a || (b || c)) ≡ ((a || b) || c)
-    regroup true b c = refl
-    regroup false b c = refl
-
--- the faces from a up to i, and the next one
-any-more : (p : ℕ → Bool) (a i : ℕ) → a ≤ i → anyOf p a (i + 1) ≡ (anyOf p a i || p i)
-unfolding anyOf over
-any-more p a i h =
-    let e : i + 1 - a ≡ suc (i - a) = omega arith in
-    let f : a + (i - a) ≡ i = omega arith in
-    rw e (any-last p a (i - a) ∙ ap (λ (k : ℕ). fold (λ k rest. p k || rest) false a (i - a) || p k) f)
 
 module _ (face : ℕ → Face) (a low n u : ℕ) where
   -- u's neighbours by the faces from a up to i

@@ -77,11 +77,3 @@ pub then-rest : (x y : Judged) → andThen x y ≡ Accepted → y ≡ Accepted
 unfolding andThen
 then-rest Accepted y p = p
 then-rest (Refused r) y p = cc
-
--- the header's counts of faces
-pub faces-upto : {o : Judged} (l : Limits) (s : List ℕ) → o ≡ headerFault l s → o ≡ Accepted → (facesA s ≤ l .mostFaces) × (facesB s ≤ l .mostFaces)
-unfolding headerFault countsOk within
-faces-upto l s e q =
-    let c = rule-ok (countsOk l s) _ _ (rule-rest (opens s) _ _ (sym e ∙ q)) in
-    let d = simp decides at c in
-    (d .1 .0 .1, d .1 .1 .1 .1)

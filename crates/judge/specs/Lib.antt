@@ -1,4 +1,6 @@
 pub mod Judge
 pub mod Laws
 pub mod Cases
+pub mod Tests
 pub mod Words
+pub mod Passed

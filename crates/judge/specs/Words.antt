@@ -1,150 +1,216 @@
--- The faces that have a vertex as a corner, as a word: the word of one vertex and that of another have a one in common for each face that has
--- both. Assumes nothing.
-use Prim.Native.Nat.{ℕ, zero, suc, _+_, _-_, _*_, _%_, _^_, _<_}
+-- A word for each vertex of a solid: bit w of the word of v is set exactly when v and w are corners of an odd number of its faces together. One pass
+-- over the faces turns the bits; the vertices that are used are a word of their own. Assumes nothing.
+use Prim.Native.Nat.{ℕ, zero, suc, _+_, _*_, _/_, _%_, _^_, _≤_, _<_}
 use mathlib.Core.Path.{_≡_, refl, sym, ap, ap₂, _∙_}
-use mathlib.Core.Bool.{Bool, true, false, _&&_, _||_}
+use mathlib.Core.Logic.{_≢_}
+use mathlib.Core.Bool.{Bool, true, false, not, cond, _&&_, _||_}
 use mathlib.Core.List.{List}
-use native.Mathlib.Nat.{add-comm, add-zero, one-mul, zero-mul}
 use native.Mathlib.Decide.{ℕ-discrete}
-use native.Mathlib.Numerals.{add-one}
 use native.Mathlib.Omega.{arith}
 use borrow.Author.Tests.{eq-eqb, ne-eqb}
-use lib.Bits.{bitAnd, bitOr, and-block, or-block, or-shifted-r, or-zero-r}
-use lib.Count.{ones}
+use lib.Bits.{bitOr, bitXor, xor-zero-r}
 use lib.Dec.{eqb}
 use lib.ListN.{length, getD, set, replicate, length-set, length-replicate, getD-replicate}
 use lib.Seq.{getD-set-same, getD-set-other}
-use Rattle.laws.specs.Bools.{law, all, _≐_}
-use Rattle.laws.specs.Even.{count}
-use Rattle.laws.specs.Lists.{run}
-use Rattle.laws.specs.Mask.{digit, maskOf, mask-lt, mask-ones}
-use Rattle.laws.specs.Range.{fold, over, more, countOf}
+use Rattle.laws.specs.Bools.{law, all, _≐_, _⊕_}
+use Rattle.laws.specs.Mask.{maskOf, or-masks, xor-masks, mask-none, mask-one, mask-same, mask-test}
+use Rattle.laws.specs.Range.{more, anyOf, countOf, any-more, count-more, over-stop}
+use Rattle.scene.specs.Records.{faces}
 use Rattle.scene.specs.Tables.{cornerAt}
 use Rattle.judge.specs.Judge.{isCorner, isEdge, edgeOk, sidesOk}
 
--- a corner is one byte
+-- the bits of a word
 abbrev pub places : ℕ
-places = 256
+places = 64
 
--- of the file's n faces from a on, bit k for face a + k
+-- the file's face i has three different corners, each with a place in a word
+pub record CornersIn (s : List ℕ) (i : ℕ) : Type 0 where
+  pub p : cornerAt s i 0 < places
+  pub q : cornerAt s i 1 < places
+  pub r : cornerAt s i 2 < places
+  pub pq : cornerAt s i 0 ≢ cornerAt s i 1
+  pub qr : cornerAt s i 1 ≢ cornerAt s i 2
+  pub rp : cornerAt s i 2 ≢ cornerAt s i 0
+
+abbrev pub FacesIn : List ℕ → Type 0
+FacesIn s = (i : ℕ) → i < faces s → CornersIn s i
+
+-- of the file's n faces from a on: v and w are together in an odd number of them, the word of v, and the word of the vertices that are used
+abbrev pub oddly : List ℕ → (a n v w : ℕ) → Bool
+oddly s a n v w = eqb (countOf (isEdge s v w) a (a + n) % 2) 1
+
 unfoldable pub wordOf : List ℕ → (a n v : ℕ) → ℕ
-wordOf s a n v = maskOf (λ k. isCorner s v (a + k)) n
+wordOf s a n v = maskOf (oddly s a n v) places
 
--- the words of all corners
+unfoldable pub usedWord : List ℕ → (a n : ℕ) → ℕ
+usedWord s a n = maskOf (λ v. anyOf (isCorner s v) a (a + n)) places
+
+-- the words of all vertices
 pub record AreWords (s : List ℕ) (a n : ℕ) (words : List ℕ) : Type 0 where
   pub size : length words ≡ places
   pub at : (v : ℕ) → v < places → getD words v 0 ≡ wordOf s a n v
 
--- ---- face k marked in the word of its corner p, and in those of the three corners of the file's face i
+-- ---- one face more
 
-pub record Marks (p k : ℕ) (before after : List ℕ) : Type 0 where
+-- the corners of the file's face i, as a word
+unfoldable pub cornersWord : List ℕ → ℕ → ℕ
+cornersWord s i = maskOf (λ w. isCorner s w i) places
+
+unfoldable pub turned : List ℕ → (p t : ℕ) → List ℕ
+turned words p t = set words p (bitXor (getD words p 0) t)
+
+-- its corners are turned in the words of each of them
+pub record TurnsFace (s : List ℕ) (i : ℕ) (before after : List ℕ) : Type 0 where
   pub size : length after ≡ length before
-  pub at : (v : ℕ) → v < places → getD after v 0 ≡ bitOr (getD before v 0) (digit (eqb p v) * 2 ^ k)
+  pub at : (v : ℕ) → v < places → getD after v 0 ≡ bitXor (getD before v 0) (cond (isCorner s v i) (cornersWord s i) 0)
 
--- where the words had none but the bits below k
-pub record MarksFace (s : List ℕ) (i k : ℕ) (before after : List ℕ) : Type 0 where
-  pub size : length after ≡ length before
-  pub at : (v : ℕ) → v < places → (m : ℕ) → m < 2 ^ k → getD before v 0 ≡ m → getD after v 0 ≡ digit (isCorner s v i) * 2 ^ k + m
+same-place : (k i : ℕ) → eqb k i ≡ eqb i k
+same-place k i = go (ℕ-discrete k i)
+  where
+    go : Dec (k ≡ i) → eqb k i ≡ eqb i k
+    go (yes e) = eq-eqb k i e ∙ sym (eq-eqb i k (sym e))
+    go (no d) = ne-eqb k i d ∙ sym (ne-eqb i k (λ e. d (sym e)))
 
-module _ (words : List ℕ) (p k : ℕ) (h : p < length words) where
-  abbrev bit-in : List ℕ
-  bit-in = set words p (bitOr (getD words p 0) (2 ^ k))
+one-place : (i : ℕ) → i < places → 2 ^ i ≡ maskOf (λ k. eqb i k) places
+one-place i h = sym (mask-one i places h) ∙ mask-same (λ k. eqb k i) (λ k. eqb i k) places (λ k b. same-place k i)
 
-  marks-at : (v : ℕ) → Dec (v ≡ p) → getD bit-in v 0 ≡ bitOr (getD words v 0) (digit (eqb p v) * 2 ^ k)
-  marks-at v (yes e) =
-      rw (e, eq-eqb p p refl)
-      (getD-set-same words p (bitOr (getD words p 0) (2 ^ k)) 0 h ∙ ap (bitOr (getD words p 0)) (sym (one-mul (2 ^ k))))
-  marks-at v (no d) =
-      rw (ne-eqb p v (λ e. d (sym e)))
-      (getD-set-other words p v (bitOr (getD words p 0) (2 ^ k)) 0 d
-      ∙ sym (ap (bitOr (getD words v 0)) (zero-mul (2 ^ k)) ∙ or-zero-r (getD words v 0)))
+pub three-places : (s : List ℕ) (i : ℕ) {x y z : ℕ} → CornersIn s i → x ≡ 2 ^ cornerAt s i 0 → y ≡ 2 ^ cornerAt s i 1 → z ≡ 2 ^ cornerAt s i 2 →
+    bitOr (bitOr x y) z ≡ cornersWord s i
+unfolding cornersWord isCorner
+three-places s i h ex ey ez =
+    ap₂ bitOr (ap₂ bitOr (ex ∙ one-place _ (h .p)) (ey ∙ one-place _ (h .q)) ∙ or-masks _ _ places) (ez ∙ one-place _ (h .r))
+    ∙ or-masks _ _ places
+    ∙ mask-same _ _ places
+    (λ k b.
+    law (all λ a. all λ b. all λ c. (a || b) || c ≐ a || (b || c)) tt (eqb (cornerAt s i 0) k) (eqb (cornerAt s i 1) k) (eqb (cornerAt s i 2) k))
 
-  pub marks : Marks p k words bit-in
-  marks = record { size = length-set words p (bitOr (getD words p 0) (2 ^ k)); at = λ v b. marks-at v (ℕ-discrete v p) }
+module _ (words : List ℕ) (p t : ℕ) (h : p < length words) where
+  turned-at : (v : ℕ) → getD (turned words p t) v 0 ≡ bitXor (getD words v 0) (cond (eqb p v) t 0)
+  unfolding turned
+  turned-at v = go (ℕ-discrete v p)
+    where
+      go : Dec (v ≡ p) → getD (turned words p t) v 0 ≡ bitXor (getD words v 0) (cond (eqb p v) t 0)
+      go (yes e) = rw (e, eq-eqb p p refl) (getD-set-same words p (bitXor (getD words p 0) t) 0 h)
+      go (no d) = rw (ne-eqb p v (λ e. d (sym e))) (getD-set-other words p v (bitXor (getD words p 0) t) 0 d ∙ sym (xor-zero-r (getD words v 0)))
 
-or-digits : (c d : Bool) → bitOr (digit c) (digit d) ≡ digit (c || d)
-or-digits true true = refl
-or-digits true false = refl
-or-digits false true = refl
-or-digits false false = refl
+pub turned-size : (words : List ℕ) (p t : ℕ) {after : List ℕ} → after ≡ turned words p t → length words ≡ places → length after ≡ places
+unfolding turned
+turned-size words p t e h = ap length e ∙ length-set words p (bitXor (getD words p 0) t) ∙ h
 
-module _ (k m : ℕ) (h : m < 2 ^ k) where
-  -- bit k is put into the word once more
-  again : (c d : Bool) → bitOr (digit c * 2 ^ k + m) (digit d * 2 ^ k) ≡ digit (c || d) * 2 ^ k + m
-  again c d =
-      ap (bitOr (digit c * 2 ^ k + m)) (sym (add-zero (digit d * 2 ^ k)))
-      ∙ or-block k (digit c) (digit d) m 0 h (omega (arith, h))
-      ∙ ap₂ (λ (x y : ℕ). x * 2 ^ k + y) (or-digits c d) (or-zero-r m)
+-- of three different corners, v is one at most
+once : (m t v : ℕ) (p q r : ℕ) → p ≢ q → q ≢ r → r ≢ p →
+    bitXor (bitXor (bitXor m (cond (eqb p v) t 0)) (cond (eqb q v) t 0)) (cond (eqb r v) t 0) ≡ bitXor m (cond (eqb p v || (eqb q v || eqb r v)) t 0)
+once m t v p q r pq qr rp = go (ℕ-discrete p v) (ℕ-discrete q v) (ℕ-discrete r v)
+  where
+    go : Dec (p ≡ v) → Dec (q ≡ v) → Dec (r ≡ v) →
+        bitXor (bitXor (bitXor m (cond (eqb p v) t 0)) (cond (eqb q v) t 0)) (cond (eqb r v) t 0) ≡ bitXor m (cond (eqb p v || (eqb q v || eqb r v)) t 0)
+    go (yes a) (yes b) c = absurd (pq (a ∙ sym b))
+    go (yes a) (no b) (yes c) = absurd (rp (c ∙ sym a))
+    go (yes a) (no b) (no c) = rw (eq-eqb p v a, ne-eqb q v b, ne-eqb r v c) (xor-zero-r _ ∙ xor-zero-r _)
+    go (no a) (yes b) (yes c) = absurd (qr (b ∙ sym c))
+    go (no a) (yes b) (no c) = rw (ne-eqb p v a, eq-eqb q v b, ne-eqb r v c) (xor-zero-r _ ∙ ap (λ (x : ℕ). bitXor x t) (xor-zero-r m))
+    go (no a) (no b) (yes c) = rw (ne-eqb p v a, ne-eqb q v b, eq-eqb r v c) (ap (λ (x : ℕ). bitXor x t) (xor-zero-r _ ∙ xor-zero-r m))
+    go (no a) (no b) (no c) = rw (ne-eqb p v a, ne-eqb q v b, ne-eqb r v c) (xor-zero-r _ ∙ xor-zero-r _)
 
-pub marks-face : (s : List ℕ) (i k : ℕ) {w0 w1 w2 w3 : List ℕ} {p q r : ℕ} →
-    p ≡ cornerAt s i 0 → q ≡ cornerAt s i 1 → r ≡ cornerAt s i 2 → Marks p k w0 w1 → Marks q k w1 w2 → Marks r k w2 w3 → MarksFace s i k w0 w3
+pub turns-face : (s : List ℕ) (i : ℕ) (words : List ℕ) {w1 w2 w3 : List ℕ} {p q r t : ℕ} → CornersIn s i → length words ≡ places →
+    p ≡ cornerAt s i 0 → q ≡ cornerAt s i 1 → r ≡ cornerAt s i 2 → t ≡ cornersWord s i → w1 ≡ turned words p t → w2 ≡ turned w1 q t → w3 ≡ turned w2 r t →
+    TurnsFace s i words w3
 unfolding isCorner
-marks-face s i k {p} {q} {r} hp hq hr m1 m2 m3 =
+turns-face s i words {w1} {w2} {w3} {p} {q} {r} {t} h long ep eq er et e1 e2 e3 =
+    let l1 : length w1 ≡ places = turned-size words p t e1 long in
+    let l2 : length w2 ≡ places = turned-size w1 q t e2 l1 in
     record {
-      size = m3 .size ∙ m2 .size ∙ m1 .size;
-      at = λ v b m l e.
-          m3 .at v b
-          ∙ ap (λ (x : ℕ). bitOr x (digit (eqb r v) * 2 ^ k))
-          (m2 .at v b
-          ∙ ap (λ (x : ℕ). bitOr x (digit (eqb q v) * 2 ^ k))
-          (m1 .at v b ∙ ap (λ (x : ℕ). bitOr x (digit (eqb p v) * 2 ^ k)) e ∙ or-shifted-r (digit (eqb p v)) k m l)
-          ∙ again k m l (eqb p v) (eqb q v))
-          ∙ again k m l (eqb p v || eqb q v) (eqb r v)
-          ∙ ap (λ (c : Bool). digit c * 2 ^ k + m) (law (all λ a. all λ b. all λ c. (a || b) || c ≐ a || (b || c)) tt (eqb p v) (eqb q v) (eqb r v))
-          ∙ (λ j. digit (eqb (hp j) v || (eqb (hq j) v || eqb (hr j) v)) * 2 ^ k + m);
+      size = turned-size w2 r t e3 l2 ∙ sym long;
+      at = λ v b.
+          ap (λ (w : List ℕ). getD w v 0) e3
+          ∙ turned-at w2 r t (omega (arith, l2, h .r)) v
+          ∙ ap (λ (x : ℕ). bitXor x (cond (eqb r v) t 0))
+          (ap (λ (w : List ℕ). getD w v 0) e2
+          ∙ turned-at w1 q t (omega (arith, l1, h .q)) v
+          ∙ ap (λ (x : ℕ). bitXor x (cond (eqb q v) t 0)) (ap (λ (w : List ℕ). getD w v 0) e1 ∙ turned-at words p t (omega (arith, h .p)) v))
+          ∙ once (getD words v 0) t v p q r (λ e. h .pq (sym ep ∙ e ∙ eq)) (λ e. h .qr (sym eq ∙ e ∙ er)) (λ e. h .rp (sym er ∙ e ∙ ep))
+          ∙ (λ j. bitXor (getD words v 0) (cond (eqb (ep j) v || (eqb (eq j) v || eqb (er j) v)) (et j) 0));
     }
 
--- of no faces, and of one face more
-pub words-none : (s : List ℕ) (a : ℕ) → AreWords s a 0 (replicate places 0)
-unfolding wordOf maskOf
-words-none s a = record { size = length-replicate {A = ℕ} places 0; at = λ v b. getD-replicate places v 0 0 b }
+-- ---- of no faces, and of one face more
 
-pub words-more : (s : List ℕ) (a k : ℕ) {before after : List ℕ} → AreWords s a k before → MarksFace s (a + k) k before after → AreWords s a (k + 1) after
-unfolding wordOf maskOf
+pub words-none : (s : List ℕ) (a : ℕ) → AreWords s a 0 (replicate places 0)
+unfolding wordOf countOf
+words-none s a =
+    record {
+      size = length-replicate {A = ℕ} places 0;
+      at = λ v b.
+          getD-replicate places v 0 0 b
+          ∙ sym
+          (mask-none (oddly s a 0 v) places (λ w c. ap (λ (n : ℕ). eqb (n % 2) 1) (over-stop (λ k rest. more (isEdge s v w k) rest) 0 a (a + 0) (omega arith))));
+    }
+
+pub used-none : (s : List ℕ) (a : ℕ) → 0 ≡ usedWord s a 0
+unfolding usedWord anyOf
+used-none s a =
+    sym (mask-none (λ v. anyOf (isCorner s v) a (a + 0)) places (λ v b. over-stop (λ k rest. isCorner s v k || rest) false a (a + 0) (omega arith)))
+
+odd-more : (b : Bool) (n : ℕ) → eqb (more b n % 2) 1 ≡ eqb (n % 2) 1 ⊕ b
+odd-more true n = go (ℕ-discrete (n % 2) 1)
+  where
+    go : Dec (n % 2 ≡ 1) → eqb (suc n % 2) 1 ≡ eqb (n % 2) 1 ⊕ true
+    go (yes e) = rw (eq-eqb (n % 2) 1 e, ne-eqb (suc n % 2) 1 (omega arith))
+    go (no d) = rw (ne-eqb (n % 2) 1 d, eq-eqb (suc n % 2) 1 (omega arith))
+odd-more false n = law (all λ a. a ≐ a ⊕ false) tt (eqb (n % 2) 1)
+
+oddly-more : (s : List ℕ) (a k v w : ℕ) → oddly s a (k + 1) v w ≡ oddly s a k v w ⊕ (isCorner s v (a + k) && isCorner s w (a + k))
+unfolding isEdge
+oddly-more s a k v w =
+    let e : a + (k + 1) ≡ a + k + 1 = omega arith in
+    rw e
+    (ap (λ (n : ℕ). eqb (n % 2) 1) (count-more (isEdge s v w) a (a + k) (omega arith)) ∙ odd-more (isEdge s v w (a + k)) (countOf (isEdge s v w) a (a + k)))
+
+chosen : (c : Bool) (g : ℕ → Bool) → cond c (maskOf g places) 0 ≡ maskOf (λ w. c && g w) places
+chosen true g = refl
+chosen false g = sym (mask-none (λ w. false) places (λ w b. refl))
+
+pub words-more : (s : List ℕ) (a k : ℕ) {before after : List ℕ} → AreWords s a k before → TurnsFace s (a + k) before after → AreWords s a (k + 1) after
+unfolding wordOf cornersWord
 words-more s a k w m =
     record {
       size = m .size ∙ w .size;
       at = λ v b.
-          m .at v b (maskOf (λ j. isCorner s v (a + j)) k) (mask-lt (λ j. isCorner s v (a + j)) k) (w .at v b)
-          ∙ add-comm (digit (isCorner s v (a + k)) * 2 ^ k) (maskOf (λ j. isCorner s v (a + j)) k)
-          ∙ ap (maskOf (λ j. isCorner s v (a + j))) (sym (add-one k));
+          m .at v b
+          ∙ ap₂ bitXor (w .at v b) (chosen (isCorner s v (a + k)) (λ w. isCorner s w (a + k)))
+          ∙ xor-masks (oddly s a k v) (λ w. isCorner s v (a + k) && isCorner s w (a + k)) places
+          ∙ mask-same _ _ places (λ w c. sym (oddly-more s a k v w));
     }
 
--- ---- the faces of an edge
+pub used-more : (s : List ℕ) (a k : ℕ) {u t : ℕ} → u ≡ usedWord s a k → t ≡ cornersWord s (a + k) → bitOr u t ≡ usedWord s a (k + 1)
+unfolding usedWord cornersWord
+used-more s a k eu et =
+    let e : a + k + 1 ≡ a + (k + 1) = omega arith in
+    ap₂ bitOr eu et ∙ or-masks _ _ places
+    ∙ mask-same _ _ places (λ v b. sym (any-more (isCorner s v) a (a + k) (omega arith)) ∙ ap (anyOf (isCorner s v) a) e)
 
-and-digits : (c d : Bool) → bitAnd (digit c) (digit d) ≡ digit (c && d)
-and-digits true true = refl
-and-digits true false = refl
-and-digits false true = refl
-and-digits false false = refl
+-- ---- what a bit says
 
-and-masks : (g h : ℕ → Bool) (n : ℕ) → bitAnd (maskOf g n) (maskOf h n) ≡ maskOf (λ k. g k && h k) n
-unfolding maskOf
-and-masks g h zero = refl
-and-masks g h (suc n) =
-    ap₂ bitAnd (add-comm (maskOf g n) (digit (g n) * 2 ^ n)) (add-comm (maskOf h n) (digit (h n) * 2 ^ n))
-    ∙ and-block n (digit (g n)) (digit (h n)) (maskOf g n) (maskOf h n) (mask-lt g n) (mask-lt h n)
-    ∙ ap₂ (λ (x y : ℕ). x * 2 ^ n + y) (and-digits (g n) (h n)) (and-masks g h n)
-    ∙ add-comm (digit (g n && h n) * 2 ^ n) (maskOf (λ k. g k && h k) n)
-
-counted : (g : ℕ → Bool) (k n : ℕ) → count g (run (λ i. i) k n) ≡ fold (λ j rest. more (g j) rest) 0 k n
-counted g k zero = refl
-counted g k (suc n) = ap (more (g k)) (counted g (suc k) n)
-
-pub ones-count : (g : ℕ → Bool) (a n : ℕ) → ones (maskOf (λ k. g (a + k)) n) ≡ countOf g a (a + n)
-unfolding countOf over
-ones-count g a n =
-    let e : n ≡ a + n - a = omega arith in
-    mask-ones g (λ i. i) a n ∙ counted g a n ∙ ap (fold (λ j rest. more (g j) rest) 0 a) e
+even-odd : (n : ℕ) → eqb (n % 2) 0 ≡ not (eqb (n % 2) 1)
+even-odd n = go (ℕ-discrete (n % 2) 1)
+  where
+    go : Dec (n % 2 ≡ 1) → eqb (n % 2) 0 ≡ not (eqb (n % 2) 1)
+    go (yes e) = rw (eq-eqb (n % 2) 1 e, ne-eqb (n % 2) 0 (omega arith))
+    go (no d) = rw (ne-eqb (n % 2) 1 d, eq-eqb (n % 2) 0 (omega arith))
 
 -- v and w lie in an even number of the faces
 pub in-even : (s : List ℕ) (a n v w : ℕ) (words : List ℕ) → AreWords s a n words → v < places → w < places →
-    eqb (ones (bitAnd (getD words v 0) (getD words w 0)) % 2) 0 ≡ edgeOk s a (a + n) v w
-unfolding wordOf isEdge edgeOk
+    eqb (getD words v 0 / 2 ^ w % 2) 0 ≡ edgeOk s a (a + n) v w
+unfolding wordOf edgeOk
 in-even s a n v w words are hv hw =
-    ap (λ (c : ℕ). eqb (c % 2) 0)
-    (ap ones (ap₂ bitAnd (are .at v hv) (are .at w hw) ∙ and-masks (λ k. isCorner s v (a + k)) (λ k. isCorner s w (a + k)) n)
-    ∙ ones-count (isEdge s v w) a n)
+    ap (λ (m : ℕ). eqb (m / 2 ^ w % 2) 0) (are .at v hv)
+    ∙ even-odd (maskOf (oddly s a n v) places / 2 ^ w)
+    ∙ ap not (mask-test (oddly s a n v) places w hw)
+    ∙ sym (even-odd (countOf (isEdge s v w) a (a + n)))
+
+-- v is a corner of one of the faces
+pub in-used : (s : List ℕ) (a n v : ℕ) {u : ℕ} → u ≡ usedWord s a n → v < places → eqb (u / 2 ^ v % 2) 1 ≡ anyOf (isCorner s v) a (a + n)
+unfolding usedWord
+in-used s a n v e h = ap (λ (m : ℕ). eqb (m / 2 ^ v % 2) 1) e ∙ mask-test (λ v. anyOf (isCorner s v) a (a + n)) places v h
 
 -- what a test of one side, or of the three of the file's face i, says, whichever faces the words are of
 abbrev pub SideBy : List ℕ → (words : List ℕ) → (v w : ℕ) → Bool → Type 0

@@ -1,75 +1,54 @@
 // Refusal 8, a vertex in no face, and refusal 9, an edge that lies in an odd number of its solid's faces. A solid's faces are the file's from a up to e.
 ghost use mathlib.Core.Path.{_≡_};
 ghost use Prim.Native.Nat.{_+_, _<_, _≤_};
-ghost use Rattle.laws.specs.Range.{anyOf};
 ghost use Rattle.scene.specs.Limits.{limits};
-ghost use Rattle.scene.specs.Records.{facesA, facesB};
+ghost use Rattle.scene.specs.Records.{facesA, facesB, verts, vertsA, vertsB, faces};
 ghost use Rattle.scene.specs.Tables.{cornerAt};
-ghost use Rattle.judge.specs.Judge.{isCorner, isUsed, unusedFault, unusedsFault, closedAt, edgeFault, edgesFault};
-ghost use Rattle.judge.specs.Words.{AreWords, SideBy, SidesBy};
+ghost use Rattle.judge.specs.Judge.{andThen, isUsed, unusedFault, unusedsFault, closedAt, edgeFault, edgesFault};
+ghost use Rattle.judge.specs.Words.{places, CornersIn, FacesIn, AreWords, usedWord, SideBy, SidesBy};
 use crate::Judged;
 use crate::records::corner;
 use crate::records::face_record;
 use crate::words::Words;
 use crate::words::in_even;
+use crate::words::in_used;
 use crate::words::words_of;
 use scene::Refusal;
 use scene::read::byte;
 
-fn is_corner(s: &[u8], v: usize, i: usize) -> bool
-    requires { ⌜ i < 1024 ⌝ }
-    ensures { λ r. ⌜ r ≡ isCorner (now (s .entry)) v i ⌝ }
-{
-    if corner(s, i, 0) == v {
-        return true;
-    }
-    if corner(s, i, 1) == v {
-        return true;
-    }
-    corner(s, i, 2) == v
-}
-
-fn is_corner_of_any(s: &[u8], a: usize, e: usize, v: usize) -> bool
-    requires { ⌜ e < 1024 ⌝ }
-    ensures { λ r. ⌜ r ≡ anyOf (isCorner (now (s .entry)) v) a e ⌝ }
-{
-    let mut i = a;
-    while i < e {
-        if is_corner(s, v, i) {
-            return true;
-        }
-        i += 1;
-    }
-    false
-}
-
-fn is_used(s: &[u8], p: usize) -> bool
+// By ua and ub, the words of the vertices that A's faces and B's use.
+fn is_used(s: &[u8], ua: u64, ub: u64, p: usize) -> bool
+    requires words { ⌜ (ua ≡ usedWord (now s) 0 (facesA (now s))) × (ub ≡ usedWord (now s) (facesA (now s)) (facesB (now s))) ⌝ }
+    requires point { ⌜ (p ≤ verts (now s)) × (vertsA (now s) < places) × (vertsB (now s) < places) ⌝ }
     ensures { λ r. ⌜ r ≡ isUsed (now (s .entry)) p ⌝ }
 {
     let v = byte(s, 2);
-    let a = byte(s, 3);
     if p <= v {
-        return is_corner_of_any(s, 0, a, p);
+        return in_used(ua, p);
     }
-    is_corner_of_any(s, a, a + byte(s, 5), p - v)
+    in_used(ub, p - v)
 }
 
-fn unused_fault(s: &[u8], p: usize) -> Judged
+fn unused_fault(s: &[u8], ua: u64, ub: u64, p: usize) -> Judged
+    requires words { ⌜ (ua ≡ usedWord (now s) 0 (facesA (now s))) × (ub ≡ usedWord (now s) (facesA (now s)) (facesB (now s))) ⌝ }
+    requires point { ⌜ (p ≤ verts (now s)) × (vertsA (now s) < places) × (vertsB (now s) < places) ⌝ }
     ensures { λ r. ⌜ r ≡ unusedFault (now (s .entry)) p ⌝ }
 {
-    if !is_used(s, p) {
+    if !is_used(s, ua, ub, p) {
         return Judged::Refused(Refusal::Unused(p));
     }
     Judged::Accepted
 }
 
-pub fn unuseds_fault(s: &[u8]) -> Judged
+fn unuseds_fault(s: &[u8], ua: u64, ub: u64) -> Judged
+    requires words { ⌜ (ua ≡ usedWord (now s) 0 (facesA (now s))) × (ub ≡ usedWord (now s) (facesA (now s)) (facesB (now s))) ⌝ }
+    requires vertices { ⌜ (vertsA (now s) < places) × (vertsB (now s) < places) ⌝ }
     ensures { λ r. ⌜ r ≡ unusedsFault (now (s .entry)) ⌝ }
 {
     let n = byte(s, 2) + byte(s, 4);
     let mut p = 1;
     while p < n + 1 {
-        if let Judged::Refused(r) = unused_fault(s, p) {
+        if let Judged::Refused(r) = unused_fault(s, ua, ub, p) {
             return Judged::Refused(r);
         }
         p += 1;
@@ -79,14 +58,14 @@ pub fn unuseds_fault(s: &[u8]) -> Judged
 
 // The side from corner m to corner n of the file's face i lies in an even number of the faces whose words these are.
 fn side_ok(s: &[u8], words: &Words, i: usize, m: usize, n: usize) -> bool
-    requires { ⌜ (i < 1024) × (m < 3) × (n < 3) ⌝ }
+    requires { ⌜ (i < 1024) × (m < 3) × (n < 3) × (cornerAt (now s) i m < places) × (cornerAt (now s) i n < places) ⌝ }
     ensures { λ r. ⌜ SideBy (now (s .entry)) (now (words .entry)) (cornerAt (now (s .entry)) i m) (cornerAt (now (s .entry)) i n) r ⌝ }
 {
     in_even(words, corner(s, i, m), corner(s, i, n))
 }
 
 fn sides_ok(s: &[u8], words: &Words, i: usize) -> bool
-    requires { ⌜ i < 1024 ⌝ }
+    requires { ⌜ (i < 1024) × CornersIn (now s) i ⌝ }
     ensures { λ r. ⌜ SidesBy (now (s .entry)) (now (words .entry)) i r ⌝ }
 {
     if !side_ok(s, words, i, 0, 1) {
@@ -100,7 +79,8 @@ fn sides_ok(s: &[u8], words: &Words, i: usize) -> bool
 
 // By wa and wb, the words of A's faces and of B's.
 fn is_closed_at(s: &[u8], wa: &Words, wb: &Words, i: usize) -> bool
-    requires { ⌜ (i < 1024) × AreWords (now s) 0 (facesA (now s)) (now wa) × AreWords (now s) (facesA (now s)) (facesB (now s)) (now wb) ⌝ }
+    requires face { ⌜ (i < 1024) × CornersIn (now s) i ⌝ }
+    requires words { ⌜ AreWords (now s) 0 (facesA (now s)) (now wa) × AreWords (now s) (facesA (now s)) (facesB (now s)) (now wb) ⌝ }
     ensures { λ r. ⌜ r ≡ closedAt (now (s .entry)) i ⌝ }
 {
     if i < byte(s, 3) {
@@ -110,7 +90,8 @@ fn is_closed_at(s: &[u8], wa: &Words, wb: &Words, i: usize) -> bool
 }
 
 fn edge_fault(s: &[u8], wa: &Words, wb: &Words, i: usize) -> Judged
-    requires { ⌜ (i < 1024) × AreWords (now s) 0 (facesA (now s)) (now wa) × AreWords (now s) (facesA (now s)) (facesB (now s)) (now wb) ⌝ }
+    requires face { ⌜ (i < 1024) × CornersIn (now s) i ⌝ }
+    requires words { ⌜ AreWords (now s) 0 (facesA (now s)) (now wa) × AreWords (now s) (facesA (now s)) (facesB (now s)) (now wb) ⌝ }
     ensures { λ r. ⌜ r ≡ edgeFault (now (s .entry)) i ⌝ }
 {
     if !is_closed_at(s, wa, wb, i) {
@@ -119,21 +100,35 @@ fn edge_fault(s: &[u8], wa: &Words, wb: &Words, i: usize) -> Judged
     Judged::Accepted
 }
 
-pub fn edges_fault(s: &[u8]) -> Judged
-    requires { ⌜ (facesA (now s) ≤ limits .mostFaces) × (facesB (now s) ≤ limits .mostFaces) ⌝ }
+fn edges_fault(s: &[u8], wa: &Words, wb: &Words) -> Judged
+    requires faces { ⌜ FacesIn (now s) ⌝ }
+    requires words { ⌜ AreWords (now s) 0 (facesA (now s)) (now wa) × AreWords (now s) (facesA (now s)) (facesB (now s)) (now wb) ⌝ }
     ensures { λ r. ⌜ r ≡ edgesFault (now (s .entry)) ⌝ }
 {
-    let a = byte(s, 3);
-    let b = byte(s, 5);
-    let wa = words_of(s, 0, a);
-    let wb = words_of(s, a, b);
-    let n = a + b;
+    let n = byte(s, 3) + byte(s, 5);
     let mut i = 0;
     while i < n {
-        if let Judged::Refused(r) = edge_fault(s, &wa, &wb, i) {
+        if let Judged::Refused(r) = edge_fault(s, wa, wb, i) {
             return Judged::Refused(r);
         }
         i += 1;
     }
     Judged::Accepted
+}
+
+// Of a file whose records passed.
+pub fn solids_fault(s: &[u8]) -> Judged
+    requires { ⌜ FacesIn (now s) × (vertsA (now s) < places) × (vertsB (now s) < places) ⌝ }
+    ensures { λ r. ⌜ r ≡ andThen (unusedsFault (now (s .entry))) (edgesFault (now (s .entry))) ⌝ }
+{
+    let a = byte(s, 3);
+    let b = byte(s, 5);
+    let mut wa: Words = [0; 64];
+    let ua = words_of(s, 0, a, &mut wa);
+    let mut wb: Words = [0; 64];
+    let ub = words_of(s, a, b, &mut wb);
+    if let Judged::Refused(r) = unuseds_fault(s, ua, ub) {
+        return Judged::Refused(r);
+    }
+    edges_fault(s, &wa, &wb)
 }

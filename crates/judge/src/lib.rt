@@ -23,8 +23,5 @@ pub fn judge(s: &[u8]) -> Judged
     if let Judged::Refused(r) = records::records_fault(s) {
         return Judged::Refused(r);
     }
-    if let Judged::Refused(r) = closed::unuseds_fault(s) {
-        return Judged::Refused(r);
-    }
-    closed::edges_fault(s)
+    closed::solids_fault(s)
 }

@@ -1,53 +1,77 @@
-// The faces that have a vertex as a corner, as a word for each vertex of a solid, so that the faces of an edge are counted at once.
+// Which vertices of a solid are together in an odd number of its faces, as a word for each vertex, and which are used: one pass over the faces.
 ghost use mathlib.Core.Path.{_≡_};
-ghost use Prim.Native.Nat.{_+_, _%_, _<_, _≤_};
-ghost use lib.Bits.{bitAnd};
-ghost use lib.Count.{ones};
+ghost use Prim.Native.Nat.{ℕ, _+_, _/_, _%_, _^_, _<_};
 ghost use lib.Dec.{eqb};
 ghost use lib.ListN.{length, getD};
-ghost use Rattle.scene.specs.Limits.{limits};
-ghost use Rattle.judge.specs.Words.{places, AreWords, Marks, MarksFace};
+ghost use Rattle.laws.specs.Mask.{testBit};
+ghost use Rattle.judge.specs.Words.{places, CornersIn, AreWords, usedWord, cornersWord, turned, TurnsFace};
 use crate::records::corner;
 
-// The word of the vertex v stands at v. A corner is one byte.
-pub type Words = [u64; 256];
+// The word of the vertex v stands at v.
+pub type Words = [u64; 64];
 
-// Face k has p as a corner.
-fn mark(words: &mut Words, p: usize, k: usize)
-    requires { ⌜ (length (now words) ≡ places) × (p < places) × (k < limits .mostFaces) ⌝ }
-    ensures { λ _. ⌜ Marks p k (now (words .entry)) (now (words .exit)) ⌝ }
+fn bit(p: usize) -> u64
+    requires { ⌜ p < places ⌝ }
+    ensures { λ r. ⌜ r ≡ 2 ^ p ⌝ }
 {
-    words[p] = words[p] | 1 << k;
+    1 << p
 }
 
-// Face k, the file's face i, has its three corners.
-fn mark_face(words: &mut Words, s: &[u8], i: usize, k: usize)
-    requires { ⌜ (length (now words) ≡ places) × (i < 1024) × (k < limits .mostFaces) ⌝ }
-    ensures { λ _. ⌜ MarksFace (now (s .entry)) i k (now (words .entry)) (now (words .exit)) ⌝ }
+// The corners of the file's face i.
+fn corners_word(s: &[u8], i: usize) -> u64
+    requires { ⌜ (i < 1024) × CornersIn (now s) i ⌝ }
+    ensures { λ r. ⌜ r ≡ cornersWord (now (s .entry)) i ⌝ }
 {
-    mark(words, corner(s, i, 0), k);
-    mark(words, corner(s, i, 1), k);
-    mark(words, corner(s, i, 2), k);
+    bit(corner(s, i, 0)) | bit(corner(s, i, 1)) | bit(corner(s, i, 2))
 }
 
-// The words of the file's n faces from a on.
-pub fn words_of(s: &[u8], a: usize, n: usize) -> Words
-    requires { ⌜ (a + n < 1024) × (n ≤ limits .mostFaces) ⌝ }
-    ensures { λ r. ⌜ AreWords (now (s .entry)) a n r ⌝ }
+// The bits of t turn in the word of p.
+fn turn(words: &mut Words, p: usize, t: u64)
+    requires { ⌜ (length (now words) ≡ places) × (p < places) ⌝ }
+    ensures { λ _. ⌜ now (words .exit) ≡ turned (now (words .entry)) p t ⌝ }
 {
-    let mut words: Words = [0; 256];
+    words[p] = words[p] ^ t;
+}
+
+// Each two corners of the file's face i are together in one face more; t is the word of its corners.
+fn turn_face(words: &mut Words, s: &[u8], i: usize, t: u64)
+    requires { ⌜ (length (now words) ≡ places) × (i < 1024) × CornersIn (now s) i × (t ≡ cornersWord (now s) i) ⌝ }
+    ensures { λ _. ⌜ TurnsFace (now (s .entry)) i (now (words .entry)) (now (words .exit)) ⌝ }
+{
+    turn(words, corner(s, i, 0), t);
+    turn(words, corner(s, i, 1), t);
+    turn(words, corner(s, i, 2), t);
+}
+
+// The words of the file's n faces from a on are put in the place of zeros; the answer is the word of the vertices that are used.
+pub fn words_of(s: &[u8], a: usize, n: usize, words: &mut Words) -> u64
+    requires words { ⌜ AreWords (now s) a 0 (now words) ⌝ }
+    requires faces { ⌜ (a + n < 1024) × ((i : ℕ) → i < a + n → CornersIn (now s) i) ⌝ }
+    ensures { λ r. ⌜ AreWords (now (s .entry)) a n (now (words .exit)) × (r ≡ usedWord (now (s .entry)) a n) ⌝ }
+{
+    let mut used: u64 = 0;
     let mut k = 0;
     while k < n {
-        mark_face(&mut words, s, a + k, k);
+        let t = corners_word(s, a + k);
+        turn_face(words, s, a + k, t);
+        used = used | t;
         k += 1;
     }
-    words
+    used
 }
 
-// An even number of faces have both v and w as corners.
+// v and w are together in an even number of faces.
 pub fn in_even(words: &Words, v: usize, w: usize) -> bool
     requires { ⌜ (v < places) × (w < places) ⌝ }
-    ensures { λ r. ⌜ r ≡ eqb (ones (bitAnd (getD (now (words .entry)) v 0) (getD (now (words .entry)) w 0)) % 2) 0 ⌝ }
+    ensures { λ r. ⌜ r ≡ eqb (getD (now (words .entry)) v 0 / 2 ^ w % 2) 0 ⌝ }
 {
-    u64::count_ones(words[v] & words[w]) % 2 == 0
+    (words[v] >> w) % 2 == 0
+}
+
+// v is used.
+pub fn in_used(used: u64, v: usize) -> bool
+    requires { ⌜ v < places ⌝ }
+    ensures { λ r. ⌜ r ≡ testBit used v ⌝ }
+{
+    (used >> v) % 2 == 1
 }

@@ -11,7 +11,7 @@ use native.Mathlib.Omega.{arith}
 use borrow.Author.Tests.{eq-eqb, ne-eqb}
 use lib.Count.{ones, ones-step}
 use lib.Dec.{lit<, eqb}
-use lib.Bits.{bitOr, or-shifted-r, or-block}
+use lib.Bits.{bitOr, bitXor, or-shifted-r, or-block, xor-block}
 use lib.Pow.{shl-exact, shr-shr}
 use Rattle.laws.specs.Bools.{_⊕_}
 use Rattle.laws.specs.Range.{more, fold}
@@ -154,6 +154,21 @@ or-masks g h (suc n) =
     ∙ or-block n (digit (g n)) (digit (h n)) (maskOf g n) (maskOf h n) (mask-lt g n) (mask-lt h n)
     ∙ ap₂ (λ (x y : ℕ). x * 2 ^ n + y) (digit-or (g n) (h n)) (or-masks g h n)
     ∙ add-comm (digit (g n || h n) * 2 ^ n) (maskOf (λ k. g k || h k) n)
+
+digit-xor : (a b : Bool) → bitXor (digit a) (digit b) ≡ digit (a ⊕ b)
+digit-xor true true = refl
+digit-xor true false = refl
+digit-xor false true = refl
+digit-xor false false = refl
+
+pub xor-masks : (g h : ℕ → Bool) (n : ℕ) → bitXor (maskOf g n) (maskOf h n) ≡ maskOf (λ k. g k ⊕ h k) n
+unfolding maskOf
+xor-masks g h zero = refl
+xor-masks g h (suc n) =
+    ap₂ bitXor (add-comm (maskOf g n) (digit (g n) * 2 ^ n)) (add-comm (maskOf h n) (digit (h n) * 2 ^ n))
+    ∙ xor-block n (digit (g n)) (digit (h n)) (maskOf g n) (maskOf h n) (mask-lt g n) (mask-lt h n)
+    ∙ ap₂ (λ (x y : ℕ). x * 2 ^ n + y) (digit-xor (g n) (h n)) (xor-masks g h n)
+    ∙ add-comm (digit (g n ⊕ h n) * 2 ^ n) (maskOf (λ k. g k ⊕ h k) n)
 
 pub mask-none : (g : ℕ → Bool) (n : ℕ) → ((k : ℕ) → k < n → g k ≡ false) → maskOf g n ≡ 0
 unfolding maskOf

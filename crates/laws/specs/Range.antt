@@ -73,6 +73,26 @@ module _ (f : ℕ → Bool) (i e : ℕ) {w : Bool} (inv : anyOf f i e ≡ w) whe
   pub any-next : {o : Bool} → i < e → o ≡ f i → o ≡ false → anyOf f (i + 1) e ≡ w
   any-next h p q = ap (λ (j : Bool). j || anyOf f (i + 1) e) (sym q) ∙ any-turn h p
 
+any-last : (p : ℕ → Bool) (a n : ℕ) → fold (λ k rest. p k || rest) false a (suc n) ≡ (fold (λ k rest. p k || rest) false a n || p (a + n))
+any-last p a zero = or-false (p a) ∙ ap p (omega arith)
+  where
+    or-false : (b : Bool) → (b || false) ≡ b
+    or-false true = refl
+    or-false false = refl
+any-last p a (suc n) = ap (λ (b : Bool). p a || b) (any-last p (suc a) n ∙ ap (λ (k : ℕ). fold (λ k rest. p k || rest) false (suc a) n || p k) (omega arith)) ∙ regroup (p a) _ _
+  where
+    regroup : (a b c : Bool) → (a || (b || c)) ≡ ((a || b) || c)
+    regroup true b c = refl
+    regroup false b c = refl
+
+-- the numbers from a up to i, and the next one
+pub any-more : (p : ℕ → Bool) (a i : ℕ) → a ≤ i → anyOf p a (i + 1) ≡ (anyOf p a i || p i)
+unfolding anyOf over
+any-more p a i h =
+    let e : i + 1 - a ≡ suc (i - a) = omega arith in
+    let f : a + (i - a) ≡ i = omega arith in
+    rw e (any-last p a (i - a) ∙ ap (λ (k : ℕ). fold (λ k rest. p k || rest) false a (i - a) || p k) f)
+
 -- ---- how often p passes
 
 abbrev pub more : Bool → ℕ → ℕ
@@ -81,6 +101,24 @@ more false n = n
 
 unfoldable pub countOf : (ℕ → Bool) → ℕ → ℕ → ℕ
 countOf p = over (λ k rest. more (p k) rest) 0
+
+more-swap : (a b : Bool) (n : ℕ) → more a (more b n) ≡ more b (more a n)
+more-swap true true n = refl
+more-swap true false n = refl
+more-swap false b n = refl
+
+count-last : (p : ℕ → Bool) (a n : ℕ) → fold (λ k rest. more (p k) rest) 0 a (suc n) ≡ more (p (a + n)) (fold (λ k rest. more (p k) rest) 0 a n)
+count-last p a zero = ap (λ (k : ℕ). more (p k) 0) (omega arith)
+count-last p a (suc n) =
+    ap (more (p a)) (count-last p (suc a) n ∙ ap (λ (k : ℕ). more (p k) (fold (λ k rest. more (p k) rest) 0 (suc a) n)) (omega arith))
+    ∙ more-swap (p a) (p (a + suc n)) _
+
+pub count-more : (p : ℕ → Bool) (a i : ℕ) → a ≤ i → countOf p a (i + 1) ≡ more (p i) (countOf p a i)
+unfolding countOf over
+count-more p a i h =
+    let e : i + 1 - a ≡ suc (i - a) = omega arith in
+    let f : a + (i - a) ≡ i = omega arith in
+    rw e (count-last p a (i - a) ∙ ap (λ (k : ℕ). more (p k) (fold (λ k rest. more (p k) rest) 0 a (i - a))) f)
 
 -- n counted so far, and w in the end
 module _ (f : ℕ → Bool) (i e n : ℕ) {w : ℕ} (inv : n + countOf f i e ≡ w) where

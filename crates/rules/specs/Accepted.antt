@@ -10,7 +10,7 @@ use Rattle.scene.specs.Records.{verts, faces, lastRecord}
 use Rattle.judge.specs.Judge.{judgedAt, opens, countsOk, headerFault, recordFault, recordsFault, unusedFault, unusedsFault, edgeFault, edgesFault}
 use Rattle.judge.specs.declared.Judged.the-variants.{Accepted}
 use Rattle.rules.specs.Rules.{Opens, CountsOk, HeaderOk, RecordOk, RecordsOk, Used, AllUsed, SidesOk, FileOk}
-use Rattle.rules.specs.Tests.{accepts, rule-iff, first-iff}
+use Rattle.judge.specs.Tests.{accepts, rule-iff, first-iff}
 use Rattle.rules.specs.Records.{tested}
 use Rattle.rules.specs.Edges.{used-iff, closed-iff}
 

@@ -2,7 +2,6 @@ pub mod Rules
 pub mod Grounds
 pub mod TableRules
 pub mod Write
-pub mod Tests
 pub mod Records
 pub mod Edges
 pub mod Accepted

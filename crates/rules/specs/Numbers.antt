@@ -10,7 +10,7 @@ use Rattle.judge.specs.Judge.{rule, andThen, firstFault}
 use Rattle.judge.specs.declared.Judged.{Judged}
 use Rattle.judge.specs.declared.Judged.the-variants.{Accepted, Refused}
 use Rattle.rules.specs.Rules.{Between}
-use Rattle.rules.specs.Tests.{never, then-refused, first-refused}
+use Rattle.judge.specs.Tests.{never, then-refused, first-refused}
 
 -- j refuses, if it does, by a number from low to high
 abbrev pub Gives : (low high : ℕ) → Judged → Type 0

@@ -20,7 +20,7 @@ use Rattle.judge.specs.Cases.{vertex-mark, verts-of-a, verts-of-b, record-point
 use Rattle.judge.specs.declared.Judged.{Judged}
 use Rattle.judge.specs.declared.Judged.the-variants.{Accepted}
 use Rattle.rules.specs.Rules.{MarkOk, CoordinatesIn, WeightIn, CoordinatesOk, WeightOk, CornersOk}
-use Rattle.rules.specs.Tests.{accepts, within-iff}
+use Rattle.judge.specs.Tests.{accepts, within-iff}
 
 -- the rules of record k in the order of checking, by their tests
 abbrev pub inOrder : (k : ℕ) (mark coordinates weight corners : Bool) → Judged

@@ -17,7 +17,7 @@ use Rattle.judge.specs.declared.Judged.{Judged}
 use Rattle.judge.specs.declared.Judged.the-variants.{Accepted, Refused}
 use Rattle.rules.specs.Rules.{Between, HeaderOk, MarkOk, CoordinatesOk, WeightOk, CornersOk, RecordsOk, Used}
 use Rattle.rules.specs.Grounds.{AtRecord, AtVertex, Grounds}
-use Rattle.rules.specs.Tests.{First, first-refused}
+use Rattle.judge.specs.Tests.{First, first-refused}
 use Rattle.rules.specs.Accepted.{opens-iff, counts-iff, header-iff, record-iff, records-iff, vertex-iff, unused-iff, face-iff}
 use Rattle.rules.specs.Numbers.{Gives, gives-none, gives-rule, rule-here, rule-next}
 use Rattle.rules.specs.Faults.{record-mark, record-coordinate, record-weight, record-corner, unused-here, edge-here}

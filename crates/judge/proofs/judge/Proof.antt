@@ -1,7 +1,7 @@
 -- The first stage that refuses decides.
 use Rattle.judge.specs.Judge.{judgedAt}
-use Rattle.judge.specs.Laws.{chain, faces-upto}
-use Rattle.scene.specs.Limits.{limits}
+use Rattle.judge.specs.Laws.{chain}
+use Rattle.judge.specs.Passed.{passed}
 use borrow.Author.Needs.{needs}
 use Rattle.judge.proofs.judge.Statement.{statement}
 use Rattle.judge.proofs.judge.Tie as tie
@@ -32,27 +32,14 @@ returns-2 c = search chain depth 12
 enum-told-2 : tie.Need-enum-told-2
 enum-told-2 c = search needs
 
-unuseds-fault-requires : tie.Need-unuseds-fault-requires
-unuseds-fault-requires c κs = search needs
-
-enum-known-r-3 : tie.Need-enum-known-r-3
-enum-known-r-3 c = search needs
+solids-fault-requires : tie.Need-solids-fault-requires
+solids-fault-requires c κs =
+    let r = c .before .before in
+    passed _ (r .before .before .before .header-fault .ensures) (search needs) (r .records-fault .ensures) (search needs)
 
 returns-3 : tie.Need-returns-3
 unfolding judgedAt
 returns-3 c = search chain depth 12
-
-enum-told-3 : tie.Need-enum-told-3
-enum-told-3 c = search needs
-
-edges-fault-requires : tie.Need-edges-fault-requires
-edges-fault-requires c κs =
-    let d = c .before .before .before .before .before .before .before .before in
-    faces-upto limits _ (d .header-fault .ensures) (search needs)
-
-returns-4 : tie.Need-returns-4
-unfolding judgedAt
-returns-4 c = search chain depth 12
 
 pub judge-spec : {M : Type 1} → statement M
 judge-spec =
@@ -66,9 +53,5 @@ judge-spec =
     enum-known-r-2
     returns-2
     enum-told-2
-    unuseds-fault-requires
-    enum-known-r-3
-    returns-3
-    enum-told-3
-    edges-fault-requires
-    returns-4)
+    solids-fault-requires
+    returns-3)

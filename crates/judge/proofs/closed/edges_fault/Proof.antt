@@ -9,22 +9,16 @@ use Rattle.judge.proofs.closed.edges_fault.Statement.{statement}
 use Rattle.judge.proofs.closed.edges_fault.Tie as tie
 
 abbrev Inv-loop : tie.InvT-loop
-Inv-loop s a b wa wb n i₀ i = firstFault (edgeFault s) i n ≡ edgesFault s
+Inv-loop s wa wb n i₀ i = firstFault (edgeFault s) i n ≡ edgesFault s
 
 abbrev μ-loop : tie.MeasureT-loop
-μ-loop s a b wa wb n i₀ i = n - i
+μ-loop s wa wb n i₀ i = n - i
 
 byte-requires : tie.Need-byte-requires Inv-loop μ-loop
 byte-requires c κs = search loops
 
 byte-requires-2 : tie.Need-byte-requires-2 Inv-loop μ-loop
 byte-requires-2 c κs = search loops
-
-words-of-requires : tie.Need-words-of-requires Inv-loop μ-loop
-words-of-requires c κs = search loops
-
-words-of-requires-2 : tie.Need-words-of-requires-2 Inv-loop μ-loop
-words-of-requires-2 c κs = search loops
 
 add-n : tie.Need-add-n Inv-loop μ-loop
 add-n c = search loops
@@ -35,9 +29,8 @@ loop-holds c = first-to _ 0 (omega arith)
 
 edge-fault-requires : tie.Need-edge-fault-requires Inv-loop μ-loop
 edge-fault-requires c κs =
-    let d = c .before .before .before .before in
-    let e = d .before .before in
-    (omega arith, rw (e .before .byte .ensures .0) at (d .before .words-of .ensures), rw (e .before .byte .ensures .0, e .byte2 .ensures .0) at (d .words-of2 .ensures))
+    let d = c .before .before .before .before .before in
+    ((omega arith, d .pre .0 _ (omega arith)), d .pre .1)
 
 enum-known-r : tie.Need-enum-known-r Inv-loop μ-loop
 enum-known-r c = search loops
@@ -68,8 +61,6 @@ edges-fault-spec =
     μ-loop
     byte-requires
     byte-requires-2
-    words-of-requires
-    words-of-requires-2
     add-n
     loop-holds
     edge-fault-requires

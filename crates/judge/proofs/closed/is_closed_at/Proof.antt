@@ -22,7 +22,7 @@ returns c =
     let s = now (a .s) in
     let e : 0 + facesA s ≡ facesA s = omega arith in
     let w = c .before .before .before .before .pre in
-    c .sides-ok .ensures 0 (facesA s) (w .1)
+    c .sides-ok .ensures 0 (facesA s) (w .1 .0)
     ∙ ap (λ (n : ℕ). sidesOk s 0 n (a .i)) e ∙ sym (closed-of-a s (a .i) (omega arith))
 
 sides-ok-requires-2 : tie.Need-sides-ok-requires-2
@@ -33,7 +33,7 @@ returns-2 c =
     let a = c .before .before .before .before .args in
     let s = now (a .s) in
     let w = c .before .before .before .before .pre in
-    c .sides-ok2 .ensures (facesA s) (facesB s) (w .2) ∙ sym (closed-of-b s (a .i) (omega arith))
+    c .sides-ok2 .ensures (facesA s) (facesB s) (w .1 .1) ∙ sym (closed-of-b s (a .i) (omega arith))
 
 pub is-closed-at-spec : {M : Type 1} → statement M
 is-closed-at-spec =

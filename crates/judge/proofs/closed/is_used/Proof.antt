@@ -1,9 +1,13 @@
--- The search goes over the faces of the point's own solid.
+-- The bit of the point in the word of its own solid.
 use denote.Ref.{now}
+use Prim.Native.Nat.{ℕ, _+_}
+use mathlib.Core.Path.{_≡_, sym, ap, _∙_}
 use native.Mathlib.Omega.{arith}
-use mathlib.Core.Path.{sym, ap, _∙_}
 use Rattle.laws.specs.Range.{anyOf}
+use Rattle.scene.specs.Records.{facesA, facesB, faces}
+use Rattle.judge.specs.Judge.{isCorner}
 use Rattle.judge.specs.Cases.{used-of-a, used-of-b}
+use Rattle.judge.specs.Words.{in-used}
 use borrow.Author.Needs.{needs}
 use Rattle.judge.proofs.closed.is_used.Statement.{statement}
 use Rattle.judge.proofs.closed.is_used.Tie as tie
@@ -11,43 +15,31 @@ use Rattle.judge.proofs.closed.is_used.Tie as tie
 byte-requires : tie.Need-byte-requires
 byte-requires c κs = search needs
 
-byte-requires-2 : tie.Need-byte-requires-2
-byte-requires-2 c κs = search needs
-
-is-corner-of-any-requires : tie.Need-is-corner-of-any-requires
-is-corner-of-any-requires c κs = search needs
+in-used-requires : tie.Need-in-used-requires
+in-used-requires c κs = search needs
 
 returns : tie.Need-returns
-returns c = c .is-corner-of-any .ensures ∙ ap (anyOf _ 0) (c .before .before .byte2 .ensures .0) ∙ sym (used-of-a _ _ (omega arith))
+returns c =
+    let d = c .before .before .before .before in
+    let s = now (d .args .s) in
+    let e : 0 + facesA s ≡ facesA s = omega arith in
+    c .in-used .ensures ∙ in-used s 0 (facesA s) (d .args .p) (d .pre .0 .0) (omega arith) ∙ ap (anyOf (isCorner s (d .args .p)) 0) e
+    ∙ sym (used-of-a s (d .args .p) (omega arith))
 
-byte-requires-3 : tie.Need-byte-requires-3
-byte-requires-3 c κs = search needs
+sub-in-used : tie.Need-sub-in-used
+sub-in-used c = search needs
 
-add-is-corner-of-any : tie.Need-add-is-corner-of-any
-add-is-corner-of-any c = search needs
-
-sub-is-corner-of-any : tie.Need-sub-is-corner-of-any
-sub-is-corner-of-any c = search needs
-
-is-corner-of-any-requires-2 : tie.Need-is-corner-of-any-requires-2
-is-corner-of-any-requires-2 c κs = search needs
+in-used-requires-2 : tie.Need-in-used-requires-2
+in-used-requires-2 c κs = search needs
 
 returns-2 : tie.Need-returns-2
 returns-2 c =
-    let a = c .before .before .before .before .before .before .args in
-    let h = used-of-b (now (a .s)) (a .p) (omega arith) in
-    cc
+    let d = c .before .before .before .before in
+    let s = now (d .args .s) in
+    c .in-used2 .ensures ∙ in-used s (facesA s) (facesB s) _ (d .pre .0 .1) (omega arith) ∙ ap (λ (v : ℕ). anyOf (isCorner s v) (facesA s) (faces s)) (omega arith)
+    ∙ sym (used-of-b s (d .args .p) (omega arith))
 
 pub is-used-spec : {M : Type 1} → statement M
 is-used-spec =
     tie.close
-    (tie.spec
-    byte-requires
-    byte-requires-2
-    is-corner-of-any-requires
-    returns
-    byte-requires-3
-    add-is-corner-of-any
-    sub-is-corner-of-any
-    is-corner-of-any-requires-2
-    returns-2)
+    (tie.spec byte-requires in-used-requires returns sub-in-used in-used-requires-2 returns-2)

@@ -1,10 +1,11 @@
--- The two corners are read, and the faces of both are counted.
+-- The two corners are read, and the bit of one in the word of the other.
 use denote.Ref.{now}
 use Prim.Native.Nat.{_+_}
 use mathlib.Core.Path.{_∙_}
+use native.Mathlib.Omega.{arith}
 use Rattle.judge.specs.Judge.{edgeOk}
-use borrow.Author.Needs.{needs}
 use Rattle.judge.specs.Words.{in-even}
+use borrow.Author.Needs.{needs}
 use Rattle.judge.proofs.closed.side_ok.Statement.{statement}
 use Rattle.judge.proofs.closed.side_ok.Tie as tie
 
@@ -21,7 +22,7 @@ returns : tie.Need-returns
 returns c = λ a k are.
     let d = c .before in
     c .in-even .ensures
-    ∙ in-even _ _ _ _ _ _ are (d .before .corner .ensures .1) (d .corner2 .ensures .1)
+    ∙ in-even _ _ _ _ _ _ are (omega arith) (omega arith)
     ∙ (λ j. edgeOk (now (d .before .before .before .args .s)) a (a + k) (d .before .corner .ensures .0 j) (d .corner2 .ensures .0 j))
 
 pub side-ok-spec : {M : Type 1} → statement M

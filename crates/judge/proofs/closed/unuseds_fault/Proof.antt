@@ -9,10 +9,10 @@ use Rattle.judge.proofs.closed.unuseds_fault.Statement.{statement}
 use Rattle.judge.proofs.closed.unuseds_fault.Tie as tie
 
 abbrev Inv-loop : tie.InvT-loop
-Inv-loop s n p₀ p = firstFault (unusedFault s) p (n + 1) ≡ unusedsFault s
+Inv-loop s ua ub n p₀ p = firstFault (unusedFault s) p (n + 1) ≡ unusedsFault s
 
 abbrev μ-loop : tie.MeasureT-loop
-μ-loop s n p₀ p = n + 1 - p
+μ-loop s ua ub n p₀ p = n + 1 - p
 
 byte-requires : tie.Need-byte-requires Inv-loop μ-loop
 byte-requires c κs = search loops
@@ -31,7 +31,9 @@ add-loop : tie.Need-add-loop Inv-loop μ-loop
 add-loop c = search loops
 
 unused-fault-requires : tie.Need-unused-fault-requires Inv-loop μ-loop
-unused-fault-requires c κs = search loops
+unused-fault-requires c κs =
+    let d = c .before .before .before .before .before in
+    (d .pre .0, (omega arith, d .pre .1 .0, d .pre .1 .1))
 
 enum-known-r : tie.Need-enum-known-r Inv-loop μ-loop
 enum-known-r c = search loops

@@ -3,24 +3,32 @@ use Prim.Native.Nat.{_+_, _-_, _≤_}
 use mathlib.Core.Path.{_≡_}
 use native.Mathlib.Omega.{arith}
 use borrow.Author.Needs.{needs}
-use Rattle.judge.specs.Words.{AreWords, words-none, words-more}
+use Rattle.judge.specs.Words.{AreWords, usedWord, words-more, used-none, used-more}
 use Rattle.judge.proofs.words.words_of.Statement.{statement}
 use Rattle.judge.proofs.words.words_of.Tie as tie
 
 abbrev Inv-loop : tie.InvT-loop
-Inv-loop s a n words₀ k₀ words k = (k ≤ n) × AreWords s a k words
+Inv-loop s a n words₀ used₀ k₀ words used k = (k ≤ n) × AreWords s a k words × (used ≡ usedWord s a k)
 
 abbrev μ-loop : tie.MeasureT-loop
-μ-loop s a n words₀ k₀ words k = n - k
+μ-loop s a n words₀ used₀ k₀ words used k = n - k
 
 loop-holds : tie.Need-loop-holds Inv-loop μ-loop
-loop-holds c = (omega arith, words-none _ _)
+loop-holds c = (omega arith, c .before .pre .0, used-none _ _)
 
-add-mark-face : tie.Need-add-mark-face Inv-loop μ-loop
-add-mark-face c = search needs
+add-corners-word : tie.Need-add-corners-word Inv-loop μ-loop
+add-corners-word c = search needs
 
-mark-face-requires : tie.Need-mark-face-requires Inv-loop μ-loop
-mark-face-requires c κs = search needs
+corners-word-requires : tie.Need-corners-word-requires Inv-loop μ-loop
+corners-word-requires c κs = (omega arith, c .before .before .before .pre .1 .1 _ (omega arith))
+
+add-turn-face : tie.Need-add-turn-face Inv-loop μ-loop
+add-turn-face c = search needs
+
+turn-face-requires : tie.Need-turn-face-requires Inv-loop μ-loop
+turn-face-requires c κs =
+    let l = c .before .before .before in
+    (l .loop .inv .1 .size, omega arith, l .before .before .pre .1 .1 _ (omega arith), c .before .corners-word .ensures)
 
 add-k : tie.Need-add-k Inv-loop μ-loop
 add-k c = search needs
@@ -29,12 +37,15 @@ loop-less : tie.Need-loop-less Inv-loop μ-loop
 loop-less c = search needs
 
 loop-again : tie.Need-loop-again Inv-loop μ-loop
-loop-again c = (omega arith, words-more _ _ _ (c .before .before .before .loop .inv .1) (c .mark-face .ensures))
+loop-again c =
+    let i = c .before .before .before .before .loop .inv in
+    (omega arith, words-more _ _ _ (i .1) (c .turn-face .ensures), used-more _ _ _ (i .2) (c .before .before .corners-word .ensures))
 
 returns : tie.Need-returns Inv-loop μ-loop
 returns c =
     let e : c .before .loop .k ≡ c .before .before .before .args .n = omega arith in
-    rw (← e) (c .before .loop .inv .1)
+    let i = c .before .loop .inv in
+    rw (← e) (i .1, i .2)
 
 pub words-of-spec : {M : Type 1} → statement M
 words-of-spec =
@@ -43,8 +54,10 @@ words-of-spec =
     Inv-loop
     μ-loop
     loop-holds
-    add-mark-face
-    mark-face-requires
+    add-corners-word
+    corners-word-requires
+    add-turn-face
+    turn-face-requires
     add-k
     loop-less
     loop-again

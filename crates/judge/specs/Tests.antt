@@ -9,13 +9,12 @@ use native.Mathlib.Decide.{ℕ-discrete}
 use Rattle.laws.specs.Decides.{decides}
 use Rattle.laws.specs.Range.{fold, firstOf, over}
 use Rattle.scene.specs.declared.Refusal.{Refusal}
 use Rattle.judge.specs.Judge.{rule, andThen, firstFault, within}
 use Rattle.judge.specs.Laws.{rule-ok, rule-rest, rule-passed, then-first, then-rest, then-accepted}
 use Rattle.judge.specs.declared.Judged.{Judged}
 use Rattle.judge.specs.declared.Judged.the-variants.{Accepted, Refused}
-use Rattle.rules.specs.Rules.{Between}
 
-pub within-iff : (l h n : ℕ) → (within l h n ≡ true) ↔ Between l h n
+pub within-iff : (l h n : ℕ) → (within l h n ≡ true) ↔ ((l ≤ n) × (n ≤ h))
 unfolding within
 within-iff l h n = simp decides Iff·rfl
 

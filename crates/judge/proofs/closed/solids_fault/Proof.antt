@@ -1,0 +1,68 @@
+-- The words of both solids decide.
+use native.Mathlib.Omega.{arith}
+use Rattle.judge.specs.Laws.{chain}
+use Rattle.judge.specs.Words.{words-none}
+use borrow.Author.Needs.{needs}
+use Rattle.judge.proofs.closed.solids_fault.Statement.{statement}
+use Rattle.judge.proofs.closed.solids_fault.Tie as tie
+
+byte-requires : tie.Need-byte-requires
+byte-requires c κs = search needs
+
+byte-requires-2 : tie.Need-byte-requires-2
+byte-requires-2 c κs = search needs
+
+words-of-requires : tie.Need-words-of-requires
+words-of-requires c κs =
+    let p = c .before .before .before .before .pre in
+    (words-none _ _, (omega arith, λ i b. p .0 i (omega arith)))
+
+words-of-requires-2 : tie.Need-words-of-requires-2
+words-of-requires-2 c κs =
+    let p = c .before .before .before .before .before .before .pre in
+    (words-none _ _, (omega arith, λ i b. p .0 i (omega arith)))
+
+unuseds-fault-requires : tie.Need-unuseds-fault-requires
+unuseds-fault-requires c κs =
+    let d = c .before .before in
+    let e = d .before .before in
+    let p = e .before .before .before .pre in (
+      (rw (e .before .byte .ensures .0) at (d .words-of .ensures .1), rw (e .before .byte .ensures .0, e .byte2 .ensures .0) at (c .words-of2 .ensures .1)),
+      (p .1, p .2),
+    )
+
+enum-known-r : tie.Need-enum-known-r
+enum-known-r c = search needs
+
+returns : tie.Need-returns
+returns c = search chain depth 12
+
+enum-told : tie.Need-enum-told
+enum-told c = search needs
+
+edges-fault-requires : tie.Need-edges-fault-requires
+edges-fault-requires c κs =
+    let w = c .before .before .before .before .before in
+    let d = w .before .before in
+    let e = d .before .before in (
+      e .before .before .before .pre .0,
+      (rw (e .before .byte .ensures .0) at (d .words-of .ensures .0), rw (e .before .byte .ensures .0, e .byte2 .ensures .0) at (w .words-of2 .ensures .0)),
+    )
+
+returns-2 : tie.Need-returns-2
+returns-2 c = search chain depth 12
+
+pub solids-fault-spec : {M : Type 1} → statement M
+solids-fault-spec =
+    tie.close
+    (tie.spec
+    byte-requires
+    byte-requires-2
+    words-of-requires
+    words-of-requires-2
+    unuseds-fault-requires
+    enum-known-r
+    returns
+    enum-told
+    edges-fault-requires
+    returns-2)
