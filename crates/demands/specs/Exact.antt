@@ -103,7 +103,7 @@ module _ (s : List ℕ) where
     pub b-in-a : (p : ℕ) → (verdictOf s ≡ verdict.BInA p) ↔ (FileOk limits s × NonePierced × NoneEnclosed (VertexOfA s) × LowestEnclosed (VertexOfB s) p)
     pub apart : (verdictOf s ≡ verdict.Apart) ↔ (FileOk limits s × NonePierced × NoneEnclosed (VertexOfA s) × NoneEnclosed (VertexOfB s))
 
-  -- ---- "a 64-bit number whose bit k-1 is set exactly when the solid's k-th face is pierced, with the number of its ones"
+  -- ---- "bit k-1 is set exactly when the solid's k-th face is pierced, with the number of its ones", now "two words of 64 bits"
 
   -- of a solid with n faces that come after `behind` others
   pub record MaskIs (u v behind n mask ones : ℕ) : Type 0 where

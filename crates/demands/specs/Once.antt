@@ -1,10 +1,10 @@
 -- No second answer. For each public function of every crate, and of the very relation that its contract names: what is asked has no second answer,
--- nor second contents of a lent place. Bytes that are shown are said by what they hold, and an array is as long as its type says. `limits_agree`
--- answers nothing. Assumes nothing.
+-- nor second contents of a lent place. Bytes that are shown are said by what they hold, an array is as long as its type says, and the words of a
+-- mask are below 2 ^ 64 as theirs says. `limits_agree` answers nothing. Assumes nothing.
 use mathlib.Core.Path.{_≡_}
 use mathlib.Core.Bool.{Bool}
 use mathlib.Core.List.{List}
-use Prim.Native.Nat.{ℕ, _<_}
+use Prim.Native.Nat.{ℕ, _^_, _<_}
 use lib.Count.{ones}
 use lib.IntN.{ℤ}
 use lib.ListN.{length}
@@ -40,6 +40,7 @@ use Rattle.kernel.specs.Answers.{isPoint, signOf, piercesOf, saidMask, maskedOf
 use Rattle.kernel.specs.declared.points.Signed.{Signed}
 use Rattle.kernel.specs.declared.points.Answer.{Answer}
 use Rattle.kernel.specs.declared.masks.Masked.{Masked}
+use Rattle.kernel.specs.declared.masks.Masked.the-variants.{Refused, Faces}
 use Rattle.kernel.specs.declared.counts.Counted.{Counted}
 use Rattle.kernel.specs.declared.verdict.Verdict.{Verdict}
 use Rattle.kernel.specs.declared.lists.Listed.{Listed}
@@ -47,6 +48,17 @@ use Rattle.kernel.specs.declared.lists.Listed.{Listed}
 -- the same, among answers that are lists of one length
 abbrev pub OnceOfLength : {A B : Type 0} → (A → List B → Type 0) → Type 0
 OnceOfLength {A} {B} R = (a : A) (b c : List B) → length b ≡ length c → R a b → R a c → b ≡ c
+
+-- the same, among answers whose masks have words of 64 bits
+abbrev pub OnceOfWords : {A B : Type 0} → (B → Type 0) → (A → B → Type 0) → Type 0
+OnceOfWords {A} {B} P R = (a : A) (b c : B) → P b → P c → R a b → R a c → b ≡ c
+
+abbrev pub Words : Mask → Type 0
+Words m = (m .low < 2 ^ 64) × (m .high < 2 ^ 64)
+
+abbrev pub WordsSaid : Masked → Type 0
+WordsSaid (Refused r) = Unit {0}
+WordsSaid (Faces m n) = Words m
 
 pub record SceneOnce : Type 0 where
   pub number : Once (λ (r : Refusal) (n : ℕ). n ≡ numberOf r)
@@ -85,7 +97,7 @@ pub record EdgesOnce : Type 0 where
 
 pub record PierceOnce : Type 0 where
   pub mask : (corners : List ℕ) (n u v first count : ℕ) →
-      Once (λ (rows : List ℤ) (r : Mask). valueOf r ≡ maskAgainst n (rowIn rows) (faceIn corners) u v first count)
+      OnceOfWords Words (λ (rows : List ℤ) (r : Mask). valueOf r ≡ maskAgainst n (rowIn rows) (faceIn corners) u v first count)
   pub is-enclosed : (corners : List ℕ) (n u first count : ℕ) → Once (λ (rows : List ℤ) (r : Bool). r ≡ enclosed n (rowIn rows) (faceIn corners) u first count)
   pub pierces : (n u v : ℕ) (f : Face) → Once (λ (rows : List ℤ) (r : Bool). r ≡ pierced n (rowIn rows) u v f)
   pub ones-of : Once (λ (m : Mask) (r : ℕ). r ≡ ones (valueOf m))
@@ -107,7 +119,7 @@ pub record KernelOnce : Type 0 where
   pub is-point : (i : ℕ) → Once (λ (s : List ℕ) (r : Bool). r ≡ isPoint s i)
   pub sign : (a b c d : ℕ) → Once (λ (s : List ℕ) (r : Signed). r ≡ signOf s a b c d)
   pub pierces : (u v f : ℕ) → Once (λ (s : List ℕ) (r : Answer). r ≡ piercesOf s u v f)
-  pub mask : (u v k : ℕ) → Once (λ (s : List ℕ) (r : Masked). saidMask r ≡ maskedOf s u v k)
+  pub mask : (u v k : ℕ) → OnceOfWords WordsSaid (λ (s : List ℕ) (r : Masked). saidMask r ≡ maskedOf s u v k)
   pub enclosed : (i : ℕ) → Once (λ (s : List ℕ) (r : Answer). r ≡ enclosedOf s i)
   pub count : Once (λ (s : List ℕ) (r : Counted). r ≡ countedOf s)
   pub inside : (k : ℕ) → Once (λ (s : List ℕ) (r : Enclosing). r ≡ insideOf s k)

@@ -2,10 +2,11 @@
 -- Assumes nothing.
 use mathlib.Core.Path.{_≡_, sym, ap, _∙_}
 use mathlib.Core.List.{List}
-use Prim.Native.Nat.{ℕ, zero, suc, _+_, _*_, _/_, _%_, _<_}
+use Prim.Native.Nat.{ℕ, zero, suc, _+_, _*_, _/_, _%_, _^_, _<_}
 use native.Mathlib.Omega.{arith}
 use lib.IntN.{ℤ, pos}
 use lib.ListN.{length, getD}
+use lib.Pow.{low, high}
 use lib.Seq.{ext-getD}
 use Rattle.laws.specs.Unique.{once}
 use Rattle.scene.specs.Arrays.{rowIn, faceIn}
@@ -16,19 +17,26 @@ use Rattle.pierce.specs.declared.faces.Mask.{Mask}
 use Rattle.kernel.specs.Answers.{saidMask}
 use Rattle.kernel.specs.declared.masks.Masked.{Masked}
 use Rattle.kernel.specs.declared.masks.Masked.the-variants.{Refused, Faces}
-use Rattle.demands.specs.Once.{SceneOnce, JudgeOnce, RecordOnce, OrientOnce, EdgesOnce, PierceOnce, ListingOnce, KernelOnce, NoSecondAnswer}
+use Rattle.demands.specs.Once.{Words, WordsSaid, SceneOnce, JudgeOnce, RecordOnce, OrientOnce, EdgesOnce, PierceOnce, ListingOnce, KernelOnce, NoSecondAnswer}
 
 -- ---- a mask is its number
 
-same-mask : (m o : Mask) → valueOf m ≡ valueOf o → m ≡ o
-unfolding valueOf
-same-mask m o e i = record { word = e i }
+same-parts : (n a b c d : ℕ) → a < 2 ^ n → c < 2 ^ n → a + 2 ^ n * b ≡ c + 2 ^ n * d → (a ≡ c) × (b ≡ d)
+same-parts n a b c d p q e =
+    let f : b * 2 ^ n + a ≡ d * 2 ^ n + c = omega (arith, e) in
+    (sym (low b n p) ∙ ap (λ (x : ℕ). x % 2 ^ n) f ∙ low d n q, sym (high b n p) ∙ ap (λ (x : ℕ). x / 2 ^ n) f ∙ high d n q)
 
-same-said : (a b : Masked) → saidMask a ≡ saidMask b → a ≡ b
-same-said (Refused q) (Refused r) e = cc
-same-said (Refused q) (Faces o n) e = cc
-same-said (Faces m k) (Refused r) e = cc
-same-said (Faces m k) (Faces o n) e = let d : valueOf m ≡ valueOf o = cc in let f : k ≡ n = cc in let g : m ≡ o = same-mask m o d in cc
+same-mask : (m o : Mask) → Words m → Words o → valueOf m ≡ valueOf o → m ≡ o
+unfolding valueOf
+same-mask m o p q e =
+    let h = same-parts 64 (m .low) (m .high) (o .low) (o .high) (p .0) (q .0) e in
+    λ i. record { low = h .0 i; high = h .1 i }
+
+same-said : (a b : Masked) → WordsSaid a → WordsSaid b → saidMask a ≡ saidMask b → a ≡ b
+same-said (Refused q) (Refused r) x y e = cc
+same-said (Refused q) (Faces o n) x y e = cc
+same-said (Faces m k) (Refused r) x y e = cc
+same-said (Faces m k) (Faces o n) x y e = let d : valueOf m ≡ valueOf o = cc in let f : k ≡ n = cc in let g : m ≡ o = same-mask m o x y d in cc
 
 -- ---- the arrays of a scene
 
@@ -94,7 +102,7 @@ of-edges = record { is-corner = λ i. once _; neighbours-of = λ k u. once _ }
 of-pierce : PierceOnce
 of-pierce =
     record {
-      mask = λ corners n u v first count rows b c p q. same-mask b c (p ∙ sym q);
+      mask = λ corners n u v first count rows b c x y p q. same-mask b c x y (p ∙ sym q);
       is-enclosed = λ corners n u first count. once _;
       pierces = λ n u v f. once _;
       ones-of = once _;
@@ -120,7 +128,7 @@ of-kernel =
       is-point = λ i. once _;
       sign = λ a b c d. once _;
       pierces = λ u v f. once _;
-      mask = λ u v k s b c p q. same-said b c (p ∙ sym q);
+      mask = λ u v k s b c x y p q. same-said b c x y (p ∙ sym q);
       enclosed = λ i. once _;
       count = once _;
       inside = λ k. once _;

@@ -8,6 +8,7 @@ use lib.Dec.{leb}
 use lib.ListN.{length, take, drop}
 use lib.Seq.{take-at, length-take-le}
 use borrow.Author.Tests.{le-leb, lt-leb}
+use Rattle.scene.specs.Limits.{limits}
 use Rattle.scene.specs.declared.Refusal.{Refusal}
 use Rattle.scene.specs.declared.Refusal.the-variants.{Room}
 use Rattle.judge.specs.Judge.{rule, judged}
@@ -21,6 +22,10 @@ use Rattle.kernel.specs.Scene.{listingOf}
 use Rattle.kernel.specs.Answers.{answered, listFault, IsListed, IsPart}
 use Rattle.kernel.specs.declared.lists.Listed.{Listed}
 use Rattle.kernel.specs.declared.lists.Listed.the-variants as listed
+
+-- the places of the list that a listing is poured into first: three for each pair of the longest
+abbrev pub ownPlaces : ℕ
+ownPlaces = 3 * (2 * limits .mostFaces * limits .mostFaces)
 
 -- the listing poured into a list with room, copied from there
 copied : (l : List Hit) (own d : List ℕ) → 3 * length l ≤ length own → take (3 * length l) (allIn l own) ++ drop (3 * length l) d ≡ allIn l d

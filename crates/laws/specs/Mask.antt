@@ -4,15 +4,15 @@ use mathlib.Core.Path.{_≡_, refl, sym, ap, ap₂, _∙_}
 use mathlib.Core.Bool.{Bool, true, false, not, _||_}
 use mathlib.Core.List.{List, [], _∷_}
 use Prim.Native.Nat.{ℕ, zero, suc, _+_, _-_, _*_, _^_, _/_, _%_, _≤_, _<_}
-use native.Mathlib.Nat.{pow-suc, add-comm, mul-assoc, mul-le-mul-right}
+use native.Mathlib.Nat.{pow-suc, add-comm, mul-comm, mul-assoc, mul-le-mul-right, add-mul-div-left}
 use native.Mathlib.Decide.{ℕ-discrete}
 use native.Mathlib.Numerals.{add-one}
 use native.Mathlib.Omega.{arith}
 use borrow.Author.Tests.{eq-eqb, ne-eqb}
-use lib.Count.{ones, ones-step}
+use lib.Count.{ones, ones-step, ones-cat}
 use lib.Dec.{lit<, eqb}
 use lib.Bits.{bitOr, bitXor, or-shifted-r, or-block, xor-block}
-use lib.Pow.{shl-exact, shr-shr}
+use lib.Pow.{pow-add, pow-pos, shl-exact, shr-shr, high}
 use Rattle.laws.specs.Bools.{_⊕_}
 use Rattle.laws.specs.Range.{more, fold}
 use Rattle.laws.specs.Even.{odd, count, oddN, odd-count}
@@ -211,3 +211,42 @@ mask-test g (suc n) (suc k) h =
   where
     next : (k : ℕ) → suc k ≡ 1 + k
     next k = omega arith
+
+-- ---- of two parts: a below 2 ^ n, and b above it
+
+pub mask-join : (g : ℕ → Bool) (m n : ℕ) → maskOf g (m + n) ≡ maskOf g m + 2 ^ m * maskOf (λ k. g (m + k)) n
+unfolding maskOf
+mask-join g m zero = let e : m + 0 ≡ m = omega arith in rw e (omega arith)
+mask-join g m (suc n) =
+    let e : m + suc n ≡ suc (m + n) = omega arith in
+    let p : digit (g (m + n)) * 2 ^ (m + n) ≡ digit (g (m + n)) * (2 ^ m * 2 ^ n) = ap (λ (x : ℕ). digit (g (m + n)) * x) (pow-add 2 m n) in
+    rw e (omega (arith, p, mask-join g m n))
+
+pub ones-join : (n a b : ℕ) → a < 2 ^ n → ones (a + 2 ^ n * b) ≡ ones a + ones b
+ones-join n a b h =
+    ap ones (add-comm a (2 ^ n * b) ∙ ap (λ (x : ℕ). x + a) (mul-comm (2 ^ n) b)) ∙ ones-cat n b a h ∙ add-comm (ones b) (ones a)
+
+pub test-low : (n a b k : ℕ) → k < n → testBit (a + 2 ^ n * b) k ≡ testBit a k
+test-low n a b k h = ap (λ (r : ℕ). eqb r 1) low
+  where
+    j : ℕ
+    j = n - (k + 1)
+
+    apart : 2 ^ n * b ≡ 2 ^ k * (2 * (2 ^ j * b))
+    apart =
+        let e : n ≡ k + 1 + j = omega arith in
+        ap (λ (i : ℕ). 2 ^ i * b) e ∙ ap (λ (x : ℕ). x * b) (pow-add 2 (k + 1) j ∙ ap (λ (x : ℕ). x * 2 ^ j) (pow-add 2 k 1)) ∙ omega arith
+
+    low : (a + 2 ^ n * b) / 2 ^ k % 2 ≡ a / 2 ^ k % 2
+    low =
+        let e : (a + 2 ^ n * b) / 2 ^ k ≡ a / 2 ^ k + 2 * (2 ^ j * b) = ap (λ (x : ℕ). (a + x) / 2 ^ k) apart ∙ add-mul-div-left a (2 * (2 ^ j * b)) (pow-pos k) in
+        omega (arith, e)
+
+pub test-high : (n a b k : ℕ) → a < 2 ^ n → n ≤ k → testBit (a + 2 ^ n * b) k ≡ testBit b (k - n)
+test-high n a b k h l =
+    ap (λ (q : ℕ). eqb (q % 2) 1)
+    (ap (λ (i : ℕ). (a + 2 ^ n * b) / 2 ^ i) e ∙ sym (shr-shr (a + 2 ^ n * b) n (k - n))
+    ∙ ap (λ (q : ℕ). q / 2 ^ (k - n)) (ap (λ (x : ℕ). x / 2 ^ n) (add-comm a (2 ^ n * b) ∙ ap (λ (x : ℕ). x + a) (mul-comm (2 ^ n) b)) ∙ high b n h))
+  where
+    e : k ≡ n + (k - n)
+    e = omega arith

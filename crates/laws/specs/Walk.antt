@@ -9,7 +9,7 @@ use native.Mathlib.Nat.{pow-suc, mod-lt, zero-lt-suc, lt-of-lt-of-le}
 use native.Mathlib.Omega.{arith}
 use native.Mathlib.Decide.{ℕ-discrete}
 use lib.Bits.{bitAnd, and-step, and-self, and-le-r}
-use lib.Count.{trailingZeros}
+use lib.Count.{trailingZeros, under}
 use lib.Pow.{pow-mono}
 use Rattle.laws.specs.Mask.{digit, digit-lt, maskOf, mask-lt, mask-low}
 
@@ -83,6 +83,54 @@ walk-turn d w h l = places-turn d 0 w h l ∙ ap (λ (t : ℕ). t ∷ places d 0
 
 pub walk-less : (w : ℕ) → 0 < w → bitAnd w (w - 1) < w
 walk-less w h = omega (arith, and-le-r w (w - 1))
+
+-- ---- the trailing zeros of a number of two parts, a below 2 ^ n, and b above it
+
+pub trailing-low : (n d a b : ℕ) → 0 < a → a < 2 ^ n → trailingZeros (n + d) (a + 2 ^ n * b) ≡ trailingZeros n a
+unfolding trailingZeros
+trailing-low zero d a b p h = absurd (omega arith)
+trailing-low (suc n) d a b p h = rw (e, odd, half) (by (two-cases a) (λ q. trailing-low n d (a / 2) b q (omega (arith, pow-suc 2 n))))
+  where
+    e : suc n + d ≡ suc (n + d)
+    e = omega arith
+
+    twice : 2 ^ suc n * b ≡ 2 * (2 ^ n * b)
+    twice = ap (λ (x : ℕ). x * b) (pow-suc 2 n) ∙ omega arith
+
+    odd : (a + 2 ^ suc n * b) % 2 ≡ a % 2
+    odd = omega (arith, twice)
+
+    half : (a + 2 ^ suc n * b) / 2 ≡ a / 2 + 2 ^ n * b
+    half = omega (arith, twice)
+
+    by : (a % 2 ≡ 1) ⊎ (a % 2 ≡ 0) → (0 < a / 2 → trailingZeros (n + d) (a / 2 + 2 ^ n * b) ≡ trailingZeros n (a / 2))
+        → under (a % 2) (trailingZeros (n + d) (a / 2 + 2 ^ n * b)) ≡ under (a % 2) (trailingZeros n (a / 2))
+    by (inl o) ih = rw o
+    by (inr z) ih = rw (z, ih (omega arith))
+
+pub trailing-high : (n d b : ℕ) → trailingZeros (n + d) (2 ^ n * b) ≡ n + trailingZeros d b
+unfolding trailingZeros
+trailing-high zero d b =
+    let e : 0 + d ≡ d = omega arith in
+    let f : 2 ^ 0 * b ≡ b = omega arith in
+    let g : 0 + trailingZeros d b ≡ trailingZeros d b = omega arith in
+    rw (e, f, g)
+trailing-high (suc n) d b = rw (e, even, half, trailing-high n d b, f)
+  where
+    e : suc n + d ≡ suc (n + d)
+    e = omega arith
+
+    f : suc n + trailingZeros d b ≡ suc (n + trailingZeros d b)
+    f = omega arith
+
+    twice : 2 ^ suc n * b ≡ 2 * (2 ^ n * b)
+    twice = ap (λ (x : ℕ). x * b) (pow-suc 2 n) ∙ omega arith
+
+    even : 2 ^ suc n * b % 2 ≡ 0
+    even = omega (arith, twice)
+
+    half : 2 ^ suc n * b / 2 ≡ 2 ^ n * b
+    half = omega (arith, twice)
 
 -- ---- of a mask
 

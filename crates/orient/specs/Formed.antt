@@ -1,5 +1,5 @@
 -- What is formed on the way to a determinant by minors, and how large it is: at most 24 times the product of the columns' sizes. The numbers
--- formed for a scene are at most 5 × 10^17. Assumes nothing.
+-- formed for a scene are at most 3.5 × 10^18. Assumes nothing.
 use mathlib.Core.Path.{_≡_, subst}
 use Prim.Native.Nat.{ℕ, _+_, _*_, _^_, _≤_}
 use native.Mathlib.Nat.{le-trans, add-le-add, mul-le-mul, mul-le-mul-left}
@@ -13,7 +13,7 @@ use Rattle.orient.specs.declared.Line.{Line}
 
 -- no number that is formed for a scene is larger
 abbrev pub mostFormed : ℕ
-mostFormed = 5 * 10 ^ 17
+mostFormed = 35 * 10 ^ 17
 
 -- ---- what is formed, each product and sum by the sizes of its parts
 

@@ -8,6 +8,7 @@ ghost use Rattle.orient.specs.Terms.{positiveAt};
 ghost use Rattle.pierce.specs.Formula.{canHelp, helper, counts, sidesCount, pierced};
 ghost use Rattle.pierce.specs.Faces.{maskAgainst, enclosed, valueOf};
 use faces::Mask;
+use faces::WORD;
 use scene::Corners;
 use scene::Face;
 use scene::Rows;
@@ -30,6 +31,33 @@ pub fn mask(
     requires faces { ⌜ (first + count ≤ 2 * limits .mostFaces) × (count ≤ limits .mostFaces) ⌝ }
     ensures { λ r. ⌜ valueOf r ≡ maskAgainst n (rowIn (now (rows .entry))) (faceIn (now (corners .entry))) u v first count ⌝ }
 {
+    if count <= WORD {
+        let low = word(rows, corners, n, u, v, first, count);
+        return Mask { low: low, high: 0 };
+    }
+    let low = word(rows, corners, n, u, v, first, WORD);
+    let high = word(rows, corners, n, u, v, first + WORD, count - WORD);
+    Mask {
+        low: low,
+        high: high,
+    }
+}
+
+// The same for so few faces that one word holds it.
+fn word(
+    rows: &Rows,
+    corners: &Corners,
+    n: usize,
+    u: usize,
+    v: usize,
+    first: usize,
+    count: usize,
+) -> u64
+    requires rows { ⌜ AllWithin limits (rowIn (now rows)) × FacesWithin limits (faceIn (now corners)) ⌝ }
+    requires points { ⌜ (6 ≤ n) × (n ≤ mostPoints limits) × (u ≤ mostPoints limits) × (v ≤ mostPoints limits) ⌝ }
+    requires faces { ⌜ (first + count ≤ 2 * limits .mostFaces) × (count ≤ 64) ⌝ }
+    ensures { λ r. ⌜ r ≡ maskAgainst n (rowIn (now (rows .entry))) (faceIn (now (corners .entry))) u v first count ⌝ }
+{
     let mut word: u64 = 0;
     let mut k: usize = 0;
     while k < count {
@@ -37,7 +65,7 @@ pub fn mask(
         word = word | bit(pierces(rows, n, u, v, f)) << k;
         k += 1;
     }
-    Mask { word: word }
+    word
 }
 
 // The point u is enclosed by the solid: its mask toward the far point, point n, has an odd number of ones.

@@ -10,7 +10,11 @@ pub record Limits : Type 0 where
   pub mostWeight : ℕ
 
 abbrev pub limits : Limits
-limits = record { leastVertices = 3; mostVertices = 32; leastFaces = 2; mostFaces = 64; mostCoordinate = 4095; mostWeight = 16 }
+limits = record { leastVertices = 3; mostVertices = 48; leastFaces = 2; mostFaces = 96; mostCoordinate = 4095; mostWeight = 16 }
+
+-- those before larger models
+abbrev pub limitsBefore : Limits
+limitsBefore = record { leastVertices = 3; mostVertices = 32; leastFaces = 2; mostFaces = 64; mostCoordinate = 4095; mostWeight = 16 }
 
 -- the highest point number, the far point's, and the longest scene
 abbrev pub mostPoints : Limits → ℕ

@@ -17,11 +17,11 @@ pub struct Scene {
 impl Scene {
     pub const LEAST_VERTICES: usize = 3;
 
-    pub const MOST_VERTICES: usize = 32;
+    pub const MOST_VERTICES: usize = 48;
 
     pub const LEAST_FACES: usize = 2;
 
-    pub const MOST_FACES: usize = 64;
+    pub const MOST_FACES: usize = 96;
 
     pub const MOST_COORDINATE: usize = 4095;
 

@@ -2,7 +2,7 @@ use native.Mathlib.Omega.{arith}
 use lib.ListN.{length, replicate, length-replicate}
 use Prim.Native.Nat.{ℕ, _*_, _≤_}
 use Rattle.kernel.specs.Laws.{accepted-so}
-use Rattle.kernel.specs.Listings.{list-refused, list-short, list-poured, own-long, list-copied}
+use Rattle.kernel.specs.Listings.{ownPlaces, list-refused, list-short, list-poured, own-long, list-copied}
 use borrow.Author.Needs.{needs}
 use Rattle.kernel.proofs.lists.listing.Statement.{statement}
 use Rattle.kernel.proofs.lists.listing.Tie as tie
@@ -44,17 +44,17 @@ array-share-prefix-own : tie.Need-array-share-prefix-own
 array-share-prefix-own c = search needs
 
 slice-aggregate-copy-in : tie.Need-slice-aggregate-copy-in
-slice-aggregate-copy-in c = own-long (c .before .before .before .before .pour .ensures) (omega (arith, length-replicate {A = ℕ} 24576 0))
+slice-aggregate-copy-in c = own-long (c .before .before .before .before .pour .ensures) (omega (arith, length-replicate {A = ℕ} ownPlaces 0))
 
 copy-in-requires : tie.Need-copy-in-requires
-copy-in-requires c κs = rw (← own-long (c .before .before .before .before .before .pour .ensures) (omega (arith, length-replicate {A = ℕ} 24576 0))) (omega arith)
+copy-in-requires c κs = rw (← own-long (c .before .before .before .before .before .pour .ensures) (omega (arith, length-replicate {A = ℕ} ownPlaces 0))) (omega arith)
 
 same-length-2 : tie.Need-same-length-2
 same-length-2 c = search needs
 
 returns-4 : tie.Need-returns-4
 returns-4 c =
-    let room : 3 * c .before .before .before .before .before .before .before .before .pour .result ≤ length {A = ℕ} (replicate 24576 0) = omega (arith, length-replicate {A = ℕ} 24576 0) in
+    let room : 3 * c .before .before .before .before .before .before .before .before .pour .result ≤ length {A = ℕ} (replicate ownPlaces 0) = omega (arith, length-replicate {A = ℕ} ownPlaces 0) in
     search list-copied
 
 pub listing-spec : {M : Type 1} → statement M

@@ -35,14 +35,14 @@ add-t13 : tie.Need-add-t13
 add-t13 c =
     let m = c .before .before .before .before in
     let s = m .before .before .before in
-    omega (arith, c .first-face .ensures, edge-face (viewIn (s .args .n) (now (s .args .rows)) (now (s .args .corners))) (s .args .k) (s .args .u) (s .args .v) (m .edge-mask .ensures) (not-false (s .args .both) (m .before .before .if1 .left)) (m .before .if2 .left) (s .pre .0 .other .1) (some-face _ (c .before .before .before .has-face .ensures) (c .before .before .if3 .taken)), s .pre .0 .other .0)
+    omega (arith, c .first-face .ensures, edge-face (viewIn (s .args .n) (now (s .args .rows)) (now (s .args .corners))) (s .args .k) (s .args .u) (s .args .v) (m .edge-mask .ensures) (not-false (s .args .both) (m .before .before .if1 .left)) (m .before .if2 .left) (omega (arith, s .pre .0 .other .1)) (some-face _ (c .before .before .before .has-face .ensures) (c .before .before .if3 .taken)), s .pre .0 .other .0)
 
 returns-3 : tie.Need-returns-3
 returns-3 c =
     let m = c .before .before .before .before in
     let s = m .before .before .before in
     ap (λ (t : ℕ). Pair (s .args .u) (s .args .v) (s .args .k .other + 1 + t)) (c .first-face .ensures)
-    ∙ edge-first (viewIn (s .args .n) (now (s .args .rows)) (now (s .args .corners))) (s .args .k) (s .args .u) (s .args .v) (m .edge-mask .ensures) (not-false (s .args .both) (m .before .before .if1 .left)) (m .before .if2 .left) (s .pre .0 .other .1) (some-face _ (c .before .before .before .has-face .ensures) (c .before .before .if3 .taken))
+    ∙ edge-first (viewIn (s .args .n) (now (s .args .rows)) (now (s .args .corners))) (s .args .k) (s .args .u) (s .args .v) (m .edge-mask .ensures) (not-false (s .args .both) (m .before .before .if1 .left)) (m .before .if2 .left) (omega (arith, s .pre .0 .other .1)) (some-face _ (c .before .before .before .has-face .ensures) (c .before .before .if3 .taken))
 
 returns-4 : tie.Need-returns-4
 returns-4 c =
