@@ -6,7 +6,7 @@ vertices and faces of B); the second group changes the written bytes.
 
 from judge import FACE_COUNTS, record_marks, records
 
-LONGEST_ENTRY = 1300
+LONGEST_ENTRY = 1900
 
 
 def any_solid(rng, parts):
@@ -101,7 +101,7 @@ def bad_mark(rng, data):
 
 
 def bad_count(rng, data):
-    return set_byte(data, rng.randrange(2, 6), rng.choice((0, 1, 2, 3, 4, 32, 33, 64, 65, 128, 255)))
+    return set_byte(data, rng.randrange(2, 6), rng.choice((0, 1, 2, 3, 4, 48, 49, 96, 97, 128, 255)))
 
 
 def bad_length(rng, data):

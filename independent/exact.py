@@ -192,7 +192,7 @@ def answer_mask(scene, u, v, solid):
     need(u in scene.points and v in scene.points and solid in (1, 2), 11)
     need(u != v and not {u, v} & set(scene.vertices(solid)), 12)
     mask = scene.mask(u, v, solid)
-    return [f"mask {mask} {ones(mask)}"]
+    return [f"mask {mask % 2 ** 64} {mask >> 64} {ones(mask)}"]
 
 
 def answer_enclosed(scene, vertex):

@@ -2,8 +2,8 @@
 
 import struct
 
-VERTEX_COUNTS = range(3, 32 + 1)
-FACE_COUNTS = range(2, 64 + 1)
+VERTEX_COUNTS = range(3, 48 + 1)
+FACE_COUNTS = range(2, 96 + 1)
 COORDINATES = range(-4095, 4095 + 1)
 WEIGHTS = range(-16, 16 + 1)
 

@@ -13,7 +13,7 @@ from judge import COORDINATES, LONGEST_SCENE, WEIGHTS, judge, record_marks, scen
 from tables import table
 
 # The least and the most vertices of a solid, and how often such a size is taken.
-SIZES = {(3, 3): 2, (3, 4): 16, (3, 6): 28, (4, 8): 28, (6, 12): 18, (10, 32): 6, (32, 32): 2}
+SIZES = {(3, 3): 2, (3, 4): 16, (3, 6): 28, (4, 8): 28, (6, 12): 18, (10, 32): 6, (33, 48): 2, (48, 48): 1}
 NONZERO_WEIGHTS = [w for w in WEIGHTS if w]
 
 

@@ -75,12 +75,12 @@ def limit_cases():
     yield "weight 16", judge(with_vertex((0, 0, 0, 16))), None
     yield "weight 17", judge(with_vertex((0, 0, 0, 17))), (6, 2)
     yield "weight 0", judge(with_vertex((0, 0, 0, 0))), (6, 2)
-    yield "32 vertices", judge(with_vertices(most)), None
-    yield "33 vertices", judge(with_vertices(most + 1)), (2, 0)
+    yield "48 vertices", judge(with_vertices(most)), None
+    yield "49 vertices", judge(with_vertices(most + 1)), (2, 0)
     yield "a byte too long", judge(PRINTED + b"\0"), (3, 0)
     yield "a byte too short", judge(PRINTED[:-1]), (3, 0)
     yield "empty input", judge(b""), (1, 0)
-    yield "longest scene", LONGEST_SCENE, 1233
+    yield "longest scene", LONGEST_SCENE, 17 + 9 * 96 + 5 * 192
 
 
 def printed_cases():
@@ -90,7 +90,7 @@ def printed_cases():
             ("judge", "accepted"), ("sign 1 2 3 4", "sign - -64 -1152 -632 -12"),
             ("sign 1 1 2 30", "refused 11 0"), ("sign 1 1 2 3", "refused 12 0"),
             ("pierces 5 6 1", "pierces yes"), ("pierces 6 7 1", "pierces no"),
-            ("mask 5 6 1", "mask 1 1"), ("mask 9 9 3", "refused 11 0"),
+            ("mask 5 6 1", "mask 1 0 1"), ("mask 9 9 3", "refused 11 0"),
             ("enclosed 5", "enclosed yes"), ("enclosed 9", "refused 11 0"),
             ("verdict", "verdict cross 5 6 1"), ("counts", "counts 3 0 1"),
             ("record 0", "record 83 67 4 4 4 4"), ("record 19", "refused 11 0"),

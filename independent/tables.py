@@ -37,7 +37,7 @@ def box(rng):
 def globe(rng):
     """A sphere: rings of vertices between two tips."""
     rings, around = rng.choice([(1, 3), (1, 4), (1, 6), (1, 12), (2, 4), (2, 7), (3, 4), (3, 5),
-                                (3, 10), (4, 5), (5, 6)])
+                                (3, 10), (4, 5), (5, 6), (4, 11)])
     last = rings * around + 1
     vertex = lambda ring, k: 2 + ring * around + k % around
     faces, places = [], [(0, 0, 1)]
@@ -54,7 +54,7 @@ def globe(rng):
 
 
 def torus(rng):
-    long, short = rng.choice([(3, 3), (4, 3), (5, 3), (4, 4), (6, 4), (7, 3), (10, 3), (8, 4)])
+    long, short = rng.choice([(3, 3), (4, 3), (5, 3), (4, 4), (6, 4), (7, 3), (10, 3), (8, 4), (12, 4)])
     vertex = lambda i, j: 1 + i % long * short + j % short
     faces, places = [], []
     for i in range(long):
@@ -70,7 +70,7 @@ def torus(rng):
 def grown(rng):
     """A tetrahedron with vertices set upon its faces: spiky and rarely convex."""
     faces, places = tetrahedron(rng)
-    for new in range(5, 5 + rng.choice([1, 2, 3, 5, 8, 28])):
+    for new in range(5, 5 + rng.choice([1, 2, 3, 5, 8, 28, 44])):
         p, q, r = faces.pop(rng.randrange(len(faces)))
         faces += [(p, q, new), (q, r, new), (p, r, new)]
         lift = rng.choice((0.2, 0.33, 0.5, 0.6))
@@ -86,7 +86,7 @@ def bound_to_cross(rng):
 
 def stack(rng):
     """Two-face bodies that share corners but no edge: the remainders of k name the corners."""
-    size, first, second, third = rng.choice([(4, 4, 3, 5), (9, 5, 4, 3), (12, 4, 3, 5), (32, 12, 11, 9)])
+    size, first, second, third = rng.choice([(4, 4, 3, 5), (9, 5, 4, 3), (12, 4, 3, 5), (32, 12, 11, 9), (48, 17, 16, 15)])
     corners = [(1 + k % first, 1 + first + k % second, 1 + first + second + k % third)
                for k in range(size)]
     names = {old: new for new, old in enumerate(sorted({c for face in corners for c in face}), 1)}

@@ -12,7 +12,7 @@ using Byte = std::uint8_t;
 
 // ---- a scene
 
-constexpr int leastVertices = 3, mostVertices = 32, leastFaces = 2, mostFaces = 64;
+constexpr int leastVertices = 3, mostVertices = 48, leastFaces = 2, mostFaces = 96;
 constexpr Whole mostCoordinate = 4095, mostWeight = 16;
 constexpr int mostPoints = 2 * mostVertices + 1;
 

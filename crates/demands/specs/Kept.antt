@@ -6,15 +6,15 @@ use lib.Count.{ones}
 use lib.Dec.{leb}
 use lib.ListN.{length}
 use Rattle.laws.specs.Lists.{Number}
-use Rattle.scene.specs.Limits.{limits}
+use Rattle.scene.specs.Limits.{limits, limitsBefore}
 use Rattle.scene.specs.Records.{facesA, verts, faces}
 use Rattle.scene.specs.Tables.{faceAt, tablesOf, row, face}
 use Rattle.scene.specs.Faces.{Both, Sides}
-use Rattle.scene.specs.declared.Refusal.the-variants.{Room, Lacking, Same}
-use Rattle.judge.specs.Judge.{rule, judged}
+use Rattle.scene.specs.declared.Refusal.the-variants.{Counts, Room, Lacking, Same}
+use Rattle.judge.specs.Judge.{rule, judgedAt, judged}
 use Rattle.judge.specs.declared.Judged.{Judged}
-use Rattle.judge.specs.declared.Judged.the-variants.{Accepted}
-use Rattle.rules.specs.Rules.{HeaderOk, RecordsOk, AllUsed}
+use Rattle.judge.specs.declared.Judged.the-variants.{Accepted, Refused}
+use Rattle.rules.specs.Rules.{CountsOk, HeaderOk, RecordsOk, AllUsed}
 use Rattle.orient.specs.Terms.{positiveAt, termsAt}
 use Rattle.pierce.specs.Formula.{pierced}
 use Rattle.listing.specs.Pour.{allIn, partIn}
@@ -77,5 +77,15 @@ module _ (s : List ℕ) where
     pub used : AllUsed s
     pub sides : (i : ℕ) → i < faces s → InTwo i
 
+  -- ---- before larger models: the same rules at the limits of that time
+
+  pub record SmallerLimits : Type 0 where
+    pub judged-alike : CountsOk limitsBefore s → judgedAt limitsBefore s ≡ judged s
+    pub accepted-still : judgedAt limitsBefore s ≡ Accepted → Still
+    pub refused-then : judged s ≡ Accepted → ¬ CountsOk limitsBefore s → judgedAt limitsBefore s ≡ Refused Counts
+
 abbrev pub SharedEdges : Type 0
 SharedEdges = (s : List ℕ) → RulesOfTwo s → Still s
+
+abbrev pub LargerModels : Type 0
+LargerModels = (s : List ℕ) → SmallerLimits s

@@ -1,4 +1,4 @@
--- The shift is real. For every accepted scene and every whole N above 5 × 10^17 the rows (N·x + w·i, N·y + w·i², N·z + w·i³, w) have no zero
+-- The shift is real. For every accepted scene and every whole N above 3.5 × 10^18 the rows (N·x + w·i, N·y + w·i², N·z + w·i³, w) have no zero
 -- determinant of four different points, and with the sign of that determinant they give the same signs, masks, enclosed vertices, listing and
 -- verdict as the scene does. Assumes nothing.
 use mathlib.Core.Path.{_≡_}

@@ -2,9 +2,10 @@
 // ring's vertices, every other one.
 ghost use Prim.Native.Nat.{_≤_, _<_};
 use crate::say;
+use scene::Scene;
 
-// Room for 33 vertices and 65 faces a solid.
-const ROOM: usize = 17 + 18 * 33 + 10 * 65;
+// Room for one vertex and one face a solid more than there may be, and for one byte.
+const ROOM: usize = 18 + 18 * (Scene::MOST_VERTICES + 1) + 10 * (Scene::MOST_FACES + 1);
 
 pub fn put(s: &mut [u8], i: usize, b: u8) {
     if i < s.len() {
@@ -49,7 +50,7 @@ fn put_face(s: &mut [u8], at: usize, p: usize, q: usize, r: usize)
 
 // The far point, then v vertices for each solid.
 fn put_points(s: &mut [u8], v: usize)
-    requires { ⌜ v ≤ 40 ⌝ }
+    requires { ⌜ v ≤ 60 ⌝ }
 {
     put_point(s, 6, b'F', b'P', 16);
     let mut k = 1;
@@ -61,7 +62,7 @@ fn put_points(s: &mut [u8], v: usize)
 
 // Face i, from 0, of a solid with v vertices.
 fn put_one(s: &mut [u8], at: usize, v: usize, i: usize)
-    requires { ⌜ (at < 4096) × (5 ≤ v) × (v ≤ 40) × (i < 100) ⌝ }
+    requires { ⌜ (at < 4096) × (5 ≤ v) × (v ≤ 60) × (i < 100) ⌝ }
 {
     let ring = v - 2;
     let j = i / 2;
@@ -76,7 +77,7 @@ fn put_one(s: &mut [u8], at: usize, v: usize, i: usize)
 
 // The f faces of a solid.
 fn put_faces(s: &mut [u8], at: usize, v: usize, f: usize)
-    requires { ⌜ (at < 2048) × (5 ≤ v) × (v ≤ 40) × (f ≤ 100) ⌝ }
+    requires { ⌜ (at < 2048) × (5 ≤ v) × (v ≤ 60) × (f ≤ 100) ⌝ }
 {
     let mut i = 0;
     while i < f {
@@ -103,7 +104,7 @@ fn put_end(s: &mut [u8], at: usize)
 
 // Answers the scene's length.
 fn build(s: &mut [u8], v: usize, f: usize) -> usize
-    requires { ⌜ (5 ≤ v) × (v ≤ 40) × (f ≤ 100) ⌝ }
+    requires { ⌜ (5 ≤ v) × (v ≤ 60) × (f ≤ 100) ⌝ }
 {
     let a = 15 + 18 * v;
     let b = a + 5 * f;
@@ -123,7 +124,7 @@ fn say_start(name: &[u8], s: &[u8], n: usize) {
 }
 
 fn built(name: &[u8], v: usize, f: usize)
-    requires { ⌜ (5 ≤ v) × (v ≤ 40) × (f ≤ 100) ⌝ }
+    requires { ⌜ (5 ≤ v) × (v ≤ 60) × (f ≤ 100) ⌝ }
 {
     let mut s = [0u8; ROOM];
     let n = build(&mut s, v, f);
@@ -131,23 +132,34 @@ fn built(name: &[u8], v: usize, f: usize)
 }
 
 // With one byte changed.
-fn spoilt(name: &[u8], v: usize, f: usize, at: usize, b: u8)
-    requires { ⌜ (5 ≤ v) × (v ≤ 40) × (f ≤ 100) ⌝ }
-{
+fn spoilt(name: &[u8], at: usize, b: u8) {
     let mut s = [0u8; ROOM];
-    let n = build(&mut s, v, f);
+    let n = build(&mut s, Scene::MOST_VERTICES, Scene::MOST_FACES);
     put(&mut s, at, b);
     say_start(name, &s, n);
 }
 
+// With a byte behind it.
+fn longer(name: &[u8]) {
+    let mut s = [0u8; ROOM];
+    let n = build(&mut s, Scene::MOST_VERTICES, Scene::MOST_FACES);
+    say_start(name, &s, n + 1);
+}
+
+// Where the faces of the largest scene begin, and those of its B.
+const FACES: usize = 15 + 18 * Scene::MOST_VERTICES;
+
+const FACES_OF_B: usize = FACES + 5 * Scene::MOST_FACES;
+
 pub fn say_largest() {
-    built(b"32 vertices and 60 faces a solid", 32, 60);
-    built(b"32 vertices and 64 faces a solid", 32, 64);
-    built(b"33 vertices a solid", 33, 62);
-    built(b"65 faces a solid", 32, 65);
-    spoilt(b"largest, last mark", 32, 64, 1232, b'M');
-    spoilt(b"largest, last weight", 32, 64, 590, 0);
-    spoilt(b"largest, last corner", 32, 64, 1230, 33);
-    spoilt(b"largest, A's last face open", 32, 64, 910, 7);
-    spoilt(b"largest, B's last face open", 32, 64, 1230, 7);
+    built(b"48 vertices and 92 faces a solid", 48, 92);
+    built(b"48 vertices and 96 faces a solid", 48, 96);
+    built(b"49 vertices a solid", 49, 94);
+    built(b"97 faces a solid", 48, 97);
+    longer(b"largest, one byte more");
+    spoilt(b"largest, last mark", Scene::LONGEST - 1, b'M');
+    spoilt(b"largest, last weight", FACES - 1, 0);
+    spoilt(b"largest, last corner", Scene::LONGEST - 3, 49);
+    spoilt(b"largest, A's last face open", FACES_OF_B - 1, 7);
+    spoilt(b"largest, B's last face open", Scene::LONGEST - 3, 7);
 }

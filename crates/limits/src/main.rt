@@ -58,9 +58,9 @@ fn openings() {
 fn counts() {
     changed(b"2 vertices of A", 2, b"\x02");
     changed(b"1 face of A", 3, b"\x01");
-    changed(b"65 faces of A", 3, b"\x41");
+    changed(b"97 faces of A", 3, b"\x61");
     changed(b"2 vertices of B", 4, b"\x02");
-    changed(b"33 vertices of B", 4, b"\x21");
+    changed(b"49 vertices of B", 4, b"\x31");
     changed(b"255 faces of B", 5, b"\xff");
     changed(b"no faces of B", 5, b"\x00");
     changed(b"a count of 3 for A's 4 vertices", 2, b"\x03");

@@ -70,7 +70,9 @@ pub fn say_enclosed(s: &[u8], i: usize) {
 
 fn say_faces(m: Mask, ones: usize) {
     text(b"mask ");
-    io::print_decimal(libc::STDOUT_FILENO, m.word);
+    io::print_decimal(libc::STDOUT_FILENO, m.low);
+    text(b" ");
+    io::print_decimal(libc::STDOUT_FILENO, m.high);
     number(ones);
     end();
 }

@@ -12,10 +12,10 @@ use scene::Scene;
 ghost use mathlib.Core.Path.{_≡_};
 ghost use Prim.Native.Nat.{min};
 
-// The longest listing, and how much of one is asked for at a time.
+// The longest listing, and how much of one is asked for at a time: a program that prints stays below 64 KiB.
 const MOST_PAIRS: usize = 2 * Scene::MOST_FACES * Scene::MOST_FACES;
 
-const PART: usize = MOST_PAIRS / 2;
+const PART: usize = MOST_PAIRS / 3;
 
 fn least(a: usize, b: usize) -> usize
     ensures { λ r. ⌜ r ≡ min a b ⌝ }

@@ -1,13 +1,14 @@
 -- `print::listings::say_pairs` is safe and ends: each part passes at least one pair, and no more than are left.
-use Prim.Native.Nat.{_≤_, _-_}
+use Prim.Native.Nat.{_≤_, _-_, _*_, _/_}
 use mathlib.Core.Path.{_≡_}
 use borrow.Author.Needs.{needs}
 use lib.ListN.{length}
+use Rattle.scene.specs.Limits.{limits}
 use Rattle.print.proofs.listings.say_pairs.Statement.{statement}
 use Rattle.print.proofs.listings.say_pairs.Tie as tie
 
 abbrev Inv-loop : tie.InvT-loop
-Inv-loop s n part₀ k₀ part k = (k ≤ n) × (length part ≡ 12288)
+Inv-loop s n part₀ k₀ part k = (k ≤ n) × (length part ≡ 3 * (2 * limits .mostFaces * limits .mostFaces / 3))
 
 abbrev μ-loop : tie.MeasureT-loop
 μ-loop s n part₀ k₀ part k = n - k
