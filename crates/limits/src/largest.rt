@@ -142,8 +142,8 @@ fn spoilt(name: &[u8], at: usize, b: u8) {
 // With a byte behind it.
 fn longer(name: &[u8]) {
     let mut s = [0u8; ROOM];
-    let n = build(&mut s, Scene::MOST_VERTICES, Scene::MOST_FACES);
-    say_start(name, &s, n + 1);
+    build(&mut s, Scene::MOST_VERTICES, Scene::MOST_FACES);
+    say_start(name, &s, Scene::LONGEST + 1);
 }
 
 // Where the faces of the largest scene begin, and those of its B.
