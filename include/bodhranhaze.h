@@ -19,10 +19,10 @@
 extern "C" {
 #endif
 
-/* The number of the scene's refusal, 1 to 9; 0 where it is accepted. */
+/* The number of the scene's refusal, 1 to 9 or 14; 0 where it is accepted. */
 size_t bodhranhaze_refusal(const uint8_t *scene, size_t length);
 
-/* The place of the scene's refusal: the record for 4 to 7 and 9, the point for 8, and else 0; 0 where it is accepted. */
+/* The place of the scene's refusal: the record for 4 to 7, 9 and 14, the point for 8, and else 0; 0 where it is accepted. */
 size_t bodhranhaze_place(const uint8_t *scene, size_t length);
 
 /* 0 cross, 1 a-in-b, 2 b-in-a, 3 apart, 4 refused. */

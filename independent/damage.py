@@ -36,6 +36,11 @@ def bad_weight(rng, parts):
     damage_point(rng, parts, lambda row: row[:3] + (value,))
 
 
+def no_far_point(rng, parts):
+    """Four zeros, with a weight out of its limits in some."""
+    parts[0] = (0, 0, 0, rng.choice((0, 0, 0, 17)))
+
+
 def bad_corner(rng, parts):
     rows, faces = any_solid(rng, parts)
     k, c = rng.randrange(len(faces)), rng.randrange(3)
@@ -83,7 +88,7 @@ def lone_and_open(rng, parts):
     open_edge(rng, parts)
 
 
-TABLE_DAMAGE = (bad_coordinate, bad_coordinate, bad_weight, bad_weight, bad_corner, other_corner,
+TABLE_DAMAGE = (bad_coordinate, bad_coordinate, bad_weight, bad_weight, no_far_point, bad_corner, other_corner,
                 lone_vertex, lone_and_open, open_edge, three_times)
 
 

@@ -52,7 +52,8 @@ def determinant(rows):
 
 def terms(numbers, rows):
     """c0 to c3: the signed products (x + e dx)(y + e dy)(z + e dz) w, multiplied out and summed."""
-    shifts = [(w * n, w * n ** 2, w * n ** 3) for n, (_, _, _, w) in zip(numbers, rows)]
+    factors = [w or 1 for _, _, _, w in rows]
+    shifts = [(k * n, k * n ** 2, k * n ** 3) for n, k in zip(numbers, factors)]
     c0 = c1 = c2 = c3 = 0
     for sign, (i, j, k, m) in SIGNED_ORDERS:
         x, y, z, w = rows[i][0], rows[j][1], rows[k][2], sign * rows[m][3]

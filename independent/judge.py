@@ -1,4 +1,4 @@
-"""The scene file: its form, its limits, and the judge that accepts or refuses it (refusals 1 to 9)."""
+"""The scene file: its form, its limits, and the judge that accepts or refuses it (refusals 1 to 9, and 14)."""
 
 import struct
 
@@ -52,7 +52,7 @@ def judge(data):
 
 
 def judge_records(data):
-    """Refusals 4 to 7, record by record."""
+    """Refusals 4 to 7 and 14, record by record."""
     a, fa, b, _ = data[2:HEADER_BYTES]
     first_face = 2 + a + b
     for place, (part, mark) in enumerate(zip(records(data), record_marks(data))):
@@ -62,8 +62,10 @@ def judge_records(data):
             _, x, y, z, weight = POINT_FORM.unpack(part)
             if any(value not in COORDINATES for value in (x, y, z)):
                 return 5, place
-            if weight == 0 or weight not in WEIGHTS:
+            if weight not in WEIGHTS or weight == 0 and mark == b"VX":
                 return 6, place
+            if (x, y, z, weight) == (0, 0, 0, 0):
+                return 14, place
         if mark == b"FC":
             corners = part[2:]
             highest = a if place < first_face + fa else b

@@ -107,6 +107,11 @@ def weighted(rng, row, manner):
     return scaled + (weight,) if within(scaled) else row + (1,)
 
 
+def direction(rng):
+    """A far point of weight 0: any direction, or one along an axis."""
+    return rng.choice((anywhere(rng, COORDINATES[-1]), anywhere(rng, 3), (1, 0, 0), (0, -7, 0), (0, 0, 1))) + (0,)
+
+
 def far_row(rng, rows):
     """A far point: far away in most scenes, among the vertices in some."""
     return rng.choice((
@@ -123,7 +128,7 @@ def parts_of_scene(rng):
         if all(map(within, a_rows + b_rows)):
             break
     manner = rng.choice(("ones", "ones", "ones", "positive", "both signs", "any"))
-    far = weighted(rng, far_row(rng, a_rows + b_rows), manner)
+    far = direction(rng) if rng.random() < 0.2 else weighted(rng, far_row(rng, a_rows + b_rows), manner)
     a_rows, b_rows = [[weighted(rng, row, manner) for row in rows] for rows in (a_rows, b_rows)]
     return [far, a_rows, a_faces, b_rows, b_faces]
 

@@ -27,7 +27,7 @@ REFUSED_KINDS = (
     "refused 4 FC of A", "refused 4 FC of B", "refused 4 EN", "refused 5 FP", "refused 5 VX of A",
     "refused 5 VX of B", "refused 6 FP", "refused 6 VX of A", "refused 6 VX of B",
     "refused 7 FC of A", "refused 7 FC of B", "refused 8 point of A", "refused 8 point of B",
-    "refused 9 FC of A", "refused 9 FC of B")
+    "refused 9 FC of A", "refused 9 FC of B", "refused 14 FP")
 # How many scenes of each kind; `largest` has every count at its limit.
 QUOTAS = {"verdict cross": 160, "verdict apart": 110, "verdict a-in-b": 90, "verdict b-in-a": 90,
           "largest": 3, **dict.fromkeys(REFUSED_KINDS, 12), "refused 3 longest": 4}

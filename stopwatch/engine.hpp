@@ -46,12 +46,13 @@ inline Whole twoBytes(const Byte* at) { return static_cast<std::int16_t>(at[0] |
 
 inline bool within(Whole low, Whole high, Whole n) { return low <= n && n <= high; }
 
-// Refusals 5 and 6 of a point, whose row is read, or 0.
-inline int readRow(const Byte* at, Row& row) {
+// Refusals 5, 6 and 14 of a point, whose row is read, or 0. Only the far point may have weight 0.
+inline int readRow(const Byte* at, Row& row, bool far) {
   row = {twoBytes(at + 2), twoBytes(at + 4), twoBytes(at + 6), static_cast<std::int8_t>(at[8])};
   for (Whole n : {row.x, row.y, row.z})
     if (!within(-mostCoordinate, mostCoordinate, n)) return 5;
-  if (row.w == 0 || !within(-mostWeight, mostWeight, row.w)) return 6;
+  if ((row.w == 0 && !far) || !within(-mostWeight, mostWeight, row.w)) return 6;
+  if (row.x == 0 && row.y == 0 && row.z == 0 && row.w == 0) return 14;
   return 0;
 }
 
@@ -108,7 +109,7 @@ inline Refusal read(const Byte* bytes, std::size_t length, Scene& s) {
   int record = 1;
   for (int j = 0; j <= points; j++, record++, at += 9) {
     if (!(j == 0 ? marked(at, 'F', 'P') : marked(at, 'V', 'X'))) return {4, record};
-    if (int fault = readRow(at, s.row[j == 0 ? s.farPoint : j])) return {fault, record};
+    if (int fault = readRow(at, s.row[j == 0 ? s.farPoint : j], j == 0)) return {fault, record};
   }
   for (int k : {0, 1})
     for (int i = 0; i < s.faces[k]; i++, record++, at += 5) {
@@ -130,12 +131,13 @@ inline Whole determinant(const Row& a, const Row& b, const Row& c, const Row& d)
          minor(a.y, a.w, b.y, b.w) * minor(c.x, c.z, d.x, d.z) + minor(a.z, a.w, b.z, b.w) * minor(c.x, c.y, d.x, d.y);
 }
 
-// The row of point i with the shift w·i, w·i², w·i³ in place of the coordinates that are marked: bit 0 for x, 1 for y, 2 for z.
+// The row of point i with the shift k·i, k·i², k·i³ (k is w, or 1 where w is 0) in place of the coordinates that are marked: bit 0 for x, 1 for y, 2 for z.
 inline Row shifted(const Scene& s, int i, int marks) {
   Row r = s.row[i];
-  if (marks & 1) r.x = r.w * i;
-  if (marks & 2) r.y = r.w * i * i;
-  if (marks & 4) r.z = r.w * i * i * i;
+  Whole k = r.w == 0 ? 1 : r.w;
+  if (marks & 1) r.x = k * i;
+  if (marks & 2) r.y = k * i * i;
+  if (marks & 4) r.z = k * i * i * i;
   return r;
 }
 

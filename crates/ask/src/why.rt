@@ -206,7 +206,16 @@ fn say_weight(s: &[u8], k: usize)
     text(b"the weight is");
     signed(p.w);
     say_signed_limit(Scene::MOST_WEIGHT);
-    text(b", 0 is not");
+    if k > 1 {
+        text(b", 0 is not");
+    }
+}
+
+fn say_nowhere(s: &[u8], k: usize)
+    requires { ⌜ k < 1024 ⌝ }
+{
+    say_at(k, start(s, k) + 2);
+    text(b"x, y, z and the weight of the far point are all 0, and one must not be");
 }
 
 // The number among the faces, from 0, of the face in record k.
@@ -385,7 +394,8 @@ fn explain(s: &[u8], number: usize, place: usize) {
         6 => say_weight(s, p),
         7 => say_corner(s, p),
         8 => say_unused(s, p),
-        _ => say_edge(s, p),
+        9 => say_edge(s, p),
+        _ => say_nowhere(s, p),
     }
 }
 

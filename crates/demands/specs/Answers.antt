@@ -1,11 +1,11 @@
--- Demand 1. "Every question takes the scene's bytes, so a scene refusal (1 to 9) always comes before the question's own (10 to 12)", "11 comes before
+-- Demand 1. "Every question takes the scene's bytes, so a scene refusal (1 to 9, and 14) always comes before the question's own (10 to 12)", "11 comes before
 -- 12", and "Each number carries its place and nothing else": for each question, the refusals that it can give and for each of them exactly when, nothing
 -- earlier in the order being at fault. The statements are `Answers`, `Numbers` and `Places`; their proofs are in `AnswersProof`.
 -- That each number is given is `AnswersGiven`. Assumes nothing.
 use mathlib.Core.Path.{_≡_}
 use mathlib.Core.Logic.{_⊎_, _↔_}
 use mathlib.Core.List.{List, [], _∷_}
-use Prim.Native.Nat.{ℕ, _*_, _≤_, _<_}
+use Prim.Native.Nat.{ℕ, _*_, _<_}
 use lib.ListN.{length}
 use Rattle.laws.specs.Lists.{Some}
 use Rattle.scene.specs.Limits.{limits}
@@ -38,10 +38,14 @@ Never = ⊥
 abbrev pub Always : Type 0
 Always = Unit {0}
 
--- a question with numbers that the scene has (Has) or lacks, and with points that must differ and are the same (Alike) or not: 1 to 9 exactly where the
+-- the numbers of a scene's own refusals
+abbrev pub OfScene : ℕ → Type 0
+OfScene n = Between 1 9 n ⊎ (n ≡ 14)
+
+-- a question with numbers that the scene has (Has) or lacks, and with points that must differ and are the same (Alike) or not: 1 to 9 and 14 exactly where the
 -- scene is refused so; 10 never; and, of a scene that keeps the rules, 11 where it lacks a number, and 12 where it has them all and points are the same
 pub record Refusals (s : List ℕ) (Refuses : Refusal → Type 0) (Has Alike : Type 0) : Type 0 where
-  pub scene : (r : Refusal) → numberOf r ≤ 9 → Refuses r ↔ Grounds limits s r
+  pub scene : (r : Refusal) → OfScene (numberOf r) → Refuses r ↔ Grounds limits s r
   pub room : (n : ℕ) → ¬ Refuses (Room n)
   pub lacking : Refuses Lacking ↔ (FileOk limits s × ¬ Has)
   pub same : Refuses Same ↔ (FileOk limits s × Has × Alike)
@@ -49,7 +53,7 @@ pub record Refusals (s : List ℕ) (Refuses : Refusal → Type 0) (Has Alike : T
 -- the listing, with the lent list d, afterwards d′, and the answer x: 10 of a scene that keeps the rules where d has fewer than 3 × count places; never
 -- 11 or 12; a refusal of any number leaves every lent place as it was
 pub record ListingRefusals (s d d′ : List ℕ) (x : Listed) : Type 0 where
-  pub scene : (r : Refusal) → numberOf r ≤ 9 → (x ≡ listed.Refused r) ↔ Grounds limits s r
+  pub scene : (r : Refusal) → OfScene (numberOf r) → (x ≡ listed.Refused r) ↔ Grounds limits s r
   pub room : (n : ℕ) → (x ≡ listed.Refused (Room n)) ↔ (FileOk limits s × (n ≡ length (listingOf s)) × (length d < 3 * n))
   pub lacking : ¬ (x ≡ listed.Refused Lacking)
   pub same : ¬ (x ≡ listed.Refused Same)
@@ -67,7 +71,7 @@ pub record Answers (s : List ℕ) : Type 0 where
       Refusals s (λ r. maskedOf s u v k ≡ refused r) (EdgeAndSolid s u v k) (AlikeOrVertex s u v k)
   -- a vertex, not the far point
   pub enclosed : (i : ℕ) → Refusals s (λ r. enclosedOf s i ≡ answer.Refused r) (Vertex s i) Never
-  -- a record; "Under refusals 1 to 9 and 11 the part shown has length 0"
+  -- a record; "Under refusals 1 to 9 and 11 the part shown has length 0", and under 14
   pub record-shown : (k : ℕ) → Refusals s (λ r. refusal s k ≡ Refused r) (RecordNumber s k) Never
   pub shown-none : (k : ℕ) (r : Refusal) → refusal s k ≡ Refused r → shown s k ≡ []
   pub verdict : Refusals s (λ r. verdictOf s ≡ verdict.Refused r) Always Never
@@ -77,9 +81,9 @@ pub record Answers (s : List ℕ) : Type 0 where
   pub part : (from : ℕ) (d d′ : List ℕ) (x : Listed) → IsPart s from d d′ x → Refusals s (λ r. x ≡ listed.Refused r) Always Never
   pub part-kept : (from : ℕ) (d d′ : List ℕ) (x : Listed) → IsPart s from d d′ x → (r : Refusal) → x ≡ listed.Refused r → d′ ≡ d
 
--- the refusal numbers that a question can give: 1 to 9, and its own
+-- the refusal numbers that a question can give: the scene's, and its own
 abbrev pub By : List ℕ → Refusal → Type 0
-By own r = Between 1 9 (numberOf r) ⊎ Some (λ n. numberOf r ≡ n) own
+By own r = OfScene (numberOf r) ⊎ Some (λ n. numberOf r ≡ n) own
 
 pub record Numbers (s : List ℕ) : Type 0 where
   pub sign : (a b c d : ℕ) (r : Refusal) → signOf s a b c d ≡ sign.Refused r → By (11 ∷ 12 ∷ []) r

@@ -20,7 +20,7 @@ abbrev pub Given : (Refusal → Type 0) → ℕ → Type 0
 Given Refuses n = (r : Refusal) × (numberOf r ≡ n) × Refuses r
 
 abbrev pub ofScene : List ℕ
-ofScene = 1 ∷ 2 ∷ 3 ∷ 4 ∷ 5 ∷ 6 ∷ 7 ∷ 8 ∷ 9 ∷ []
+ofScene = 1 ∷ 2 ∷ 3 ∷ 4 ∷ 5 ∷ 6 ∷ 7 ∷ 8 ∷ 9 ∷ 14 ∷ []
 
 -- ---- some bytes and numbers are refused so, by question
 

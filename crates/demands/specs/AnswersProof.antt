@@ -12,14 +12,13 @@ use Rattle.laws.specs.Decides.{leb-iff}
 use Rattle.scene.specs.Limits.{limits}
 use Rattle.scene.specs.Records.{vertsA, verts, lastRecord}
 use Rattle.scene.specs.Tables.{tablesOf, row, face}
-use Rattle.scene.specs.Refusal.{numberOf}
 use Rattle.scene.specs.declared.Refusal.{Refusal}
-use Rattle.scene.specs.declared.Refusal.the-variants.{Opening, Counts, Length, Mark, Coordinate, Weight, Corner as BadCorner, Unused, Edge, Room, Lacking, Same}
+use Rattle.scene.specs.declared.Refusal.the-variants.{Opening, Counts, Length, Mark, Coordinate, Weight, Corner as BadCorner, Unused, Edge, Room, Lacking, Same, Nowhere}
 use Rattle.judge.specs.Judge.{rule, andThen, within, judged}
 use Rattle.judge.specs.declared.Judged.{Judged}
 use Rattle.judge.specs.declared.Judged.the-variants.{Accepted, Refused}
 use Rattle.judge.specs.Tests.{within-iff, then-refused}
-use Rattle.rules.specs.Numbers.{Gives, gives-none, gives-rule, gives-wider, rule-here, then-here, then-next}
+use Rattle.rules.specs.Numbers.{turnOf, Gives, gives-none, gives-rule, gives-wider, rule-here, then-here, then-next}
 use Rattle.rules.specs.Parts.{refused-by}
 use Rattle.rules.specs.Accepted.{accepted}
 use Rattle.rules.specs.Refused as table
@@ -40,7 +39,7 @@ use Rattle.kernel.specs.declared.lists.Listed.{Listed}
 use Rattle.kernel.specs.declared.lists.Listed.the-variants as listed
 use Rattle.demands.specs.Words.{Vertex, RecordNumber, FourPoints, TwoAlike, EdgeAndFace, AlikeOrCorner, EdgeAndSolid, AlikeOrVertex}
 use Rattle.demands.specs.Answers.{Places, Refusals, ListingRefusals, Never, Always, Answers, By, Numbers}
-use Rattle.demands.specs.AnswersTests.{asked, plain, told, nonsense, answered-iff, points-iff, edge-iff, mask-iff, alike-points, alike-corner, alike-vertex}
+use Rattle.demands.specs.AnswersTests.{scene-turn, asked, plain, told, nonsense, answered-iff, points-iff, edge-iff, mask-iff, alike-points, alike-corner, alike-vertex}
 
 -- ---- an answer is no refusal
 
@@ -108,12 +107,12 @@ module _ (s : List ℕ) where
     abbrev fits : Judged
     fits = rule (leb (3 * count) (length d)) (Room count) Accepted
 
-    fits-gives : Gives 10 10 fits
-    fits-gives = gives-rule 10 10 _ (Room count) Accepted (omega arith) (gives-none 10 10)
+    fits-gives : Gives 11 11 fits
+    fits-gives = gives-rule 11 11 _ (Room count) Accepted (omega arith) (gives-none 11 11)
 
     room-iff : (n : ℕ) → (fits ≡ Refused (Room n)) ↔ ((n ≡ count) × (length d < 3 * n))
     room-iff n =
-        Iff·trans (rule-here (leb (3 * count) (length d)) (Room count) (Room n) Accepted 11 (gives-none 11 11)) (
+        Iff·trans (rule-here (leb (3 * count) (length d)) (Room count) (Room n) Accepted 12 (gives-none 12 12)) (
           λ h. let e : n ≡ count = cc in (e, rw e (leb-false _ _ (h .0))),
           λ h. let e = h .0 in (lt-leb _ _ (rw e at (h .1)), ap Room (sym e)),
         )
@@ -122,9 +121,9 @@ module _ (s : List ℕ) where
     unfolding listFault answered
     of-listing d′ x h =
         record {
-          scene = λ r l. Iff·trans (at r) (Iff·trans (then-here (judged s) fits r 10 (gives-wider (suc (numberOf r)) 10 (omega arith) (omega arith) fits-gives)) (table.refused limits s r));
+          scene = λ r l. Iff·trans (at r) (Iff·trans (then-here (judged s) fits r 11 (gives-wider (suc (turnOf r)) 11 (omega (arith, scene-turn r l)) (omega arith) fits-gives)) (table.refused limits s r));
           room = λ n.
-              Iff·trans (at (Room n)) (Iff·trans (then-next (judged s) fits (Room n) 1 9 (refused-by limits s) (omega arith))
+              Iff·trans (at (Room n)) (Iff·trans (then-next (judged s) fits (Room n) 1 10 (refused-by limits s) (omega arith))
               (Iff·trans (Iff·and (accepted limits s) (room-iff n)) (λ k. let l = k .1 .1 in (k .0, k .1 .0, omega arith), λ k. let l = k .2 in (k .0, (k .1, omega arith)))));
           lacking = λ e. never-by Lacking (omega arith) (at Lacking .0 e);
           same = λ e. never-by Same (omega arith) (at Same .0 e);
@@ -134,7 +133,7 @@ module _ (s : List ℕ) where
         at : (r : Refusal) → (x ≡ listed.Refused r) ↔ (listFault s d ≡ Refused r)
         at r = rw (h .answer) (answered-iff listed.Refused (λ q r e. cc) (listed.Count count) (λ r e. nonsense (cc)) (listFault s d) r)
 
-        never-by : (r : Refusal) → 10 < numberOf r → ¬ (andThen (judged s) fits ≡ Refused r)
+        never-by : (r : Refusal) → 11 < turnOf r → ¬ (andThen (judged s) fits ≡ Refused r)
         never-by r l e = ⊎-elim (λ k. omega (arith, refused-by limits s r k)) (λ k. omega (arith, fits-gives r (k .1))) (then-refused (judged s) fits r .0 e)
 
         kept-by : (j : Judged) (r : Refusal) → j ≡ Refused r → (l : List ℕ) → answered (λ _. d) j l ≡ d
@@ -170,15 +169,16 @@ answers s =
 -- ---- the numbers
 
 by : (own : List ℕ) (R : Refusal → Type 0) → ((n : ℕ) → R (Room n) → By own (Room n)) → (R Lacking → By own Lacking) → (R Same → By own Same) → (r : Refusal) → R r → By own r
-by own R room lacking same Opening e = inl (omega arith)
-by own R room lacking same Counts e = inl (omega arith)
-by own R room lacking same Length e = inl (omega arith)
-by own R room lacking same (Mark k) e = inl (omega arith)
-by own R room lacking same (Coordinate k) e = inl (omega arith)
-by own R room lacking same (Weight k) e = inl (omega arith)
-by own R room lacking same (BadCorner k) e = inl (omega arith)
-by own R room lacking same (Unused k) e = inl (omega arith)
-by own R room lacking same (Edge k) e = inl (omega arith)
+by own R room lacking same Opening e = inl (inl (omega arith))
+by own R room lacking same Counts e = inl (inl (omega arith))
+by own R room lacking same Length e = inl (inl (omega arith))
+by own R room lacking same (Mark k) e = inl (inl (omega arith))
+by own R room lacking same (Coordinate k) e = inl (inl (omega arith))
+by own R room lacking same (Weight k) e = inl (inl (omega arith))
+by own R room lacking same (BadCorner k) e = inl (inl (omega arith))
+by own R room lacking same (Unused k) e = inl (inl (omega arith))
+by own R room lacking same (Edge k) e = inl (inl (omega arith))
+by own R room lacking same (Nowhere k) e = inl (inr refl)
 by own R room lacking same (Room n) e = room n e
 by own R room lacking same Lacking e = lacking e
 by own R room lacking same Same e = same e

@@ -1,4 +1,4 @@
--- A question's rules: the scene's come first, so that the number of a refusal tells which of them gave it; and what the tests of each question decide.
+-- A question's rules: the scene's come first, so that the turn of a refusal tells which of them gave it; and what the tests of each question decide.
 -- Assumes nothing.
 use mathlib.Core.Path.{_≡_, refl, sym, ap, _∙_}
 use mathlib.Core.Logic.{_⊎_, inl, inr, ⊎-elim, _↔_, Iff·rfl, Iff·trans, Iff·and}
@@ -16,20 +16,36 @@ use Rattle.scene.specs.Faces.{Corner}
 use Rattle.scene.specs.Refusal.{numberOf}
 use Rattle.scene.specs.declared.Face.{Face}
 use Rattle.scene.specs.declared.Refusal.{Refusal}
-use Rattle.scene.specs.declared.Refusal.the-variants.{Room, Lacking, Same}
+use Rattle.scene.specs.declared.Refusal.the-variants.{Opening, Counts, Length, Mark, Coordinate, Weight, Corner as BadCorner, Unused, Edge, Room, Lacking, Same, Nowhere}
 use Rattle.judge.specs.Judge.{rule, andThen, within, judged}
 use Rattle.judge.specs.declared.Judged.{Judged}
 use Rattle.judge.specs.declared.Judged.the-variants.{Accepted, Refused}
 use Rattle.rules.specs.Rules.{FileOk}
 use Rattle.judge.specs.Tests.{never, within-iff, then-refused, rule-iff, then-iff}
-use Rattle.rules.specs.Numbers.{Gives, gives-none, gives-rule, gives-wider, rule-here, rule-next, then-here, then-next}
+use Rattle.rules.specs.Numbers.{turnOf, Gives, gives-none, gives-rule, gives-wider, rule-here, rule-next, then-here, then-next}
 use Rattle.rules.specs.Parts.{refused-by}
 use Rattle.rules.specs.Accepted.{accepted}
 use Rattle.rules.specs.Refused as table
 use Rattle.edges.specs.Edges.{isCorner}
 use Rattle.kernel.specs.Answers.{answered, isPoint, isFace, other, differ, arePoints, clear, edgeAndFace, isVertexOf, maskAsked, maskOutside, refused, isSolid}
 use Rattle.demands.specs.Words.{SolidNumber, VertexOf, FourPoints, TwoAlike, EdgeAndFace, AlikeOrCorner, EdgeAndSolid, AlikeOrVertex}
-use Rattle.demands.specs.Answers.{Refusals, Never, Always}
+use Rattle.demands.specs.Answers.{OfScene, Refusals, Never, Always}
+
+-- a scene's own refusals come first
+pub scene-turn : (r : Refusal) → OfScene (numberOf r) → turnOf r ≤ 10
+scene-turn Opening h = omega arith
+scene-turn Counts h = omega arith
+scene-turn Length h = omega arith
+scene-turn (Mark p) h = omega arith
+scene-turn (Coordinate p) h = omega arith
+scene-turn (Weight p) h = omega arith
+scene-turn (BadCorner p) h = omega arith
+scene-turn (Unused p) h = omega arith
+scene-turn (Edge p) h = omega arith
+scene-turn (Nowhere p) h = omega arith
+scene-turn (Room p) h = absurd (⊎-elim (λ k. omega arith) (λ k. omega arith) h)
+scene-turn Lacking h = absurd (⊎-elim (λ k. omega arith) (λ k. omega arith) h)
+scene-turn Same h = absurd (⊎-elim (λ k. omega arith) (λ k. omega arith) h)
 
 -- ---- a test that fails
 
@@ -57,24 +73,24 @@ module _ (s : List ℕ) where
     abbrev own : Judged
     own = rule p Lacking alone
 
-    own-gives : Gives 11 12 own
-    own-gives = gives-rule 11 12 p Lacking alone (omega arith) (gives-rule 11 12 q Same Accepted (omega arith) (gives-none 11 12))
+    own-gives : Gives 12 13 own
+    own-gives = gives-rule 12 13 p Lacking alone (omega arith) (gives-rule 12 13 q Same Accepted (omega arith) (gives-none 12 13))
 
-    alone-gives : Gives 12 12 alone
-    alone-gives = gives-rule 12 12 q Same Accepted (omega arith) (gives-none 12 12)
+    alone-gives : Gives 13 13 alone
+    alone-gives = gives-rule 13 13 q Same Accepted (omega arith) (gives-none 13 13)
 
     pub asked : Refusals s (λ r. andThen (judged s) own ≡ Refused r) Has Alike
     asked =
         record {
-          scene = λ r h. Iff·trans (then-here (judged s) own r 12 (gives-wider (suc (numberOf r)) 12 (omega arith) (omega arith) own-gives)) (table.refused limits s r);
+          scene = λ r h. Iff·trans (then-here (judged s) own r 13 (gives-wider (suc (turnOf r)) 13 (omega (arith, scene-turn r h)) (omega arith) own-gives)) (table.refused limits s r);
           room = λ n e. ⊎-elim (λ k. omega (arith, refused-by limits s (Room n) k)) (λ k. omega (arith, own-gives (Room n) (k .1))) (then-refused (judged s) own (Room n) .0 e);
           lacking =
-              Iff·trans (then-next (judged s) own Lacking 1 9 (refused-by limits s) (omega arith))
+              Iff·trans (then-next (judged s) own Lacking 1 10 (refused-by limits s) (omega arith))
               (Iff·and (accepted limits s)
-              (Iff·trans (rule-here p Lacking Lacking alone 12 alone-gives) (λ h. fails-iff p has .0 (h .0), λ n. (fails-iff p has .1 n, refl))));
+              (Iff·trans (rule-here p Lacking Lacking alone 13 alone-gives) (λ h. fails-iff p has .0 (h .0), λ n. (fails-iff p has .1 n, refl))));
           same =
-              Iff·trans (then-next (judged s) own Same 1 9 (refused-by limits s) (omega arith))
-              (Iff·trans (Iff·and (accepted limits s) (Iff·trans (rule-next p Lacking Same alone (omega arith)) (Iff·and Iff·rfl (rule-here q Same Same Accepted 13 (gives-none 13 13))))) (
+              Iff·trans (then-next (judged s) own Same 1 10 (refused-by limits s) (omega arith))
+              (Iff·trans (Iff·and (accepted limits s) (Iff·trans (rule-next p Lacking Same alone (omega arith)) (Iff·and Iff·rfl (rule-here q Same Same Accepted 14 (gives-none 14 14))))) (
                 λ h. let x = has .0 (h .1 .0) in (h .0, x, alike x .0 (h .1 .1 .0)),
                 λ h. (h .0, (has .1 (h .1), (alike (h .1) .1 (h .2), refl))),
               ));

@@ -4,18 +4,19 @@ use mathlib.Core.List.{List}
 use Prim.Native.Nat.{ℕ, _+_, _*_, _≤_, _<_}
 use lib.Count.{ones}
 use lib.Dec.{leb}
+use lib.IntN.{ℤ, pos, _+ℤ_, _-ℤ_, _*ℤ_}
 use lib.ListN.{length}
 use Rattle.laws.specs.Lists.{Number}
 use Rattle.scene.specs.Limits.{limits, limitsBefore}
-use Rattle.scene.specs.Records.{facesA, verts, faces}
-use Rattle.scene.specs.Tables.{faceAt, tablesOf, row, face}
+use Rattle.scene.specs.Records.{facesA, verts, faces, lastRecord}
+use Rattle.scene.specs.Tables.{rowAt, faceAt, tablesOf, row, face}
 use Rattle.scene.specs.Faces.{Both, Sides}
 use Rattle.scene.specs.declared.Refusal.the-variants.{Counts, Room, Lacking, Same}
 use Rattle.judge.specs.Judge.{rule, judgedAt, judged}
 use Rattle.judge.specs.declared.Judged.{Judged}
 use Rattle.judge.specs.declared.Judged.the-variants.{Accepted, Refused}
-use Rattle.rules.specs.Rules.{CountsOk, HeaderOk, RecordsOk, AllUsed}
-use Rattle.orient.specs.Terms.{positiveAt, termsAt}
+use Rattle.rules.specs.Rules.{CountsOk, HeaderOk, MarkOk, CoordinatesOk, WeightIn, CornersOk, RecordsOk, AllUsed, SidesOk}
+use Rattle.orient.specs.Terms.{Numbered, Powers, powers, positiveAt, termsAt}
 use Rattle.pierce.specs.Formula.{pierced}
 use Rattle.listing.specs.Pour.{allIn, partIn}
 use Rattle.kernel.specs.Scene.{listingOf}
@@ -25,6 +26,7 @@ use Rattle.kernel.specs.declared.points.Answer.the-variants as answer
 use Rattle.kernel.specs.declared.counts.Counted.the-variants as counted
 use Rattle.kernel.specs.declared.lists.Listed.{Listed}
 use Rattle.kernel.specs.declared.lists.Listed.the-variants as listed
+use Rattle.demands.specs.Words.{FourPoints}
 
 -- ---- the answers about a scene that is accepted: nothing on the right of an equation asks the judge, so they are the same whatever rules accepted it
 
@@ -84,8 +86,43 @@ module _ (s : List ℕ) where
     pub accepted-still : judgedAt limitsBefore s ≡ Accepted → Still
     pub refused-then : judged s ≡ Accepted → ¬ CountsOk limitsBefore s → judgedAt limitsBefore s ≡ Refused Counts
 
+  -- ---- before the far point might have weight 0: every weight was from 1 to its limit in size, and there was no 14
+
+  pub record RecordOfWeights (k : ℕ) : Type 0 where
+    pub mark : MarkOk s k
+    pub coordinates : CoordinatesOk limits s k
+    pub weight : (j : ℕ) → j ≤ verts s → k ≡ j + 1 → WeightIn 1 limits (rowAt s j)
+    pub corners : CornersOk s k
+
+  pub record RulesOfWeights : Type 0 where
+    pub header : HeaderOk limits s
+    pub records : (k : ℕ) → 1 ≤ k → k ≤ lastRecord s → RecordOfWeights k
+    pub used : AllUsed s
+    pub sides : (i : ℕ) → i < faces s → SidesOk s i
+
+  -- the factor of the shift was the weight itself
+  abbrev pub byWeight : ℕ → Numbered ℤ
+  byWeight i = let r = row (tablesOf s) i in record { x = r .x; y = r .y; z = r .z; w = r .w; k = r .w; i = pos i }
+
+  abbrev pub termsByWeight : (a b c d : ℕ) → Powers ℤ
+  termsByWeight a b c d = powers (pos 0) (pos 1) _+ℤ_ _-ℤ_ _*ℤ_ (byWeight a) (byWeight b) (byWeight c) (byWeight d)
+
+  -- the terms, and so the signs, on which every other answer rests
+  pub record SameTerms (a b c d : ℕ) : Type 0 where
+    pub t0 : termsAt (row (tablesOf s)) a b c d .c0 ≡ termsByWeight a b c d .e0
+    pub t1 : termsAt (row (tablesOf s)) a b c d .c1 ≡ termsByWeight a b c d .e1
+    pub t2 : termsAt (row (tablesOf s)) a b c d .c2 ≡ termsByWeight a b c d .e2
+    pub t3 : termsAt (row (tablesOf s)) a b c d .c3 ≡ termsByWeight a b c d .e3
+
+  pub record AllWeighted : Type 0 where
+    pub still : Still
+    pub terms : (a b c d : ℕ) → FourPoints s a b c d → SameTerms a b c d
+
 abbrev pub SharedEdges : Type 0
 SharedEdges = (s : List ℕ) → RulesOfTwo s → Still s
 
 abbrev pub LargerModels : Type 0
 LargerModels = (s : List ℕ) → SmallerLimits s
+
+abbrev pub FarAtInfinity : Type 0
+FarAtInfinity = (s : List ℕ) → RulesOfWeights s → AllWeighted s

@@ -1,11 +1,21 @@
 -- What was accepted is accepted still, with the same answers. Assumes nothing.
-use mathlib.Core.Path.{_≡_, refl, sym, ap, _∙_}
+use mathlib.Core.Path.{_≡_, refl, sym, ap, subst, _∙_}
 use mathlib.Core.List.{List}
-use Prim.Native.Nat.{ℕ}
+use mathlib.Core.Logic.{_≢_}
+use Prim.Native.Nat.{ℕ, zero, suc, _+_, _≤_, _<_}
+use native.Mathlib.Decide.{decLt}
+use lib.IntN.{pos, natAbs, _+ℤ_, _-ℤ_, _*ℤ_}
 use Rattle.laws.specs.Lists.{Number}
 use native.Mathlib.Omega.{arith}
 use Rattle.laws.specs.Decides.{fails-iff}
-use Rattle.scene.specs.Limits.{limits, limitsBefore}
+use Rattle.scene.specs.Limits.{limits, limitsBefore, leastWeight}
+use Rattle.scene.specs.Records.{verts}
+use Rattle.scene.specs.Tables.{rowAt, tablesOf, row}
+use Rattle.scene.specs.Read.{row-is, far-is}
+use Rattle.scene.specs.declared.Row.{Row}
+use Rattle.orient.specs.Terms.{powers, factor, numbered, terms, pointAt, termsAt}
+use Rattle.orient.specs.Laws.{factor-weight}
+use Rattle.demands.specs.Words.{Point, FourPoints}
 use Rattle.scene.specs.Faces.{Both, EdgeOk}
 use Rattle.scene.specs.declared.Face.{Face}
 use Rattle.scene.specs.declared.Refusal.{Refusal}
@@ -21,7 +31,7 @@ use Rattle.kernel.specs.declared.points.Answer.the-variants as answer
 use Rattle.kernel.specs.declared.counts.Counted.the-variants as counted
 use Rattle.kernel.specs.declared.verdict.Verdict.the-variants as verdict
 use Rattle.kernel.specs.declared.lists.Listed.the-variants as listed
-use Rattle.demands.specs.Kept.{Answers, Still, RulesOfTwo, SharedEdges, SmallerLimits, LargerModels}
+use Rattle.demands.specs.Kept.{Answers, Still, RulesOfTwo, SharedEdges, SmallerLimits, LargerModels, RulesOfWeights, byWeight, SameTerms, FarAtInfinity}
 
 -- the scene's judgement comes first, and says nothing
 module _ {X : Type 0} (refuse : Refusal → X) {j : Judged} (e : j ≡ Accepted) where
@@ -101,3 +111,67 @@ larger-models s =
       accepted-still = λ e. still s (accepted limits s .0 (sym (alike s (accepted limitsBefore s .0 e .header .counts)) ∙ e));
       refused-then = refused-then s;
     }
+
+-- ---- a far point at infinity: where each weight is not 0, it is the factor of its shift
+
+module _ (s : List ℕ) (h : RulesOfWeights s) where
+  least-one : (j : ℕ) → leastWeight j ≤ 1
+  least-one zero = omega arith
+  least-one (suc j) = omega arith
+
+  file-ok : FileOk limits s
+  file-ok =
+      record {
+        header = h .header;
+        records =
+            λ k a b.
+            let r = h .records k a b in
+            record {
+              mark = r .mark;
+              coordinates = r .coordinates;
+              weight = λ j c e. let w = r .weight j c e in omega (arith, least-one j);
+              somewhere = λ e z. let w = r .weight 0 (omega arith) e in let n = ap natAbs (z .w) in omega arith;
+              corners = r .corners;
+            };
+        used = h .used;
+        sides = h .sides;
+      }
+
+  row-weighs : (j : ℕ) → j ≤ verts s → rowAt s j .w ≢ pos 0
+  row-weighs j b e =
+      let w = h .records (j + 1) (omega arith) (omega arith) .weight j b refl in
+      let n = ap natAbs e in
+      omega arith
+
+  point-weighs : (i : ℕ) → 1 ≤ i → i ≤ verts s + 1 → row (tablesOf s) i .w ≢ pos 0
+  point-weighs i a b = go (decLt (verts s) i)
+    where
+      go : Dec (verts s < i) → row (tablesOf s) i .w ≢ pos 0
+      go (no c) = subst (λ (r : Row). r .w ≢ pos 0) (sym (row-is s i a (omega arith))) (row-weighs i (omega arith))
+      go (yes c) = subst (λ (r : Row). r .w ≢ pos 0) (sym (far-is s (omega arith))) (row-weighs 0 (omega arith))
+
+  factor-here : (i : ℕ) → 1 ≤ i → i ≤ verts s + 1 → factor (row (tablesOf s) i .w) ≡ row (tablesOf s) i .w
+  factor-here i a b = factor-weight (row (tablesOf s) i .w) (point-weighs i a b)
+
+  numbered-same : (i : ℕ) → Point s i → numbered (pointAt (row (tablesOf s)) i) ≡ byWeight s i
+  numbered-same i h =
+      let r = row (tablesOf s) i in
+      let e = factor-here i (h .0) (h .1) in
+      λ j. record { x = r .x; y = r .y; z = r .z; w = r .w; k = e j; i = pos i }
+
+  same-terms : (a b c d : ℕ) → FourPoints s a b c d → SameTerms s a b c d
+  unfolding termsAt terms
+  same-terms a b c d f =
+      let na = numbered-same a (f .0) in
+      let nb = numbered-same b (f .1) in
+      let nc = numbered-same c (f .2) in
+      let nd = numbered-same d (f .3) in
+      record {
+        t0 = λ j. powers (pos 0) (pos 1) _+ℤ_ _-ℤ_ _*ℤ_ (na j) (nb j) (nc j) (nd j) .e0;
+        t1 = λ j. powers (pos 0) (pos 1) _+ℤ_ _-ℤ_ _*ℤ_ (na j) (nb j) (nc j) (nd j) .e1;
+        t2 = λ j. powers (pos 0) (pos 1) _+ℤ_ _-ℤ_ _*ℤ_ (na j) (nb j) (nc j) (nd j) .e2;
+        t3 = λ j. powers (pos 0) (pos 1) _+ℤ_ _-ℤ_ _*ℤ_ (na j) (nb j) (nc j) (nd j) .e3;
+      }
+
+pub far-at-infinity : FarAtInfinity
+far-at-infinity s h = record { still = still s (file-ok s h); terms = same-terms s h }

@@ -1,6 +1,6 @@
--- The shift is real. For every accepted scene and every whole N above 3.5 × 10^18 the rows (N·x + w·i, N·y + w·i², N·z + w·i³, w) have no zero
--- determinant of four different points, and with the sign of that determinant they give the same signs, masks, enclosed vertices, listing and
--- verdict as the scene does. Assumes nothing.
+-- The shift is real. For every accepted scene and every whole N above 3.5 × 10^18 the rows (N·x + k·i, N·y + k·i², N·z + k·i³, w), k the factor of
+-- the shift, have no zero determinant of four different points, and with the sign of that determinant they give the same signs, masks, enclosed
+-- vertices, listing and verdict as the scene does. Assumes nothing.
 use mathlib.Core.Path.{_≡_}
 use mathlib.Core.Logic.{_≢_}
 use mathlib.Core.Bool.{cond}
@@ -17,7 +17,7 @@ use Rattle.judge.specs.declared.Judged.the-variants.{Accepted}
 use Rattle.orient.specs.Determinant.{det4}
 use Rattle.orient.specs.Formed.{mostFormed}
 use Rattle.orient.specs.Signs.{Upto, Four}
-use Rattle.orient.specs.Terms.{isPlus, positiveAt}
+use Rattle.orient.specs.Terms.{factor, isPlus, positiveAt}
 use Rattle.pierce.specs.Faces.{maskAgainst}
 use Rattle.listing.specs.Hits.{View, Hit, solidHits, insideCount, lowestInside}
 use Rattle.listing.specs.First.{firstOf}
@@ -29,14 +29,15 @@ use Rattle.demands.specs.Parity.{SolidNumber, VertexOf}
 
 -- ---- the rows
 
--- the row (N·x + w·i, N·y + w·i², N·z + w·i³, w) of point i
+-- the row (N·x + k·i, N·y + k·i², N·z + k·i³, w) of point i
 abbrev pub shiftedRow : ℕ → (ℕ → Row) → ℕ → Row
 shiftedRow N row i =
     let r = row i in
+    let k = factor (r .w) in
     record {
-      x = pos N *ℤ r .x +ℤ r .w *ℤ pos i;
-      y = pos N *ℤ r .y +ℤ r .w *ℤ (pos i *ℤ pos i);
-      z = pos N *ℤ r .z +ℤ r .w *ℤ (pos i *ℤ pos i *ℤ pos i);
+      x = pos N *ℤ r .x +ℤ k *ℤ pos i;
+      y = pos N *ℤ r .y +ℤ k *ℤ (pos i *ℤ pos i);
+      z = pos N *ℤ r .z +ℤ k *ℤ (pos i *ℤ pos i *ℤ pos i);
       w = r .w;
     }
 

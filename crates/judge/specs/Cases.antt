@@ -1,15 +1,16 @@
 -- The judge's choices by cases: which solid a face or a point belongs to, and which kind a record is of. Assumes nothing.
 use Prim.Native.Nat.{ℕ, zero, suc, _+_, _-_, _<_, _≤_}
 use mathlib.Core.Path.{_≡_, refl, sym, ap, _∙_}
+use mathlib.Core.Bool.{Bool, true, not}
 use mathlib.Core.List.{List}
 use native.Mathlib.Omega.{arith}
 use lib.Dec.{eqb}
 use borrow.Author.Tests.{lt-ltb, le-ltb, le-leb, lt-leb, ne-eqb}
 use Rattle.laws.specs.Range.{anyOf}
-use Rattle.scene.specs.Limits.{Limits}
+use Rattle.scene.specs.Limits.{Limits, leastWeight}
 use Rattle.scene.specs.Bytes.{twoAt}
 use Rattle.scene.specs.Records.{vertsA, vertsB, facesA, verts, faces, lastRecord, pointStart, markFP, markVX}
-use Rattle.judge.specs.Judge.{firstFault, pointMark, pointFault, vertsAt, faceFault, endFault, recordFault, isCorner, isUsed, sidesOk, closedAt}
+use Rattle.judge.specs.Judge.{firstFault, nowhere, somewhereOk, pointMark, pointFault, vertsAt, faceFault, endFault, recordFault, isCorner, isUsed, sidesOk, closedAt}
 use Rattle.judge.specs.declared.Judged.{Judged}
 
 -- the same search, up to the same end
@@ -19,6 +20,10 @@ first-to f a h = ap (firstFault f a) h
 pub vertex-mark : (j : ℕ) → 1 ≤ j → pointMark j ≡ markVX
 vertex-mark j h = simp (ne-eqb j 0 (omega arith))
 
+pub vertex-weighs : (j : ℕ) → (j ≡ 0 → ⊥) → 1 ≡ leastWeight j
+vertex-weighs zero h = absurd (h refl)
+vertex-weighs (suc j) h = refl
+
 module _ (s : List ℕ) where
   -- the two bytes n are held to the mark of the file's point j
   pub far-marked : (j : ℕ) {n : ℕ} → j ≡ 0 → n ≡ twoAt s 6 → eqb n markFP ≡ eqb (twoAt s (pointStart j)) (pointMark j)
@@ -26,6 +31,16 @@ module _ (s : List ℕ) where
 
   pub vertex-marked : (j : ℕ) {n : ℕ} → (j ≡ 0 → ⊥) → n ≡ twoAt s (pointStart j) → eqb n markVX ≡ eqb (twoAt s (pointStart j)) (pointMark j)
   vertex-marked j h e = simp (ne-eqb j 0 h) (ap (λ (k : ℕ). eqb k markVX) e)
+
+  -- the far point's numbers are looked at, no other's
+  pub far-somewhere : (j : ℕ) {o : Bool} → j ≡ 0 → o ≡ nowhere s → not o ≡ somewhereOk s j
+  unfolding somewhereOk
+  far-somewhere j h e = rw h (ap not e)
+
+  pub vertex-somewhere : (j : ℕ) → (j ≡ 0 → ⊥) → true ≡ somewhereOk s j
+  unfolding somewhereOk
+  vertex-somewhere zero h = absurd (h refl)
+  vertex-somewhere (suc j) h = refl
 
   pub verts-of-a : (i : ℕ) → i < facesA s → vertsAt s i ≡ vertsA s
   unfolding vertsAt

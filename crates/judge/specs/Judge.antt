@@ -1,17 +1,17 @@
 -- The judge: what is refused, in the order of checking. Assumes nothing.
-use Prim.Native.Nat.{ℕ, _+_, _-_, _%_}
+use Prim.Native.Nat.{ℕ, zero, suc, _+_, _-_, _%_}
 use mathlib.Core.List.{List}
 use mathlib.Core.Bool.{Bool, true, false, not, cond, _&&_, _||_}
 use lib.ListN.{length}
 use lib.Dec.{ltb, leb, eqb}
 use lib.IntN.{natAbs}
 use Rattle.laws.specs.Range.{firstOf, anyOf, countOf}
-use Rattle.scene.specs.Limits.{Limits, limits}
+use Rattle.scene.specs.Limits.{Limits, limits, leastWeight}
 use Rattle.scene.specs.Bytes.{twoAt, coordinateAt, weightAt}
 use Rattle.scene.specs.Records.{vertsA, vertsB, facesA, facesB, verts, faces, faceRecord, lastRecord, lengthOf, pointStart, faceStart, endStart, markSC, markFP, markVX, markFC, markEN}
 use Rattle.scene.specs.Tables.{cornerAt}
 use Rattle.scene.specs.declared.Refusal.{Refusal}
-use Rattle.scene.specs.declared.Refusal.the-variants.{Opening, Counts, Length, Mark, Coordinate, Weight, Corner, Unused, Edge}
+use Rattle.scene.specs.declared.Refusal.the-variants.{Opening, Counts, Length, Mark, Coordinate, Weight, Corner, Unused, Edge, Nowhere}
 use Rattle.judge.specs.declared.Judged.{Judged}
 use Rattle.judge.specs.declared.Judged.the-variants.{Accepted, Refused}
 
@@ -47,13 +47,24 @@ countsOk l s =
 unfoldable pub headerFault : Limits → List ℕ → Judged
 headerFault l s = rule (opens s) Opening (rule (countsOk l s) Counts (rule (eqb (length s) (lengthOf s)) Length Accepted))
 
--- ---- refusals 4 to 7, record by record
+-- ---- refusals 4 to 7 and 14, record by record
 
 unfoldable pub coordinateOk : Limits → List ℕ → ℕ → Bool
 coordinateOk l s i = leb (natAbs (coordinateAt s i)) (l .mostCoordinate)
 
+-- of the file's point j: 0 the far point, then the vertices
 unfoldable pub weightOk : Limits → List ℕ → ℕ → Bool
-weightOk l s i = within 1 (l .mostWeight) (natAbs (weightAt s i))
+weightOk l s j = within (leastWeight j) (l .mostWeight) (natAbs (weightAt s (pointStart j + 8)))
+
+-- the far point's four numbers are all 0; no other point is looked at
+unfoldable pub nowhere : List ℕ → Bool
+nowhere s =
+    eqb (natAbs (coordinateAt s 8)) 0
+    && (eqb (natAbs (coordinateAt s 10)) 0 && (eqb (natAbs (coordinateAt s 12)) 0 && eqb (natAbs (weightAt s 14)) 0))
+
+unfoldable pub somewhereOk : List ℕ → ℕ → Bool
+somewhereOk s zero = not (nowhere s)
+somewhereOk s (suc j) = true
 
 abbrev pub pointMark : ℕ → ℕ
 pointMark j = cond (eqb j 0) markFP markVX
@@ -65,7 +76,8 @@ pointFault l s j =
     (rule (coordinateOk l s (pointStart j + 2)) (Coordinate (j + 1))
     (rule (coordinateOk l s (pointStart j + 4)) (Coordinate (j + 1))
     (rule (coordinateOk l s (pointStart j + 6)) (Coordinate (j + 1))
-    (rule (weightOk l s (pointStart j + 8)) (Weight (j + 1)) Accepted))))
+    (rule (weightOk l s j) (Weight (j + 1))
+    (rule (somewhereOk s j) (Nowhere (j + 1)) Accepted)))))
 
 -- three corners of a solid with v vertices, no two the same
 unfoldable pub areCorners : (v p q r : ℕ) → Bool
@@ -134,7 +146,7 @@ edgeFault s i = rule (closedAt s i) (Edge (faceRecord s i)) Accepted
 unfoldable pub edgesFault : List ℕ → Judged
 edgesFault s = firstFault (edgeFault s) 0 (faces s)
 
--- ---- the judge: 1, 2, 3; 4 to 7 record by record; 8; 9
+-- ---- the judge: 1, 2, 3; 4 to 7 and 14 record by record; 8; 9
 
 unfoldable pub judgedAt : Limits → List ℕ → Judged
 judgedAt l s = andThen (headerFault l s) (andThen (recordsFault l s) (andThen (unusedsFault s) (edgesFault s)))

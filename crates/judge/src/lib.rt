@@ -13,7 +13,7 @@ pub enum Judged {
     Refused(Refusal),
 }
 
-// Refusals 1, 2, 3; then 4 to 7 record by record; then 8; then 9.
+// Refusals 1, 2, 3; then 4 to 7 and 14 record by record; then 8; then 9.
 pub fn judge(s: &[u8]) -> Judged
     ensures { λ r. ⌜ r ≡ judged (now (s .entry)) ⌝ }
 {

@@ -97,6 +97,28 @@ fn weights() {
     changed(b"weight 127", 50, b"\x7f");
     changed(b"weight -128", 50, b"\x80");
     changed(b"weight 0 of the far point", 14, b"\x00");
+    changed(b"weight 17 of the far point", 14, b"\x11");
+    changed(b"weight -16 of the far point", 14, b"\xf0");
+    changed(
+        b"a far point of four zeros",
+        8,
+        b"\x00\x00\x00\x00\x00\x00\x00",
+    );
+    changed(
+        b"three zeros and weight 17",
+        8,
+        b"\x00\x00\x00\x00\x00\x00\x11",
+    );
+    changed(
+        b"coordinate 4096 and weight 0",
+        8,
+        b"\x00\x10\x00\x00\x00\x00\x00",
+    );
+    changed(
+        b"a far point of four zeros, then the next mark",
+        8,
+        b"\x00\x00\x00\x00\x00\x00\x00XX",
+    );
     changed(b"weight 17 of B's last vertex", 86, b"\x11");
     changed(b"weight, then the next mark", 32, b"\x00XX");
 }

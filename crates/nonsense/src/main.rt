@@ -49,14 +49,14 @@ fn turns(base: &[u8], tally: &mut [u64; ROWS]) {
     }
 }
 
-// The row of question q: its name, then how often it was answered and refused 1 to 12.
+// The row of question q: its name, then how often it was answered and refused 1 to 14.
 fn say_row(name: &[u8], q: usize, tally: &[u64; ROWS])
     requires { ⌜ q ≤ 10 ⌝ }
 {
     text(name);
     let mut k = 0;
-    while k < 13 {
-        number(tally[13 * q + k] as usize);
+    while k < 15 {
+        number(tally[15 * q + k] as usize);
         k += 1;
     }
     end();
@@ -65,7 +65,7 @@ fn say_row(name: &[u8], q: usize, tally: &[u64; ROWS])
 fn say_tally(tally: &[u64; ROWS]) {
     text(b"strings");
     number(STRINGS);
-    text(b"\nquestion answered 1 2 3 4 5 6 7 8 9 10 11 12\n");
+    text(b"\nquestion answered 1 2 3 4 5 6 7 8 9 10 11 12 13 14\n");
     say_row(b"judge", 0, tally);
     say_row(b"sign", 1, tally);
     say_row(b"pierces", 2, tally);

@@ -15,15 +15,15 @@ use kernel::points::Signed;
 use kernel::verdict;
 use kernel::verdict::Verdict;
 
-// Eleven rows of thirteen numbers.
-pub const ROWS: usize = 11 * 13;
+// Eleven rows of fifteen numbers.
+pub const ROWS: usize = 11 * 15;
 
 // Question q was answered (k = 0) or refused k.
 fn note(tally: &mut [u64; ROWS], q: usize, k: usize)
     requires { ⌜ q ≤ 10 ⌝ }
 {
-    if k < 13 {
-        let i = 13 * q + k;
+    if k < 15 {
+        let i = 15 * q + k;
         tally[i] = std::num::wrapping_add_u64(tally[i], 1);
     }
 }

@@ -5,11 +5,11 @@ use Prim.Native.Nat.{ℕ, zero, suc, _+_, _*_, _^_, _≤_, _<_}
 use native.Mathlib.Nat.{lt-of-le-of-lt}
 use native.Mathlib.Omega.{arith}
 use borrow.Author.Tests.{lt-ltb}
-use lib.Dec.{lit<}
+use lib.Dec.{lit<, lit≤}
 use lib.IntN.{ℤ, pos, negsuc, _+ℤ_, _*ℤ_}
 use lib.Signed.{mag, ltZ}
 use mir.Syntax.{w64}
-use mir.Val.{SFits, ofZ}
+use mir.Val.{SFits, toZ, ofZ}
 use mir.Facts.{toZ-ofZ}
 use Rattle.laws.specs.Size.{exactly, _⊗_, _⊖_, _⊕_, reread, reads, Held, held, formed, times, plus, called}
 use Rattle.laws.specs.Sign.{Sign, sign, _or_}
@@ -17,6 +17,7 @@ use Rattle.scene.specs.Limits.{limits, mostPoints}
 use Rattle.scene.specs.declared.Row.{Row}
 use Rattle.orient.specs.Terms.{factor, isPlus}
 use Rattle.orient.specs.Minors.{crossOf, threeOf, meetOf}
+use Rattle.orient.specs.Laws.{factor-weight}
 use Rattle.orient.specs.Columns.{partOf}
 use Rattle.orient.specs.Formed.{mostFormed, crossSize, threeSize, meetSize}
 use Rattle.orient.specs.Sizes.{Within, AreWithin, partSize, part-size, part-fits, factor-size}
@@ -26,7 +27,7 @@ use Rattle.orient.specs.declared.Point.{Point}
 room : {k : ℕ} → k ≤ mostFormed → k < 2 ^ 63
 room h = lt-of-le-of-lt h (lit< tt)
 
-read : {z : ℤ} → SFits w64 z → reread z ≡ z
+pub read : {z : ℤ} → SFits w64 z → reread z ≡ z
 read h = toZ-ofZ {w = w64} h
 
 -- ---- the fields of a row, handed on four at a time to `cross`
@@ -93,6 +94,14 @@ module _ {l m : Line} (p : LineFits l) (q : LineFits m) (h : meetSize l m ≤ mo
   pub met : {r s : ℤ} → Gives r (l .xy) (m .zw) (l .xz) (m .yw) (l .xw) (m .yz) → Gives s (l .yz) (m .xw) (l .yw) (m .xz) (l .zw) (m .xy) → Held (meetSize l m) (reread r +ℤ reread s) (meetOf l m)
   met g k = plus (three-held one (omega arith) g) (three-held two (omega arith) k) (room h)
 
+-- ---- the factor, by the test of the weight's bits
+
+pub factor-zero : {w : ℤ} → SFits w64 w → ofZ w64 w ≡ 0 → factor w ≡ pos 1
+factor-zero fits z = ap factor (sym (read fits) ∙ ap (toZ w64) z)
+
+pub factor-other : {w : ℤ} → (ofZ w64 w ≡ 0 → ⊥) → factor w ≡ w
+factor-other {w} h = factor-weight w (λ e. h (ap (ofZ w64) e))
+
 -- ---- the shift of a point, from what `factor` gave
 
 module _ {p : Point} {r : ℤ} (v : Within limits p) (e : r ≡ factor (reread (p .w))) where
@@ -103,7 +112,7 @@ module _ {p : Point} {r : ℤ} (v : Within limits p) (e : r ≡ factor (reread (
   by-number z = reread z *ℤ reread (p .n)
 
   pub shift1 : Held (limits .mostWeight * mostPoints limits) (by-number r) (factor (p .w) *ℤ p .n)
-  shift1 = times (formed (e ∙ ap factor (reads (v .w) (lit< tt))) (factor-size (v .w)) (lit< tt)) number (lit< tt)
+  shift1 = times (formed (e ∙ ap factor (reads (v .w) (lit< tt))) (factor-size (lit≤ tt) (v .w)) (lit< tt)) number (lit< tt)
 
   pub shift2 : Held (limits .mostWeight * mostPoints limits * mostPoints limits) (by-number (by-number r)) (factor (p .w) *ℤ p .n *ℤ p .n)
   shift2 = times shift1 number (lit< tt)
@@ -114,7 +123,7 @@ module _ {p : Point} {r : ℤ} (v : Within limits p) (e : r ≡ factor (reread (
 -- ---- a determinant that `part` gave
 
 pub part-held : {r : ℤ} {a b c d : Point} (sx sy sz : Bool) → AreWithin limits a b c d → r ≡ partOf a b c d sx sy sz → Held (partSize limits sx sy sz) r (partOf a b c d sx sy sz)
-part-held sx sy sz v e = formed e (part-size limits v sx sy sz) (room (part-fits sx sy sz))
+part-held sx sy sz v e = formed e (part-size limits (lit≤ tt) v sx sy sz) (room (part-fits sx sy sz))
 
 -- ---- the tests of a sign
 

@@ -1,13 +1,15 @@
 -- What determinants and terms obey: neighbours exchanged negate them, three products of determinants of six rows sum to zero, and c3 is the
--- product of the weights times Psi. Assumes nothing.
-use mathlib.Core.Path.{_≡_}
+-- product of the weights times Psi, or nearly so where the last weight is 0. Assumes nothing.
+use mathlib.Core.Path.{_≡_, refl, _∙_}
+use mathlib.Core.Logic.{_≢_}
 use mathlib.Core.List.{[], _∷_}
-use lib.IntN.{ℤ, pos, negℤ, _+ℤ_, _-ℤ_, _*ℤ_}
-use Rattle.laws.specs.Ring.{Expr, ring}
+use Prim.Native.Nat.{zero, suc}
+use lib.IntN.{ℤ, pos, negsuc, negℤ, _+ℤ_, _-ℤ_, _*ℤ_}
+use Rattle.laws.specs.Ring.{Expr, ring, ring-by}
 use Rattle.laws.specs.Ring.Expr.{lit, ⊝_, _⊕_, _⊖_, _⊗_}
 use Rattle.scene.specs.declared.Row.{Row}
 use Rattle.orient.specs.Determinant.{Entries, det4}
-use Rattle.orient.specs.Terms.{Powers, Numbered, terms, c3}
+use Rattle.orient.specs.Terms.{Powers, Numbered, powers, factor, numbered, terms, c3}
 use Rattle.orient.specs.Variables.{row, rows, det, P, Q, S, U, points, t-of}
 use Rattle.orient.specs.declared.Point.{Point}
 
@@ -88,22 +90,57 @@ module _ (a b c d : Point) where
 
 -- ---- the last term
 
-module _ {R : Type 0} (_-_ _*_ : R → R → R) where
-  infixl 6 _-_
+module _ {R : Type 0} (_+_ _-_ _*_ : R → R → R) where
+  infixl 6 _+_ _-_
   infixl 7 _*_
   -- the product of (later number - earlier number) over the six pairs
   abbrev pairs : R → R → R → R → R
   pairs i j k l = (j - i) * (k - i) * (l - i) * (k - j) * (l - j) * (l - k)
 
+  -- over the three pairs without l, and what stands for the pairs with l where the point l has weight 0
+  abbrev pairs3 : R → R → R → R
+  pairs3 i j k = (j - i) * (k - i) * (k - j)
+
+  abbrev outward : R → R → R → R → R
+  outward i j k l = (l - i) * (l - j) * (l - k) + i * j * k
+
 unfoldable pub psi : ℤ → ℤ → ℤ → ℤ → ℤ
-psi i j k l = negℤ (pairs _-ℤ_ _*ℤ_ i j k l)
+psi i j k l = negℤ (pairs _+ℤ_ _-ℤ_ _*ℤ_ i j k l)
 
--- the point with its weight for the factor of its shift
-abbrev by-weight : Numbered Expr → Numbered Expr
-by-weight p = record { x = p .x; y = p .y; z = p .z; w = p .w; k = p .w; i = p .i }
+unfoldable pub farPsi : ℤ → ℤ → ℤ → ℤ → ℤ
+farPsi i j k l = negℤ (pairs3 _+ℤ_ _-ℤ_ _*ℤ_ i j k *ℤ outward _+ℤ_ _-ℤ_ _*ℤ_ i j k l)
 
-pub c3-psi : (a b c d : Point) → c3 a b c d ≡ a .w *ℤ b .w *ℤ c .w *ℤ d .w *ℤ psi (a .n) (b .n) (c .n) (d .n)
-unfolding terms psi
-c3-psi a b c d =
-    ring (points a b c d []) (t-of (by-weight P) (by-weight Q) (by-weight S) (by-weight U) .e3)
-    (P .w ⊗ Q .w ⊗ S .w ⊗ U .w ⊗ ⊝ pairs _⊖_ _⊗_ (P .i) (Q .i) (S .i) (U .i)) tt
+-- the point with k for the factor of its shift
+abbrev shift-by : {R : Type 0} → R → Numbered R → Numbered R
+shift-by k p = record { x = p .x; y = p .y; z = p .z; w = p .w; k = k; i = p .i }
+
+pub factor-weight : (w : ℤ) → w ≢ pos 0 → factor w ≡ w
+factor-weight (pos zero) h = absurd (h refl)
+factor-weight (pos (suc n)) h = refl
+factor-weight (negsuc n) h = refl
+
+module _ (a b c d : Point) where
+  -- the last term, by the factors of the shifts
+  abbrev last : (i j k l : ℤ) → ℤ
+  last i j k l =
+      powers (pos 0) (pos 1) _+ℤ_ _-ℤ_ _*ℤ_ (shift-by i (numbered a)) (shift-by j (numbered b)) (shift-by k (numbered c)) (shift-by l (numbered d)) .e3
+
+  abbrev weights3 : Expr
+  weights3 = P .w ⊗ Q .w ⊗ S .w
+
+  module _ (ha : a .w ≢ pos 0) (hb : b .w ≢ pos 0) (hc : c .w ≢ pos 0) where
+    pub c3-psi : d .w ≢ pos 0 → c3 a b c d ≡ a .w *ℤ b .w *ℤ c .w *ℤ d .w *ℤ psi (a .n) (b .n) (c .n) (d .n)
+    unfolding terms psi
+    c3-psi hd =
+        (λ i. last (factor-weight (a .w) ha i) (factor-weight (b .w) hb i) (factor-weight (c .w) hc i) (factor-weight (d .w) hd i))
+        ∙ ring (points a b c d []) (t-of (shift-by (P .w) P) (shift-by (Q .w) Q) (shift-by (S .w) S) (shift-by (U .w) U) .e3)
+        (weights3 ⊗ U .w ⊗ ⊝ pairs _⊕_ _⊖_ _⊗_ (P .i) (Q .i) (S .i) (U .i)) tt
+
+    pub c3-far : d .w ≡ pos 0 → c3 a b c d ≡ a .w *ℤ b .w *ℤ c .w *ℤ farPsi (a .n) (b .n) (c .n) (d .n)
+    unfolding terms farPsi
+    c3-far zd =
+        let far = pairs3 _⊕_ _⊖_ _⊗_ (P .i) (Q .i) (S .i) in
+        (λ i. last (factor-weight (a .w) ha i) (factor-weight (b .w) hb i) (factor-weight (c .w) hc i) (factor (zd i)))
+        ∙ ring-by (points a b c d []) (t-of (shift-by (P .w) P) (shift-by (Q .w) Q) (shift-by (S .w) S) (shift-by (lit (pos 1)) U) .e3)
+        (weights3 ⊗ ⊝ (far ⊗ outward _⊕_ _⊖_ _⊗_ (P .i) (Q .i) (S .i) (U .i)))
+        (weights3 ⊗ P .i ⊗ Q .i ⊗ S .i ⊗ far) (U .w) (lit (pos 0)) tt zd

@@ -10,6 +10,7 @@ pub mod Laws
 pub mod Whole
 pub mod Signs
 pub mod Alternating
+pub mod Highest
 pub mod Weighted
 pub mod Rules
 pub mod Marked

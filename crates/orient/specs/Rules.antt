@@ -39,7 +39,7 @@ module _ (n : ℕ) (row : ℕ → Row) where
 
   -- limits that these points keep
   abbrev kept : Limits
-  kept = record { leastVertices = 0; mostVertices = n; leastFaces = 0; mostFaces = 0; mostCoordinate = total size n; mostWeight = total size n }
+  kept = record { leastVertices = 0; mostVertices = n; leastFaces = 0; mostFaces = 0; mostCoordinate = total size n; mostWeight = suc (total size n) }
 
   within : (i : ℕ) → Upto n i → Within kept (pointAt row i)
   within i h = let t = below-total size n i h in omega arith
@@ -53,9 +53,9 @@ module _ (n : ℕ) (row : ℕ → Row) where
       let v : AreWithin kept (pointAt row a) (pointAt row b) (pointAt row c) (pointAt row d) =
       (within a (f .a-in), within b (f .b-in), within c (f .c-in), within d (f .d-in)) in
       record {
-        c1 = le-trans (c1-size kept v .size) (omega arith);
-        c2 = le-trans (c2-size kept v .size) (omega arith);
-        c3 = le-trans (c3-size kept v .size) (omega arith);
+        c1 = le-trans (c1-size kept (omega arith) v .size) (omega arith);
+        c2 = le-trans (c2-size kept (omega arith) v .size) (omega arith);
+        c3 = le-trans (c3-size kept (omega arith) v .size) (omega arith);
       }
 
 -- ---- the shift is real, and so the rules hold

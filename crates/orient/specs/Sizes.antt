@@ -2,11 +2,11 @@
 -- Assumes nothing.
 use mathlib.Core.Path.{_≡_}
 use mathlib.Core.Bool.{Bool, true, false, cond}
-use Prim.Native.Nat.{ℕ, _+_, _*_, _^_, _≤_}
+use Prim.Native.Nat.{ℕ, zero, suc, _+_, _*_, _^_, _≤_}
 use native.Mathlib.Nat.{mul-le-mul, pow-suc, pow-zero}
 use native.Mathlib.Omega.{arith}
 use lib.Dec.{lit≤}
-use lib.IntN.{ℤ}
+use lib.IntN.{ℤ, pos, negsuc}
 use Rattle.laws.specs.Size.{Small, _⊗_, _⊕_, below}
 use Rattle.scene.specs.Limits.{Limits, limits, mostPoints}
 use Rattle.scene.specs.Arrays.{RowWithin, AllWithin}
@@ -26,8 +26,11 @@ pub record Within (l : Limits) (p : Point) : Type 0 where
 abbrev pub AreWithin : Limits → (a b c d : Point) → Type 0
 AreWithin l a b c d = Within l a × Within l b × Within l c × Within l d
 
-pub factor-size : {m : ℕ} {w : ℤ} → Small m w → Small m (factor w)
-factor-size h = h
+-- the factor may be 1 where the weight is 0
+pub factor-size : {m : ℕ} {w : ℤ} → 1 ≤ m → Small m w → Small m (factor w)
+factor-size {w = pos zero} one h = record { size = one }
+factor-size {w = pos (suc n)} one h = h
+factor-size {w = negsuc n} one h = h
 
 cond-small : {A B : ℕ} {a b : ℤ} (s : Bool) → Small A a → Small B b → Small (cond s A B) (cond s a b)
 cond-small true p q = p
@@ -114,9 +117,9 @@ module _ (l : Limits) where
   of-size3 : partSize true true true ≡ size3
   of-size3 = powers3 C W n
 
-  row-size : {p : Point} (sx sy sz : Bool) → Within l p → RowSize (X sx) (Y sy) (Z sz) W (rowOf p sx sy sz)
-  row-size sx sy sz v =
-      let k = factor-size (v .w) in
+  row-size : {p : Point} (sx sy sz : Bool) → 1 ≤ W → Within l p → RowSize (X sx) (Y sy) (Z sz) W (rowOf p sx sy sz)
+  row-size sx sy sz hw v =
+      let k = factor-size hw (v .w) in
       record {
         x = cond-small sx (k ⊗ v .n) (v .x);
         y = cond-small sy (k ⊗ v .n ⊗ v .n) (v .y);
@@ -136,15 +139,15 @@ module _ (l : Limits) where
         w = hw;
       }
 
-  module _ {a b c d : Point} (v : AreWithin l a b c d) where
-    pub part-within : (sx sy sz : Bool) → 1 ≤ C → 1 ≤ W → DetWithin (partSize sx sy sz) (rowOf a sx sy sz) (rowOf b sx sy sz) (rowOf c sx sy sz) (rowOf d sx sy sz)
-    part-within sx sy sz hc hw =
-        det-within _ _ _ _ (row-size sx sy sz (v .0)) (row-size sx sy sz (v .1)) (row-size sx sy sz (v .2)) (row-size sx sy sz (v .3)) (some-size sx sy sz hc hw)
+  module _ {a b c d : Point} (hw : 1 ≤ W) (v : AreWithin l a b c d) where
+    pub part-within : (sx sy sz : Bool) → 1 ≤ C → DetWithin (partSize sx sy sz) (rowOf a sx sy sz) (rowOf b sx sy sz) (rowOf c sx sy sz) (rowOf d sx sy sz)
+    part-within sx sy sz hc =
+        det-within _ _ _ _ (row-size sx sy sz hw (v .0)) (row-size sx sy sz hw (v .1)) (row-size sx sy sz hw (v .2)) (row-size sx sy sz hw (v .3)) (some-size sx sy sz hc hw)
 
     pub part-size : (sx sy sz : Bool) → Small (partSize sx sy sz) (partOf a b c d sx sy sz)
     unfolding partOf
     part-size sx sy sz =
-        det-size _ _ _ _ (row-size sx sy sz (v .0)) (row-size sx sy sz (v .1)) (row-size sx sy sz (v .2)) (row-size sx sy sz (v .3))
+        det-size _ _ _ _ (row-size sx sy sz hw (v .0)) (row-size sx sy sz hw (v .1)) (row-size sx sy sz hw (v .2)) (row-size sx sy sz hw (v .3))
 
     pub c0-size : Small size0 (c0 a b c d)
     c0-size = rw (c0-parts, ← of-size0) (part-size false false false)
@@ -173,17 +176,17 @@ part-fits false false false = lit≤ tt
 pub terms-formed : {a b c d : Point} → AreWithin limits a b c d →
     Small mostFormed (c0 a b c d) × Small mostFormed (c1 a b c d) × Small mostFormed (c2 a b c d) × Small mostFormed (c3 a b c d)
 terms-formed v = (
-  below (c0-size limits v) (lit≤ tt),
-  below (c1-size limits v) (lit≤ tt),
-  below (c2-size limits v) (lit≤ tt),
-  below (c3-size limits v) (lit≤ tt),
+  below (c0-size limits (lit≤ tt) v) (lit≤ tt),
+  below (c1-size limits (lit≤ tt) v) (lit≤ tt),
+  below (c2-size limits (lit≤ tt) v) (lit≤ tt),
+  below (c3-size limits (lit≤ tt) v) (lit≤ tt),
 )
 
 det-below : {j k : ℕ} {a b c d : Row} → j ≤ k → DetWithin j a b c d → DetWithin k a b c d
 det-below h v = omega arith
 
 pub part-formed : {a b c d : Point} (sx sy sz : Bool) → AreWithin limits a b c d → DetWithin mostFormed (rowOf a sx sy sz) (rowOf b sx sy sz) (rowOf c sx sy sz) (rowOf d sx sy sz)
-part-formed sx sy sz v = det-below (part-fits sx sy sz) (part-within limits v sx sy sz (lit≤ tt) (lit≤ tt))
+part-formed sx sy sz v = det-below (part-fits sx sy sz) (part-within limits (lit≤ tt) v sx sy sz (lit≤ tt))
 
 point-within : (l : Limits) (row : ℕ → Row) (i : ℕ) → RowWithin l (row i) → i ≤ mostPoints l → Within l (pointAt row i)
 point-within l row i h k = omega arith

@@ -1,8 +1,8 @@
 -- The sign of four points: the determinant of their shifted rows is c0 + c1·e + c2·e² + c3·e³, e an infinitesimal above zero, and the first term
 -- that is not zero gives the sign. Assumes nothing.
 use mathlib.Core.Bool.{Bool, true, false}
-use Prim.Native.Nat.{ℕ}
-use lib.IntN.{ℤ, pos, _+ℤ_, _-ℤ_, _*ℤ_}
+use Prim.Native.Nat.{ℕ, zero, suc}
+use lib.IntN.{ℤ, pos, negsuc, _+ℤ_, _-ℤ_, _*ℤ_}
 use Rattle.laws.specs.Sign.{Sign, sign, _or_, minus, none, plus}
 use Rattle.scene.specs.declared.Row.{Row}
 use Rattle.orient.specs.Determinant.{Entries, determinant}
@@ -77,9 +77,11 @@ module _ {R : Type 0} (zero one : R) (_+_ _-_ _*_ : R → R → R) where
 
 -- ---- the terms
 
--- the one factor of the shift: the point's weight
+-- the one factor of the shift: the point's weight, or 1 where that is 0
 abbrev pub factor : ℤ → ℤ
-factor w = w
+factor (pos zero) = pos 1
+factor (pos (suc n)) = pos (suc n)
+factor (negsuc n) = negsuc n
 
 abbrev pub numbered : Point → Numbered ℤ
 numbered p = record { x = p .x; y = p .y; z = p .z; w = p .w; k = factor (p .w); i = p .n }

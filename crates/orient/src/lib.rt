@@ -170,11 +170,11 @@ fn part(a: Point, b: Point, c: Point, d: Point, sx: bool, sy: bool, sz: bool) ->
     )
 }
 
-// The one factor of the shift.
+// The one factor of the shift: the weight, or 1 where that is 0.
 fn factor(w: i64) -> i64
     ensures { λ r. ⌜ r ≡ factor w ⌝ }
 {
-    w
+    if w == 0 { 1 } else { w }
 }
 
 // The row of a point.

@@ -59,9 +59,11 @@ module _ (l : Limits) (s : List ℕ) where
       let t = tested l s k a b in
       rw (t .fault) (
         λ p.
-            let c = simp (accepts, t .mark-iff, t .coordinates-iff, t .weight-iff, t .corners-iff) at p in
-            record { mark = c .0; coordinates = c .1 .0; weight = c .1 .1 .0; corners = c .1 .1 .1 .0 },
-        λ h. simp (accepts, t .mark-iff, t .coordinates-iff, t .weight-iff, t .corners-iff) (h .mark, (h .coordinates, (h .weight, (h .corners, refl)))),
+            let c = simp (accepts, t .mark-iff, t .coordinates-iff, t .weight-iff, t .somewhere-iff, t .corners-iff) at p in
+            record { mark = c .0; coordinates = c .1 .0; weight = c .1 .1 .0; somewhere = c .1 .1 .1 .0; corners = c .1 .1 .1 .1 .0 },
+        λ h.
+            simp (accepts, t .mark-iff, t .coordinates-iff, t .weight-iff, t .somewhere-iff, t .corners-iff)
+            (h .mark, (h .coordinates, (h .weight, (h .somewhere, (h .corners, refl))))),
       )
 
   pub records-iff : (recordsFault l s ≡ Accepted) ↔ RecordsOk l s

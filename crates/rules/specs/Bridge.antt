@@ -6,7 +6,7 @@ use Prim.Native.Nat.{ℕ, zero, suc, _+_, _≤_, _<_}
 use native.Mathlib.Omega.{arith}
 use native.Mathlib.Decide.{decLt}
 use Rattle.laws.specs.Lists.{Some, length-run, run-each, each-run}
-use Rattle.scene.specs.Limits.{Limits, limits}
+use Rattle.scene.specs.Limits.{Limits, limits, leastWeight}
 use Rattle.scene.specs.Records.{vertsA, vertsB, verts, facesA, facesB, faces, faceRecord, lastRecord}
 use Rattle.scene.specs.Tables.{rowAt, faceAt, tablesOf}
 use Rattle.scene.specs.Read.{size-a, size-b}
@@ -18,10 +18,14 @@ module _ (l : Limits) (s : List ℕ) where
   -- ---- from the file
 
   module _ (ok : FileOk l s) where
-    row-ok : (j : ℕ) → j ≤ verts s → RowOk l (rowAt s j)
+    row-ok : (j : ℕ) → j ≤ verts s → RowOk (leastWeight j) l (rowAt s j)
     row-ok j b =
         let r = ok .records (j + 1) (omega arith) (omega arith) in
         record { coordinates = r .coordinates j b refl; weight = r .weight j b refl }
+
+    vertex-ok : (j : ℕ) → 1 ≤ j → j ≤ verts s → RowOk 1 l (rowAt s j)
+    vertex-ok zero a b = absurd (omega arith)
+    vertex-ok (suc j) a b = row-ok (suc j) b
 
     a-ok : TableOk l (tablesOf s .a)
     a-ok =
@@ -29,7 +33,7 @@ module _ (l : Limits) (s : List ℕ) where
         record {
           vertices = rw (size-a s) (c .vertices-a);
           number = rw (length-run (faceAt s) 0 (facesA s)) (c .faces-a);
-          rows = run-each (RowOk l) (rowAt s) 1 (vertsA s) (λ j a b. row-ok j (omega arith));
+          rows = run-each (RowOk 1 l) (rowAt s) 1 (vertsA s) (λ j a b. vertex-ok j a (omega arith));
           corners =
               rw (size-a s)
               (run-each (FaceOf 0 (vertsA s)) (faceAt s) 0 (facesA s)
@@ -44,7 +48,7 @@ module _ (l : Limits) (s : List ℕ) where
         record {
           vertices = rw (size-b s) (c .vertices-b);
           number = rw (length-run (faceAt s) (facesA s) (facesB s)) (c .faces-b);
-          rows = run-each (RowOk l) (rowAt s) (vertsA s + 1) (vertsB s) (λ j a b. row-ok j (omega arith));
+          rows = run-each (RowOk 1 l) (rowAt s) (vertsA s + 1) (vertsB s) (λ j a b. vertex-ok j (omega arith) (omega arith));
           corners =
               rw (size-b s)
               (run-each (FaceOf 0 (vertsB s)) (faceAt s) (facesA s) (facesB s)
@@ -67,13 +71,13 @@ module _ (l : Limits) (s : List ℕ) where
   -- ---- from the tables
 
   module _ (m : Marked s) (ok : TablesOk l (tablesOf s)) where
-    point-ok : (j : ℕ) → j ≤ verts s → RowOk l (rowAt s j)
+    point-ok : (j : ℕ) → j ≤ verts s → RowOk (leastWeight j) l (rowAt s j)
     point-ok zero b = ok .far
     point-ok (suc j) b = go (decLt j (vertsA s))
       where
-        go : Dec (j < vertsA s) → RowOk l (rowAt s (suc j))
-        go (yes c) = each-run (RowOk l) (rowAt s) 1 (vertsA s) (ok .a .rows) (suc j) (omega arith) (omega arith)
-        go (no c) = each-run (RowOk l) (rowAt s) (vertsA s + 1) (vertsB s) (ok .b .rows) (suc j) (omega arith) (omega arith)
+        go : Dec (j < vertsA s) → RowOk 1 l (rowAt s (suc j))
+        go (yes c) = each-run (RowOk 1 l) (rowAt s) 1 (vertsA s) (ok .a .rows) (suc j) (omega arith) (omega arith)
+        go (no c) = each-run (RowOk 1 l) (rowAt s) (vertsA s + 1) (vertsB s) (ok .b .rows) (suc j) (omega arith) (omega arith)
 
     mark-ok : (k : ℕ) → MarkOk s k
     mark-ok k = record { far = λ e. m .far; vertex = λ j a b e. m .vertex j a b; face = λ i b e. m .face i b; end = λ e. m .end }
@@ -84,6 +88,7 @@ module _ (l : Limits) (s : List ℕ) where
           mark = mark-ok k;
           coordinates = λ j b e. point-ok j b .coordinates;
           weight = λ j b e. point-ok j b .weight;
+          somewhere = λ e. ok .somewhere;
           corners =
               record {
                 of-a = λ i b e. each-run (FaceOf 0 (vertsA s)) (faceAt s) 0 (facesA s) (rw (size-a s) at (ok .a .corners)) i (omega arith) (omega arith);
@@ -120,7 +125,7 @@ module _ (l : Limits) (s : List ℕ) where
 
   pub by-tables : FileOk l s ↔ (Marked s × TablesOk l (tablesOf s))
   by-tables = (
-    λ ok. (marked ok, record { a = a-ok ok; b = b-ok ok; far = row-ok ok 0 (omega arith) }),
+    λ ok. (marked ok, record { a = a-ok ok; b = b-ok ok; far = row-ok ok 0 (omega arith); somewhere = ok .records 1 (omega arith) (omega arith) .somewhere refl }),
     λ h. file-ok (h .0) (h .1),
   )
 

@@ -76,8 +76,8 @@ unsigned-small : (h : ℕ) (z : ℤ) → natAbs z < h → unsigned h z < h + h
 unsigned-small h (pos n) l = omega arith
 unsigned-small h (negsuc n) l = omega arith
 
-point-bytes : {l : Limits} → Fit l → (m : ℕ) → m < 65536 → (r : Row) → RowOk l r → Each Byte (pointBytes m r)
-point-bytes fit m h r ok =
+point-bytes : {l : Limits} (least : ℕ) → Fit l → (m : ℕ) → m < 65536 → (r : Row) → RowOk least l r → Each Byte (pointBytes m r)
+point-bytes least fit m h r ok =
     let c = ok .coordinates in
     let x = unsigned-small 32768 (r .x) (omega (arith, fit .coordinate, c .x)) in
     let y = unsigned-small 32768 (r .y) (omega (arith, fit .coordinate, c .y)) in
@@ -95,7 +95,7 @@ all-bytes P f g (x ∷ xs) h = each-append Byte (f x) (flatMap f xs) (g x (h .0)
 
 module _ {l : Limits} (fit : Fit l) where
   rows-bytes : (k : Table) → TableOk l k → Each Byte (flatMap (pointBytes markVX) (k .rows))
-  rows-bytes k h = all-bytes (RowOk l) (pointBytes markVX) (point-bytes fit markVX (omega arith)) (k .rows) (h .rows)
+  rows-bytes k h = all-bytes (RowOk 1 l) (pointBytes markVX) (point-bytes 1 fit markVX (omega arith)) (k .rows) (h .rows)
 
   faces-bytes : (k : Table) → TableOk l k → Each Byte (flatMap faceBytes (k .faces))
   faces-bytes k h = all-bytes (FaceOf 0 (size k)) faceBytes (face-bytes (size k) (omega (arith, fit .vertices, h .vertices .1))) (k .faces) (h .corners)
@@ -116,7 +116,7 @@ module _ {l : Limits} (fit : Fit l) where
         let e3 = each-append Byte (flatMap faceBytes (t .a .faces)) f2 (faces-bytes (t .a) (ok .a)) e2 in
         let e4 = each-append Byte (flatMap (pointBytes markVX) (t .b .rows)) f3 (rows-bytes (t .b) (ok .b)) e3 in
         let e5 = each-append Byte (flatMap (pointBytes markVX) (t .a .rows)) f4 (rows-bytes (t .a) (ok .a)) e4 in
-        let e6 = each-append Byte (pointBytes markFP (t .far)) f5 (point-bytes fit markFP (omega arith) (t .far) (ok .far)) e5 in
+        let e6 = each-append Byte (pointBytes markFP (t .far)) f5 (point-bytes 0 fit markFP (omega arith) (t .far) (ok .far)) e5 in
         each-at Byte (bytesOf t) 0 (each-append Byte (header t) f6 header-bytes e6) (omega arith)
 
     -- the file of tables that keep the rules is accepted

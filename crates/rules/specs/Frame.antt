@@ -1,9 +1,9 @@
 -- The rules of a record read only that record, and the header's counts for its place: where the bytes of those are the same, so are the row or the
 -- face, the judgement and the rules. Assumes nothing.
-use mathlib.Core.Path.{_≡_, sym, ap, ap₂, _∙_}
+use mathlib.Core.Path.{_≡_, refl, sym, ap, ap₂, _∙_}
 use mathlib.Core.Logic.{_↔_, Iff·symm, Iff·trans}
 use mathlib.Core.List.{List}
-use Prim.Native.Nat.{ℕ, _+_, _*_, _-_, _≤_, _<_}
+use Prim.Native.Nat.{ℕ, zero, suc, _+_, _*_, _-_, _≤_, _<_}
 use native.Mathlib.Omega.{arith}
 use native.Mathlib.Decide.{decLt}
 use lib.Dec.{eqb}
@@ -12,7 +12,7 @@ use Rattle.scene.specs.Bytes.{byteAt, twoAt, coordinateAt, weightAt, signed}
 use Rattle.scene.specs.Records.{vertsA, vertsB, verts, facesA, facesB, faces, faceRecord, lastRecord, pointStart, faceStart, endStart, markEN}
 use Rattle.scene.specs.Tables.{rowAt, faceAt, cornerAt}
 use Rattle.scene.specs.declared.Refusal.the-variants.{Mark}
-use Rattle.judge.specs.Judge.{rule, pointFault, coordinateOk, weightOk, faceFault, cornersOk, vertsAt, endFault, recordFault}
+use Rattle.judge.specs.Judge.{rule, pointFault, coordinateOk, weightOk, nowhere, somewhereOk, faceFault, cornersOk, vertsAt, endFault, recordFault}
 use Rattle.judge.specs.Cases.{record-point, record-face, record-end}
 use Rattle.judge.specs.declared.Judged.the-variants.{Accepted}
 use Rattle.rules.specs.Rules.{RecordOk}
@@ -47,6 +47,17 @@ module _ (r s : List ℕ) where
 
   -- ---- a point
 
+  somewhere-frame : (j : ℕ) → Same r s (pointStart j) 9 → somewhereOk r j ≡ somewhereOk s j
+  unfolding somewhereOk nowhere
+  somewhere-frame zero h =
+      rw (
+        coordinate-frame 8 (λ m a b. h m (omega arith) (omega arith)),
+        coordinate-frame 10 (λ m a b. h m (omega arith) (omega arith)),
+        coordinate-frame 12 (λ m a b. h m (omega arith) (omega arith)),
+        weight-frame 14 (λ m a b. h m (omega arith) (omega arith)),
+      )
+  somewhere-frame (suc j) h = refl
+
   module _ (j : ℕ) (h : Same r s (pointStart j) 9) where
     abbrev at : ℕ
     at = pointStart j
@@ -68,7 +79,15 @@ module _ (r s : List ℕ) where
 
     point-frame : (l : Limits) → pointFault l r j ≡ pointFault l s j
     unfolding pointFault coordinateOk weightOk
-    point-frame l = rw (two-frame at (λ m a b. h m (omega arith) (omega arith)), x-same, y-same, z-same, w-same)
+    point-frame l =
+        rw (
+          two-frame at (λ m a b. h m (omega arith) (omega arith)),
+          x-same,
+          y-same,
+          z-same,
+          w-same,
+          somewhere-frame j h,
+        )
 
   -- ---- a face, and the last record
 

@@ -96,9 +96,10 @@ module _ (l : Limits) (s : List ℕ) (ok : judgedAt l s ≡ Accepted) where
       let c = row-rules j b .coordinates j b refl in
       record { x = c .x; y = c .y; z = c .z; w = row-rules j b .weight j b refl .1 }
 
-  row-weighted : (j : ℕ) → j ≤ verts s → rowAt s j .w ≢ pos 0
-  row-weighted j b e =
-      let w = row-rules j b .weight j b refl .0 in
+  vertex-weighted : (j : ℕ) → 1 ≤ j → j ≤ verts s → rowAt s j .w ≢ pos 0
+  vertex-weighted zero a b e = absurd (omega arith)
+  vertex-weighted (suc j) a b e =
+      let w = row-rules (suc j) b .weight (suc j) b refl .0 in
       let z = ap natAbs e in
       omega arith
 
@@ -118,8 +119,9 @@ module _ (l : Limits) (s : List ℕ) (ok : judgedAt l s ≡ Accepted) where
       go (no c) = by-number (RowWithin l) row-within (suc i) (omega arith) (omega arith)
       go (yes c) = subst (RowWithin l) (sym (row-none s (suc i) (omega arith))) (omega arith)
 
-  pub weighted : (i : ℕ) → 1 ≤ i → i ≤ points (tablesOf s) → row (tablesOf s) i .w ≢ pos 0
-  weighted i a b = by-number (λ r. r .w ≢ pos 0) row-weighted i a (omega (arith, points-are s))
+  -- every point but the last, the far point, has a weight that is not 0
+  pub weighted : (i : ℕ) → 1 ≤ i → i < points (tablesOf s) → row (tablesOf s) i .w ≢ pos 0
+  weighted i a b = subst (λ (r : Row). r .w ≢ pos 0) (sym (row-is s i a (omega (arith, points-are s)))) (vertex-weighted i a (omega (arith, points-are s)))
 
   -- ---- faces
 

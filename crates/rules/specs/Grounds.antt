@@ -1,12 +1,12 @@
--- The table of refusals 1 to 9: what gives each of them, at which place, where nothing earlier in the order of checking is at fault. Assumes nothing.
+-- The table of refusals 1 to 9 and 14: what gives each of them, at which place, where nothing earlier in the order of checking is at fault. Assumes nothing.
 use mathlib.Core.Path.{_≡_}
 use mathlib.Core.List.{List}
 use Prim.Native.Nat.{ℕ, _≤_, _<_}
 use Rattle.scene.specs.Limits.{Limits}
 use Rattle.scene.specs.Records.{verts, faces, faceRecord, lastRecord}
 use Rattle.scene.specs.declared.Refusal.{Refusal}
-use Rattle.scene.specs.declared.Refusal.the-variants.{Opening, Counts, Length, Mark, Coordinate, Weight, Corner, Unused, Edge, Room, Lacking, Same}
-use Rattle.rules.specs.Rules.{Opens, CountsOk, LengthOk, HeaderOk, MarkOk, CoordinatesOk, WeightOk, CornersOk, RecordOk, RecordsOk, Used, AllUsed, SidesOk}
+use Rattle.scene.specs.declared.Refusal.the-variants.{Opening, Counts, Length, Mark, Coordinate, Weight, Corner, Unused, Edge, Room, Lacking, Same, Nowhere}
+use Rattle.rules.specs.Rules.{Opens, CountsOk, LengthOk, HeaderOk, MarkOk, CoordinatesOk, WeightOk, SomewhereOk, CornersOk, RecordOk, RecordsOk, Used, AllUsed, SidesOk}
 
 -- the order of checking comes to record k: the header and every record before it keep their rules
 pub record AtRecord (l : Limits) (s : List ℕ) (k : ℕ) : Type 0 where
@@ -39,7 +39,8 @@ Grounds l s Length = Opens s × (CountsOk l s × ¬ LengthOk s)
 Grounds l s (Mark k) = AtRecord l s k × ¬ MarkOk s k
 Grounds l s (Coordinate k) = AtRecord l s k × (MarkOk s k × ¬ CoordinatesOk l s k)
 Grounds l s (Weight k) = AtRecord l s k × (MarkOk s k × (CoordinatesOk l s k × ¬ WeightOk l s k))
-Grounds l s (Corner k) = AtRecord l s k × (MarkOk s k × (CoordinatesOk l s k × (WeightOk l s k × ¬ CornersOk s k)))
+Grounds l s (Nowhere k) = AtRecord l s k × (MarkOk s k × (CoordinatesOk l s k × (WeightOk l s k × ¬ SomewhereOk s k)))
+Grounds l s (Corner k) = AtRecord l s k × (MarkOk s k × (CoordinatesOk l s k × (WeightOk l s k × (SomewhereOk s k × ¬ CornersOk s k))))
 Grounds l s (Unused p) = AtVertex l s p × ¬ Used s p
 Grounds l s (Edge k) = (i : ℕ) × (k ≡ faceRecord s i) × AtFace l s i × ¬ SidesOk s i
 Grounds l s (Room p) = ⊥

@@ -1,18 +1,17 @@
--- Which part of the judge gave a refusal, by the refusal's number. Assumes nothing.
+-- Which part of the judge gave a refusal, by the refusal's turn. Assumes nothing.
 use mathlib.Core.Path.{_≡_}
 use mathlib.Core.Logic.{_↔_, Iff·rfl, Iff·trans, Iff·and}
 use mathlib.Core.List.{List}
 use Prim.Native.Nat.{ℕ, suc, _+_, _≤_}
 use native.Mathlib.Omega.{arith}
 use Rattle.scene.specs.Limits.{Limits}
-use Rattle.scene.specs.Refusal.{numberOf}
 use Rattle.scene.specs.Records.{verts, faces, faceRecord, lastRecord}
 use Rattle.scene.specs.declared.Refusal.{Refusal}
 use Rattle.scene.specs.declared.Refusal.the-variants.{Opening, Counts, Length, Unused, Edge}
 use Rattle.judge.specs.Judge.{andThen, judgedAt, headerFault, recordFault, recordsFault, unusedFault, unusedsFault, edgeFault, edgesFault}
 use Rattle.judge.specs.declared.Judged.the-variants.{Accepted, Refused}
 use Rattle.rules.specs.Rules.{Between}
-use Rattle.rules.specs.Numbers.{Gives, gives-none, gives-rule, gives-then, gives-first, gives-wider, then-here, then-next}
+use Rattle.rules.specs.Numbers.{turnOf, Gives, gives-none, gives-rule, gives-then, gives-first, gives-wider, then-here, then-next}
 use Rattle.rules.specs.Faults.{record-gives}
 
 module _ (l : Limits) (s : List ℕ) where
@@ -21,54 +20,54 @@ module _ (l : Limits) (s : List ℕ) where
   header-gives =
       gives-rule 1 3 _ Opening _ (omega arith) (gives-rule 1 3 _ Counts _ (omega arith) (gives-rule 1 3 _ Length _ (omega arith) (gives-none 1 3)))
 
-  records-give : Gives 4 7 (recordsFault l s)
+  records-give : Gives 4 8 (recordsFault l s)
   unfolding recordsFault
-  records-give = gives-first 4 7 (recordFault l s) 1 (lastRecord s + 1) (λ k a b. record-gives l s k a (omega arith))
+  records-give = gives-first 4 8 (recordFault l s) 1 (lastRecord s + 1) (λ k a b. record-gives l s k a (omega arith))
 
-  unused-give : Gives 8 8 (unusedsFault s)
+  unused-give : Gives 9 9 (unusedsFault s)
   unfolding unusedsFault unusedFault
-  unused-give = gives-first 8 8 (unusedFault s) 1 (verts s + 1) (λ p a b. gives-rule 8 8 _ (Unused p) Accepted (omega arith) (gives-none 8 8))
+  unused-give = gives-first 9 9 (unusedFault s) 1 (verts s + 1) (λ p a b. gives-rule 9 9 _ (Unused p) Accepted (omega arith) (gives-none 9 9))
 
-  edges-give : Gives 9 9 (edgesFault s)
+  edges-give : Gives 10 10 (edgesFault s)
   unfolding edgesFault edgeFault
-  edges-give = gives-first 9 9 (edgeFault s) 0 (faces s) (λ i a b. gives-rule 9 9 _ (Edge (faceRecord s i)) Accepted (omega arith) (gives-none 9 9))
+  edges-give = gives-first 10 10 (edgeFault s) 0 (faces s) (λ i a b. gives-rule 10 10 _ (Edge (faceRecord s i)) Accepted (omega arith) (gives-none 10 10))
 
-  after-records : Gives 8 9 (andThen (unusedsFault s) (edgesFault s))
-  after-records = gives-then 8 9 _ _ (gives-wider 8 9 (omega arith) (omega arith) unused-give) (gives-wider 8 9 (omega arith) (omega arith) edges-give)
+  after-records : Gives 9 10 (andThen (unusedsFault s) (edgesFault s))
+  after-records = gives-then 9 10 _ _ (gives-wider 9 10 (omega arith) (omega arith) unused-give) (gives-wider 9 10 (omega arith) (omega arith) edges-give)
 
-  after-header : Gives 4 9 (andThen (recordsFault l s) (andThen (unusedsFault s) (edgesFault s)))
+  after-header : Gives 4 10 (andThen (recordsFault l s) (andThen (unusedsFault s) (edgesFault s)))
   after-header =
-      gives-then 4 9 _ _ (gives-wider 4 9 (omega arith) (omega arith) records-give) (gives-wider 4 9 (omega arith) (omega arith) after-records)
+      gives-then 4 10 _ _ (gives-wider 4 10 (omega arith) (omega arith) records-give) (gives-wider 4 10 (omega arith) (omega arith) after-records)
 
-  -- a scene is refused by 1 to 9 only
-  pub refused-by : (r : Refusal) → judgedAt l s ≡ Refused r → Between 1 9 (numberOf r)
+  -- a scene is refused at the turns 1 to 10 only
+  pub refused-by : (r : Refusal) → judgedAt l s ≡ Refused r → Between 1 10 (turnOf r)
   unfolding judgedAt
-  refused-by = gives-then 1 9 _ _ (gives-wider 1 9 (omega arith) (omega arith) header-gives) (gives-wider 1 9 (omega arith) (omega arith) after-header)
+  refused-by = gives-then 1 10 _ _ (gives-wider 1 10 (omega arith) (omega arith) header-gives) (gives-wider 1 10 (omega arith) (omega arith) after-header)
 
   module _ (r : Refusal) where
-    pub by-header : numberOf r ≤ 3 → (judgedAt l s ≡ Refused r) ↔ (headerFault l s ≡ Refused r)
+    pub by-header : turnOf r ≤ 3 → (judgedAt l s ≡ Refused r) ↔ (headerFault l s ≡ Refused r)
     unfolding judgedAt
-    by-header h = then-here _ _ r 9 (gives-wider (suc (numberOf r)) 9 (omega arith) (omega arith) after-header)
+    by-header h = then-here _ _ r 10 (gives-wider (suc (turnOf r)) 10 (omega arith) (omega arith) after-header)
 
-    pub by-records : 4 ≤ numberOf r → numberOf r ≤ 7 → (judgedAt l s ≡ Refused r) ↔ ((headerFault l s ≡ Accepted) × (recordsFault l s ≡ Refused r))
+    pub by-records : 4 ≤ turnOf r → turnOf r ≤ 8 → (judgedAt l s ≡ Refused r) ↔ ((headerFault l s ≡ Accepted) × (recordsFault l s ≡ Refused r))
     unfolding judgedAt
     by-records a b =
         Iff·trans (then-next _ _ r 1 3 header-gives (omega arith))
-        (Iff·and Iff·rfl (then-here _ _ r 9 (gives-wider (suc (numberOf r)) 9 (omega arith) (omega arith) after-records)))
+        (Iff·and Iff·rfl (then-here _ _ r 10 (gives-wider (suc (turnOf r)) 10 (omega arith) (omega arith) after-records)))
 
-    pub by-unused : numberOf r ≡ 8 →
+    pub by-unused : turnOf r ≡ 9 →
         (judgedAt l s ≡ Refused r) ↔ ((headerFault l s ≡ Accepted) × ((recordsFault l s ≡ Accepted) × (unusedsFault s ≡ Refused r)))
     unfolding judgedAt
     by-unused h =
         Iff·trans (then-next _ _ r 1 3 header-gives (omega arith))
-        (Iff·and Iff·rfl (Iff·trans (then-next _ _ r 4 7 records-give (omega arith))
-        (Iff·and Iff·rfl (then-here _ _ r 9 (gives-wider (suc (numberOf r)) 9 (omega arith) (omega arith) edges-give)))))
+        (Iff·and Iff·rfl (Iff·trans (then-next _ _ r 4 8 records-give (omega arith))
+        (Iff·and Iff·rfl (then-here _ _ r 10 (gives-wider (suc (turnOf r)) 10 (omega arith) (omega arith) edges-give)))))
 
-    pub by-edges : numberOf r ≡ 9 →
+    pub by-edges : turnOf r ≡ 10 →
         (judgedAt l s ≡ Refused r) ↔
         ((headerFault l s ≡ Accepted) × ((recordsFault l s ≡ Accepted) × ((unusedsFault s ≡ Accepted) × (edgesFault s ≡ Refused r))))
     unfolding judgedAt
     by-edges h =
         Iff·trans (then-next _ _ r 1 3 header-gives (omega arith))
-        (Iff·and Iff·rfl (Iff·trans (then-next _ _ r 4 7 records-give (omega arith))
-        (Iff·and Iff·rfl (then-next _ _ r 8 8 unused-give (omega arith)))))
+        (Iff·and Iff·rfl (Iff·trans (then-next _ _ r 4 8 records-give (omega arith))
+        (Iff·and Iff·rfl (then-next _ _ r 9 9 unused-give (omega arith)))))

@@ -38,9 +38,9 @@ module _ (s : List ℕ) where
   unfolding coordinateAt
   read-coordinate k i z h b small low high = ap (signed 32768) (read-two (unsigned 32768 z) i h b low high) ∙ signed-unsigned 32768 z small
 
-  read-point : {l : Limits} → Fit l → (m j : ℕ) (r : Row) → RowOk l r → Held s (pointStart j) (pointBytes m r) → rowAt s j ≡ r
+  read-point : {l : Limits} (least : ℕ) → Fit l → (m j : ℕ) (r : Row) → RowOk least l r → Held s (pointStart j) (pointBytes m r) → rowAt s j ≡ r
   unfolding weightAt
-  read-point fit m j r ok h =
+  read-point least fit m j r ok h =
       let k = pointStart j in
       let c = ok .coordinates in
       let x : coordinateAt s (k + 2) ≡ r .x = read-coordinate k 2 (r .x) h (omega arith) (omega (arith, fit .coordinate, c .x)) refl refl in
@@ -111,8 +111,8 @@ module _ (t : Tables) where
   read-faces P k fs ok h = all-read faceBytes 5 (λ f. refl) s (faceStart s) (λ i. omega arith) P (faceAt s) (λ i f u. read-face s i f) fs k ok h
 
   module _ {l : Limits} (fit : Fit l) where
-    read-rows : (k : ℕ) (rs : List Row) → Each (RowOk l) rs → Held s (pointStart k) (flatMap (pointBytes markVX) rs) → run (rowAt s) k (length rs) ≡ rs
-    read-rows k rs ok h = all-read (pointBytes markVX) 9 (λ r. refl) s pointStart (λ i. omega arith) (RowOk l) (rowAt s) (read-point s fit markVX) rs k ok h
+    read-rows : (k : ℕ) (rs : List Row) → Each (RowOk 1 l) rs → Held s (pointStart k) (flatMap (pointBytes markVX) rs) → run (rowAt s) k (length rs) ≡ rs
+    read-rows k rs ok h = all-read (pointBytes markVX) 9 (λ r. refl) s pointStart (λ i. omega arith) (RowOk 1 l) (rowAt s) (read-point s 1 fit markVX) rs k ok h
 
     pub read-back : TablesOk l t → tablesOf (bytesOf t) ≡ t
     read-back ok =
@@ -120,5 +120,5 @@ module _ (t : Tables) where
         let rb = read-rows (size (t .a) + 1) (t .b .rows) (ok .b .rows) b-rows in
         let fa = read-faces (FaceOf 0 (size (t .a))) 0 (t .a .faces) (ok .a .corners) a-faces in
         let fb = read-faces (FaceOf 0 (size (t .b))) (length (t .a .faces)) (t .b .faces) (ok .b .corners) b-faces in
-        let far = read-point s fit markFP 0 (t .far) (ok .far) far-stands in
+        let far = read-point s 0 fit markFP 0 (t .far) (ok .far) far-stands in
         λ i. record { a = record { rows = ra i; faces = fa i }; b = record { rows = rb i; faces = fb i }; far = far i }

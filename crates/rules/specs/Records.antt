@@ -1,4 +1,4 @@
--- The judge's four tests of a record decide the four rules of that record, and the record is refused by the first that fails. Assumes nothing.
+-- The judge's five tests of a record decide the five rules of that record, and the record is refused by the first that fails. Assumes nothing.
 use mathlib.Core.Path.{_≡_, refl, sym, ap, _∙_, subst}
 use mathlib.Core.Logic.{_↔_, Iff·trans}
 use mathlib.Core.Bool.{Bool, true, false, _&&_}
@@ -7,36 +7,44 @@ use Prim.Native.Nat.{ℕ, zero, suc, _+_, _-_, _≤_, _<_}
 use native.Mathlib.Omega.{arith}
 use native.Mathlib.Decide.{decLt}
 use lib.Dec.{eqb}
-use Rattle.laws.specs.Decides.{decides, eqb-iff, always}
-use Rattle.scene.specs.Limits.{Limits}
+use lib.IntN.{ℤ, pos, negsuc, natAbs}
+use borrow.Author.Tests.{not-true}
+use Rattle.laws.specs.Decides.{decides, eqb-iff, always, fails-iff}
+use Rattle.scene.specs.Limits.{Limits, leastWeight}
 use Rattle.scene.specs.Bytes.{twoAt}
 use Rattle.scene.specs.Records.{vertsA, vertsB, facesA, verts, faces, faceRecord, lastRecord, pointStart, faceStart, endStart, markVX, markFC, markEN}
 use Rattle.scene.specs.Tables.{rowAt, faceAt}
 use Rattle.scene.specs.Faces.{FaceOf}
 use Rattle.scene.specs.declared.Refusal.{Refusal}
-use Rattle.scene.specs.declared.Refusal.the-variants.{Mark, Coordinate, Weight, Corner}
-use Rattle.judge.specs.Judge.{rule, coordinateOk, weightOk, pointMark, pointFault, areCorners, vertsAt, cornersOk, faceFault, endFault, recordFault}
+use Rattle.scene.specs.declared.Refusal.the-variants.{Mark, Coordinate, Weight, Nowhere, Corner}
+use Rattle.judge.specs.Judge.{rule, coordinateOk, weightOk, nowhere, somewhereOk, pointMark, pointFault, areCorners, vertsAt, cornersOk, faceFault, endFault, recordFault}
 use Rattle.judge.specs.Cases.{vertex-mark, verts-of-a, verts-of-b, record-point, record-face, record-end}
 use Rattle.judge.specs.declared.Judged.{Judged}
 use Rattle.judge.specs.declared.Judged.the-variants.{Accepted}
-use Rattle.rules.specs.Rules.{MarkOk, CoordinatesIn, WeightIn, CoordinatesOk, WeightOk, CornersOk}
+use Rattle.rules.specs.Rules.{MarkOk, CoordinatesIn, WeightIn, Zeros, CoordinatesOk, WeightOk, SomewhereOk, CornersOk}
 use Rattle.judge.specs.Tests.{accepts, within-iff}
 
 -- the rules of record k in the order of checking, by their tests
-abbrev pub inOrder : (k : ℕ) (mark coordinates weight corners : Bool) → Judged
-inOrder k mark coordinates weight corners =
-    rule mark (Mark k) (rule coordinates (Coordinate k) (rule weight (Weight k) (rule corners (Corner k) Accepted)))
+abbrev pub inOrder : (k : ℕ) (mark coordinates weight somewhere corners : Bool) → Judged
+inOrder k mark coordinates weight somewhere corners =
+    rule mark (Mark k) (rule coordinates (Coordinate k) (rule weight (Weight k) (rule somewhere (Nowhere k) (rule corners (Corner k) Accepted))))
 
 pub record Tested (l : Limits) (s : List ℕ) (k : ℕ) : Type 0 where
   pub mark : Bool
   pub coordinates : Bool
   pub weight : Bool
+  pub somewhere : Bool
   pub corners : Bool
   pub mark-iff : (mark ≡ true) ↔ MarkOk s k
   pub coordinates-iff : (coordinates ≡ true) ↔ CoordinatesOk l s k
   pub weight-iff : (weight ≡ true) ↔ WeightOk l s k
+  pub somewhere-iff : (somewhere ≡ true) ↔ SomewhereOk s k
   pub corners-iff : (corners ≡ true) ↔ CornersOk s k
-  pub fault : recordFault l s k ≡ inOrder k mark coordinates weight corners
+  pub fault : recordFault l s k ≡ inOrder k mark coordinates weight somewhere corners
+
+size-zero : (z : ℤ) → natAbs z ≡ 0 → z ≡ pos 0
+size-zero (pos n) e = ap pos e
+size-zero (negsuc n) e = absurd (omega arith)
 
 -- three tests with one refusal
 together : (a b c : Bool) (r : Refusal) (k : Judged) → rule a r (rule b r (rule c r k)) ≡ rule (a && (b && c)) r k
@@ -58,19 +66,19 @@ module _ (l : Limits) (s : List ℕ) where
     λ h. simp decides (h .x, (h .y, h .z)),
   )
 
-  weight-in : (j : ℕ) → (weightOk l s (pointStart j + 8) ≡ true) ↔ WeightIn l (rowAt s j)
+  weight-in : (j : ℕ) → (weightOk l s j ≡ true) ↔ WeightIn (leastWeight j) l (rowAt s j)
   unfolding weightOk
   weight-in j = within-iff _ _ _
 
   point-order : (j : ℕ) →
       pointFault l s j
-      ≡ inOrder (j + 1) (eqb (twoAt s (pointStart j)) (pointMark j)) (coordinates (pointStart j)) (weightOk l s (pointStart j + 8)) true
+      ≡ inOrder (j + 1) (eqb (twoAt s (pointStart j)) (pointMark j)) (coordinates (pointStart j)) (weightOk l s j) (somewhereOk s j) true
   unfolding pointFault rule
   point-order j =
       let at : ℕ = pointStart j in
       ap (rule (eqb (twoAt s at) (pointMark j)) (Mark (j + 1)))
       (together (coordinateOk l s (at + 2)) (coordinateOk l s (at + 4)) (coordinateOk l s (at + 6)) (Coordinate (j + 1))
-      (rule (weightOk l s (at + 8)) (Weight (j + 1)) Accepted))
+      (rule (weightOk l s j) (Weight (j + 1)) (rule (somewhereOk s j) (Nowhere (j + 1)) Accepted)))
 
   -- what holds of the file's point j, said of its record
   of-point : (X : ℕ → Type 0) (j : ℕ) → j ≤ verts s → X j ↔ ((i : ℕ) → i ≤ verts s → j + 1 ≡ i + 1 → X i)
@@ -98,17 +106,31 @@ module _ (l : Limits) (s : List ℕ) where
     λ m. m .vertex (suc j) (omega arith) b refl ∙ sym (vertex-mark (suc j) (omega arith)),
   )
 
+  zeros-iff : (nowhere s ≡ true) ↔ Zeros (rowAt s 0)
+  unfolding nowhere
+  zeros-iff = (
+    λ p. let c = simp decides at p in record { x = size-zero _ (c .0); y = size-zero _ (c .1 .0); z = size-zero _ (c .1 .1 .0); w = size-zero _ (c .1 .1 .1) },
+    λ h. simp decides (ap natAbs (h .x), (ap natAbs (h .y), (ap natAbs (h .z), ap natAbs (h .w)))),
+  )
+
+  point-somewhere : (j : ℕ) → (somewhereOk s j ≡ true) ↔ SomewhereOk s (j + 1)
+  unfolding somewhereOk
+  point-somewhere zero = (λ e q. fails-iff (nowhere s) zeros-iff .0 (not-true (nowhere s) e), λ n. rw (fails-iff (nowhere s) zeros-iff .1 (n refl)))
+  point-somewhere (suc j) = always (λ e. absurd (omega arith))
+
   point-tested : (j : ℕ) → j ≤ verts s → Tested l s (j + 1)
   point-tested j b =
       let at : ℕ = pointStart j in
       record {
         mark = eqb (twoAt s at) (pointMark j);
         coordinates = coordinates at;
-        weight = weightOk l s (at + 8);
+        weight = weightOk l s j;
+        somewhere = somewhereOk s j;
         corners = true;
         mark-iff = Iff·trans (eqb-iff _ _) (point-mark j b);
         coordinates-iff = Iff·trans (coordinates-in j) (of-point (λ i. CoordinatesIn l (rowAt s i)) j b);
-        weight-iff = Iff·trans (weight-in j) (of-point (λ i. WeightIn l (rowAt s i)) j b);
+        weight-iff = Iff·trans (weight-in j) (of-point (λ i. WeightIn (leastWeight i) l (rowAt s i)) j b);
+        somewhere-iff = point-somewhere j;
         corners-iff = always (record { of-a = λ i a e. absurd (omega arith); of-b = λ i a c e. absurd (omega arith) });
         fault = record-point s l (j + 1) (omega arith) ∙ ap (pointFault l s) (omega arith) ∙ point-order j;
       }
@@ -126,7 +148,7 @@ module _ (l : Limits) (s : List ℕ) where
         λ h. simp accepts (h .p, (h .q, (h .r, (h .proper .pq, (h .proper .qr, h .proper .rp))))),
       )
 
-  face-order : (i : ℕ) → faceFault s i ≡ inOrder (faceRecord s i) (eqb (twoAt s (faceStart s i)) markFC) true true (cornersOk s i)
+  face-order : (i : ℕ) → faceFault s i ≡ inOrder (faceRecord s i) (eqb (twoAt s (faceStart s i)) markFC) true true true (cornersOk s i)
   unfolding faceFault rule
   face-order i = refl
 
@@ -165,17 +187,19 @@ module _ (l : Limits) (s : List ℕ) where
         mark = eqb (twoAt s (faceStart s i)) markFC;
         coordinates = true;
         weight = true;
+        somewhere = true;
         corners = cornersOk s i;
         mark-iff = Iff·trans (eqb-iff _ _) (face-mark i b, λ m. m .face i b refl);
         coordinates-iff = always (λ j a e. absurd (omega arith));
         weight-iff = always (λ j a e. absurd (omega arith));
+        somewhere-iff = always (λ e. absurd (omega arith));
         corners-iff = face-corners i b (decLt i (facesA s));
         fault = record-face s l (faceRecord s i) (omega arith) (omega arith) ∙ ap (faceFault s) (omega arith) ∙ face-order i;
       }
 
   -- ---- the last record
 
-  end-order : endFault s ≡ inOrder (lastRecord s) (eqb (twoAt s (endStart s)) markEN) true true true
+  end-order : endFault s ≡ inOrder (lastRecord s) (eqb (twoAt s (endStart s)) markEN) true true true true
   unfolding endFault rule
   end-order = refl
 
@@ -194,10 +218,12 @@ module _ (l : Limits) (s : List ℕ) where
         mark = eqb (twoAt s (endStart s)) markEN;
         coordinates = true;
         weight = true;
+        somewhere = true;
         corners = true;
         mark-iff = Iff·trans (eqb-iff _ _) (end-mark, λ m. m .end refl);
         coordinates-iff = always (λ j a e. absurd (omega arith));
         weight-iff = always (λ j a e. absurd (omega arith));
+        somewhere-iff = always (λ e. absurd (omega arith));
         corners-iff = always (record { of-a = λ i a e. absurd (omega arith); of-b = λ i a c e. absurd (omega arith) });
         fault = record-end s l (lastRecord s) (omega arith) ∙ end-order;
       }

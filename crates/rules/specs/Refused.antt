@@ -8,19 +8,18 @@ use lib.Dec.{eqb}
 use lib.ListN.{length}
 use Rattle.laws.specs.Decides.{eqb-iff, fails-iff}
 use Rattle.scene.specs.Limits.{Limits}
-use Rattle.scene.specs.Refusal.{numberOf}
 use Rattle.scene.specs.Records.{verts, faces, lastRecord, lengthOf}
 use Rattle.scene.specs.declared.Refusal.{Refusal}
-use Rattle.scene.specs.declared.Refusal.the-variants.{Opening, Counts, Length, Mark, Coordinate, Weight, Corner, Unused, Edge, Room, Lacking, Same}
+use Rattle.scene.specs.declared.Refusal.the-variants.{Opening, Counts, Length, Mark, Coordinate, Weight, Corner, Unused, Edge, Room, Lacking, Same, Nowhere}
 use Rattle.judge.specs.Judge.{rule, judgedAt, opens, countsOk, headerFault, recordFault, recordsFault, unusedFault, unusedsFault, edgeFault, edgesFault}
 use Rattle.judge.specs.declared.Judged.{Judged}
 use Rattle.judge.specs.declared.Judged.the-variants.{Accepted, Refused}
-use Rattle.rules.specs.Rules.{Between, HeaderOk, MarkOk, CoordinatesOk, WeightOk, CornersOk, RecordsOk, Used}
+use Rattle.rules.specs.Rules.{Between, HeaderOk, MarkOk, CoordinatesOk, WeightOk, SomewhereOk, CornersOk, RecordsOk, Used}
 use Rattle.rules.specs.Grounds.{AtRecord, AtVertex, Grounds}
 use Rattle.judge.specs.Tests.{First, first-refused}
 use Rattle.rules.specs.Accepted.{opens-iff, counts-iff, header-iff, record-iff, records-iff, vertex-iff, unused-iff, face-iff}
-use Rattle.rules.specs.Numbers.{Gives, gives-none, gives-rule, rule-here, rule-next}
-use Rattle.rules.specs.Faults.{record-mark, record-coordinate, record-weight, record-corner, unused-here, edge-here}
+use Rattle.rules.specs.Numbers.{turnOf, Gives, gives-none, gives-rule, rule-here, rule-next}
+use Rattle.rules.specs.Faults.{record-mark, record-coordinate, record-weight, record-nowhere, record-corner, unused-here, edge-here}
 use Rattle.rules.specs.Parts.{refused-by, by-header, by-records, by-unused, by-edges}
 
 module _ (l : Limits) (s : List ℕ) where
@@ -62,9 +61,9 @@ module _ (l : Limits) (s : List ℕ) where
       (Iff·trans (rule-here (eqb (length s) (lengthOf s)) Length Length Accepted 4 (gives-none 4 4))
       (λ h. fails-iff _ (eqb-iff _ _) .0 (h .0), λ n. (fails-iff _ (eqb-iff _ _) .1 n, refl)))))))
 
-  -- ---- refusals 4 to 7
+  -- ---- refusals 4 to 7 and 14
 
-  at-record : (K : ℕ → Refusal) (X : ℕ → Type 0) → ((p : ℕ) → Between 4 7 (numberOf (K p))) →
+  at-record : (K : ℕ → Refusal) (X : ℕ → Type 0) → ((p : ℕ) → Between 4 8 (turnOf (K p))) →
       ((k : ℕ) → 1 ≤ k → k ≤ lastRecord s → (p : ℕ) → (recordFault l s k ≡ Refused (K p)) ↔ ((k ≡ p) × X k)) →
       (p : ℕ) → (judgedAt l s ≡ Refused (K p)) ↔ (AtRecord l s p × X p)
   unfolding recordsFault
@@ -187,7 +186,9 @@ module _ (l : Limits) (s : List ℕ) where
   refused (Mark k) = at-record Mark (λ k. ¬ MarkOk s k) (λ p. omega arith) (record-mark l s) k
   refused (Coordinate k) = at-record Coordinate (λ k. MarkOk s k × ¬ CoordinatesOk l s k) (λ p. omega arith) (record-coordinate l s) k
   refused (Weight k) = at-record Weight (λ k. MarkOk s k × (CoordinatesOk l s k × ¬ WeightOk l s k)) (λ p. omega arith) (record-weight l s) k
-  refused (Corner k) = at-record Corner (λ k. MarkOk s k × (CoordinatesOk l s k × (WeightOk l s k × ¬ CornersOk s k))) (λ p. omega arith) (record-corner l s) k
+  refused (Nowhere k) = at-record Nowhere (λ k. MarkOk s k × (CoordinatesOk l s k × (WeightOk l s k × ¬ SomewhereOk s k))) (λ p. omega arith) (record-nowhere l s) k
+  refused (Corner k) =
+      at-record Corner (λ k. MarkOk s k × (CoordinatesOk l s k × (WeightOk l s k × (SomewhereOk s k × ¬ CornersOk s k)))) (λ p. omega arith) (record-corner l s) k
   refused (Unused p) = refused-8 p
   refused (Edge k) = refused-9 k
   refused (Room p) = (λ e. let h = refused-by l s _ e in omega arith, absurd)

@@ -2,10 +2,10 @@
 use mathlib.Core.Path.{_≡_}
 use mathlib.Core.List.{List}
 use Prim.Native.Nat.{ℕ, _+_, _≤_, _<_}
-use lib.IntN.{natAbs}
+use lib.IntN.{pos, natAbs}
 use lib.ListN.{length}
 use Rattle.laws.specs.Lists.{Some}
-use Rattle.scene.specs.Limits.{Limits}
+use Rattle.scene.specs.Limits.{Limits, leastWeight}
 use Rattle.scene.specs.Bytes.{twoAt}
 use Rattle.scene.specs.Records.{vertsA, vertsB, facesA, facesB, verts, faces, faceRecord, lastRecord, lengthOf, pointStart, faceStart, endStart, markSC, markFP, markVX, markFC, markEN}
 use Rattle.scene.specs.Tables.{rowAt, faceAt, tablesOf}
@@ -34,7 +34,7 @@ pub record HeaderOk (l : Limits) (s : List ℕ) : Type 0 where
   pub counts : CountsOk l s
   pub long : LengthOk s
 
--- ---- record k, from 1 to the last (refusals 4 to 7)
+-- ---- record k, from 1 to the last (refusals 4 to 7 and 14)
 
 -- its mark, where it is the far point's, that of vertex j, that of the file's face i, or the last
 pub record MarkOk (s : List ℕ) (k : ℕ) : Type 0 where
@@ -48,16 +48,26 @@ pub record CoordinatesIn (l : Limits) (r : Row) : Type 0 where
   pub y : natAbs (r .y) ≤ l .mostCoordinate
   pub z : natAbs (r .z) ≤ l .mostCoordinate
 
--- a weight is not 0
-abbrev pub WeightIn : Limits → Row → Type 0
-WeightIn l r = Between 1 (l .mostWeight) (natAbs (r .w))
+abbrev pub WeightIn : (least : ℕ) → Limits → Row → Type 0
+WeightIn least l r = Between least (l .mostWeight) (natAbs (r .w))
+
+-- the four numbers are all 0
+pub record Zeros (r : Row) : Type 0 where
+  pub x : r .x ≡ pos 0
+  pub y : r .y ≡ pos 0
+  pub z : r .z ≡ pos 0
+  pub w : r .w ≡ pos 0
 
 -- where it is the record of the file's point j (0 the far point, then the vertices)
 abbrev pub CoordinatesOk : Limits → List ℕ → ℕ → Type 0
 CoordinatesOk l s k = (j : ℕ) → j ≤ verts s → k ≡ j + 1 → CoordinatesIn l (rowAt s j)
 
 abbrev pub WeightOk : Limits → List ℕ → ℕ → Type 0
-WeightOk l s k = (j : ℕ) → j ≤ verts s → k ≡ j + 1 → WeightIn l (rowAt s j)
+WeightOk l s k = (j : ℕ) → j ≤ verts s → k ≡ j + 1 → WeightIn (leastWeight j) l (rowAt s j)
+
+-- where it is the far point's
+abbrev pub SomewhereOk : List ℕ → ℕ → Type 0
+SomewhereOk s k = k ≡ 1 → ¬ Zeros (rowAt s 0)
 
 -- where it is that of the file's face i: three different vertices of the face's solid
 pub record CornersOk (s : List ℕ) (k : ℕ) : Type 0 where
@@ -68,6 +78,7 @@ pub record RecordOk (l : Limits) (s : List ℕ) (k : ℕ) : Type 0 where
   pub mark : MarkOk s k
   pub coordinates : CoordinatesOk l s k
   pub weight : WeightOk l s k
+  pub somewhere : SomewhereOk s k
   pub corners : CornersOk s k
 
 abbrev pub RecordsOk : Limits → List ℕ → Type 0

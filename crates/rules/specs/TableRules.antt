@@ -10,16 +10,16 @@ use Rattle.scene.specs.Records.{verts, faces, pointStart, faceStart, endStart, 
 use Rattle.scene.specs.Tables.{Table, Tables, size}
 use Rattle.scene.specs.Faces.{Corner, Vertex, FaceOf, EdgesOk}
 use Rattle.scene.specs.declared.Row.{Row}
-use Rattle.rules.specs.Rules.{Between, LengthOk, CoordinatesIn, WeightIn}
+use Rattle.rules.specs.Rules.{Between, LengthOk, CoordinatesIn, WeightIn, Zeros}
 
-pub record RowOk (l : Limits) (r : Row) : Type 0 where
+pub record RowOk (least : ℕ) (l : Limits) (r : Row) : Type 0 where
   pub coordinates : CoordinatesIn l r
-  pub weight : WeightIn l r
+  pub weight : WeightIn least l r
 
 pub record TableOk (l : Limits) (k : Table) : Type 0 where
   pub vertices : Between (l .leastVertices) (l .mostVertices) (size k)
   pub number : Between (l .leastFaces) (l .mostFaces) (length (k .faces))
-  pub rows : Each (RowOk l) (k .rows)
+  pub rows : Each (RowOk 1 l) (k .rows)
   pub corners : Each (FaceOf 0 (size k)) (k .faces)
   pub used : (i : ℕ) → Vertex 0 (size k) i → Some (Corner i) (k .faces)
   pub edges : EdgesOk (k .faces)
@@ -27,7 +27,8 @@ pub record TableOk (l : Limits) (k : Table) : Type 0 where
 pub record TablesOk (l : Limits) (t : Tables) : Type 0 where
   pub a : TableOk l (t .a)
   pub b : TableOk l (t .b)
-  pub far : RowOk l (t .far)
+  pub far : RowOk 0 l (t .far)
+  pub somewhere : ¬ Zeros (t .far)
 
 -- what a file has beside its tables: its length and its marks
 pub record Marked (s : List ℕ) : Type 0 where

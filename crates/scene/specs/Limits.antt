@@ -1,5 +1,5 @@
 -- The limits of a scene. `limits` are those of the scene type in the code: `limits_agree` ties the two. Assumes nothing.
-use Prim.Native.Nat.{ℕ, _+_, _*_}
+use Prim.Native.Nat.{ℕ, zero, suc, _+_, _*_}
 
 pub record Limits : Type 0 where
   pub leastVertices : ℕ
@@ -22,3 +22,8 @@ mostPoints l = 2 * l .mostVertices + 1
 
 abbrev pub longest : Limits → ℕ
 longest l = 17 + 9 * (2 * l .mostVertices) + 5 * (2 * l .mostFaces)
+
+-- the least size of a weight, of the file's point j (0 the far point, then the vertices): the far point, and no other, may have weight 0
+abbrev pub leastWeight : ℕ → ℕ
+leastWeight zero = 0
+leastWeight (suc j) = 1

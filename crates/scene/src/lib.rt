@@ -63,6 +63,7 @@ pub enum Refusal {
     Room(usize),
     Lacking,
     Same,
+    Nowhere(usize),
 }
 
 pub fn number(r: Refusal) -> usize
@@ -81,6 +82,7 @@ pub fn number(r: Refusal) -> usize
         Refusal::Room(_) => 10,
         Refusal::Lacking => 11,
         Refusal::Same => 12,
+        Refusal::Nowhere(_) => 14,
     }
 }
 
@@ -100,6 +102,7 @@ pub fn place(r: Refusal) -> usize
         Refusal::Room(p) => p,
         Refusal::Lacking => 0,
         Refusal::Same => 0,
+        Refusal::Nowhere(p) => p,
     }
 }
 

@@ -5,10 +5,10 @@ use Rattle.nonsense.proofs.say_row.Statement.{statement}
 use Rattle.nonsense.proofs.say_row.Tie as tie
 
 abbrev Inv-loop : tie.InvT-loop
-Inv-loop name q tally k₀ k = k ≤ 13
+Inv-loop name q tally k₀ k = k ≤ 15
 
 abbrev μ-loop : tie.MeasureT-loop
-μ-loop name q tally k₀ k = 13 - k
+μ-loop name q tally k₀ k = 15 - k
 
 text-requires : tie.Need-text-requires Inv-loop μ-loop
 text-requires c κs = search needs

@@ -19,7 +19,7 @@ add-t7 c = search needs
 
 returns : tie.Need-returns
 unfolding pointFault
-returns c = search rules depth 14
+returns c = search rules depth 16
 
 add-coordinate-ok : tie.Need-add-coordinate-ok
 add-coordinate-ok c = search needs
@@ -32,7 +32,7 @@ add-t9 c = search needs
 
 returns-2 : tie.Need-returns-2
 unfolding pointFault
-returns-2 c = search rules depth 14
+returns-2 c = search rules depth 16
 
 add-coordinate-ok-2 : tie.Need-add-coordinate-ok-2
 add-coordinate-ok-2 c = search needs
@@ -45,7 +45,7 @@ add-t11 c = search needs
 
 returns-3 : tie.Need-returns-3
 unfolding pointFault
-returns-3 c = search rules depth 14
+returns-3 c = search rules depth 16
 
 add-coordinate-ok-3 : tie.Need-add-coordinate-ok-3
 add-coordinate-ok-3 c = search needs
@@ -58,10 +58,7 @@ add-t13 c = search needs
 
 returns-4 : tie.Need-returns-4
 unfolding pointFault
-returns-4 c = search rules depth 14
-
-add-weight-ok : tie.Need-add-weight-ok
-add-weight-ok c = search needs
+returns-4 c = search rules depth 16
 
 weight-ok-requires : tie.Need-weight-ok-requires
 weight-ok-requires c κs = search needs
@@ -71,11 +68,21 @@ add-t15 c = search needs
 
 returns-5 : tie.Need-returns-5
 unfolding pointFault
-returns-5 c = search rules depth 14
+returns-5 c = search rules depth 16
+
+somewhere-ok-requires : tie.Need-somewhere-ok-requires
+somewhere-ok-requires c κs = search needs
+
+add-t17 : tie.Need-add-t17
+add-t17 c = search needs
 
 returns-6 : tie.Need-returns-6
 unfolding pointFault
-returns-6 c = search rules depth 14
+returns-6 c = search rules depth 16
+
+returns-7 : tie.Need-returns-7
+unfolding pointFault
+returns-7 c = search rules depth 16
 
 pub point-fault-spec : {M : Type 1} → statement M
 point-fault-spec =
@@ -98,8 +105,10 @@ point-fault-spec =
     coordinate-ok-requires-3
     add-t13
     returns-4
-    add-weight-ok
     weight-ok-requires
     add-t15
     returns-5
-    returns-6)
+    somewhere-ok-requires
+    add-t17
+    returns-6
+    returns-7)

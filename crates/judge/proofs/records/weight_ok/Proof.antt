@@ -5,6 +5,18 @@ use borrow.Author.Needs.{needs}
 use Rattle.judge.proofs.records.weight_ok.Statement.{statement}
 use Rattle.judge.proofs.records.weight_ok.Tie as tie
 
+least-weight-requires : tie.Need-least-weight-requires
+least-weight-requires c κs = search needs
+
+mul-byte : tie.Need-mul-byte
+mul-byte c = search needs
+
+add-byte : tie.Need-add-byte
+add-byte c = search needs
+
+add-byte-2 : tie.Need-add-byte-2
+add-byte-2 c = search needs
+
 byte-requires : tie.Need-byte-requires
 byte-requires c κs = search needs
 
@@ -19,4 +31,14 @@ unfolding weightOk weightAt
 returns c = cc
 
 pub weight-ok-spec : {M : Type 1} → statement M
-weight-ok-spec = tie.close (tie.spec byte-requires size-requires is-within-requires returns)
+weight-ok-spec =
+    tie.close
+    (tie.spec
+    least-weight-requires
+    mul-byte
+    add-byte
+    add-byte-2
+    byte-requires
+    size-requires
+    is-within-requires
+    returns)
