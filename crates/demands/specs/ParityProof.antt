@@ -11,23 +11,19 @@ use Rattle.laws.specs.Decides.{leb-iff, fails-iff}
 use Rattle.laws.specs.Lists.{run}
 use Rattle.scene.specs.Limits.{limits}
 use Rattle.scene.specs.Records.{vertsA, facesA, facesB, verts}
-use Rattle.scene.specs.Tables.{tablesOf, row, face}
-use Rattle.scene.specs.Read.{points-are}
+use Rattle.scene.specs.Tables.{tablesOf, face}
 use Rattle.judge.specs.Judge.{judged, rule, andThen, within}
 use Rattle.judge.specs.declared.Judged.the-variants.{Accepted}
-use Rattle.rules.specs.Given.{weighted, each-of-a, each-of-b, edges-of-a, edges-of-b}
+use Rattle.rules.specs.Given.{each-of-a, each-of-b, edges-of-a, edges-of-b}
 use Rattle.judge.specs.Tests.{within-iff}
 use Rattle.orient.specs.Signs.{Upto}
-use Rattle.orient.specs.Weighted.{Weighted}
 use Rattle.pierce.specs.Parity.{Solid, Triangle, solid-by-edges}
 use Rattle.pierce.specs.Scene.{scene-parity, scene-route}
+use Rattle.kernel.specs.Ready.{scene-weighted}
 use Rattle.kernel.specs.Answers.{answered, isPoint, isVertexOf, maskAsked, maskOutside, maskFault, maskIn, maskedOf, isSolid}
 use Rattle.demands.specs.Parity.{SolidNumber, VertexOf, Outside, Parity, Route, Asked}
 
 module _ (s : List ℕ) (ok : judged s ≡ Accepted) where
-  pub scene-weighted : Weighted (verts s + 1) (row (tablesOf s))
-  scene-weighted i a b = weighted limits s ok i a (omega (arith, points-are s))
-
   solid-a : Solid (verts s + 1) 0 (vertsA s) (run (face (tablesOf s)) (0 + 1) (facesA s))
   solid-a = solid-by-edges _ (omega arith) (each-of-a limits s ok) (edges-of-a limits s ok)
 

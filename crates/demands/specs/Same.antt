@@ -17,7 +17,8 @@ use Rattle.orient.specs.Terms.{positiveAt}
 use Rattle.edges.specs.Edges.{joined}
 use Rattle.edges.specs.declared.Solid.{Solid}
 use Rattle.pierce.specs.Formula.{helper, sidesCount, formula, pierces, pierced}
-use Rattle.pierce.specs.Helper.{Five, helper-found}
+use Rattle.pierce.specs.Helper.{helper-found}
+use Rattle.pierce.specs.Beside.{Beside, beside}
 use Rattle.pierce.specs.Faces.{maskAgainst, isOdd}
 use Rattle.listing.specs.Hits.{View, Hit, upTo, faceHits, edgeHits, pairHits, pairsAt, vertexHits, solidHits, isInside, insideCount, lowestInside}
 use Rattle.listing.specs.Laws.{upTo-same}
@@ -38,7 +39,7 @@ module _ (n : ℕ) (s t : ℕ → ℕ → ℕ → ℕ → Bool) (same : (a b c d
       let e8 = same u v r p (search ne-sym) in
       rw (e1, e2, e3, e4, e5, e6, e7, e8)
 
-  pierces-same : 6 ≤ n → (u v : ℕ) (f : Face) → Five (Upto n) u v (f .p) (f .q) (f .r) → pierces n s u v f ≡ pierces n t u v f
+  pierces-same : 6 ≤ n → (u v : ℕ) (f : Face) → Beside n u v f → pierces n s u v f ≡ pierces n t u v f
   unfolding pierces
   pierces-same l u v f d = formula-same u v (helper n u v f) (f .p) (f .q) (f .r) (helper-found n u v f l d)
 
@@ -48,14 +49,8 @@ pub record Clear (n low high i : ℕ) : Type 0 where
   pub point : Upto n i
   pub out : Vertex low high i → ⊥
 
-in-scene : {n low high i : ℕ} → high ≤ n → Vertex low high i → Upto n i
-in-scene l h = omega arith
-
-apart : {n low high u i : ℕ} → Clear n low high u → Vertex low high i → u ≢ i
-apart c h e = c .out (rw e h)
-
-five : {n low high u v : ℕ} → high ≤ n → Clear n low high u → Clear n low high v → u ≢ v → (f : Face) → FaceOf low high f → Five (Upto n) u v (f .p) (f .q) (f .r)
-five l cu cv d f h = search (ne-sym, in-scene, apart)
+five : {n low high u v : ℕ} → high ≤ n → Clear n low high u → Clear n low high v → u ≢ v → (f : Face) → FaceOf low high f → Beside n u v f
+five l cu cv d = beside l (cu .point) (cv .point) d (cu .out) (cv .out)
 
 -- ---- a scene seen with two kinds of rows that have the same signs
 

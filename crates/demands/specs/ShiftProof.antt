@@ -27,13 +27,12 @@ use Rattle.orient.specs.Weighted.{oriented}
 use Rattle.orient.specs.Whole.{wholeDet, TermsUpto, whole-sign}
 use Rattle.listing.specs.Hits.{Hit, insideCount, lowestInside}
 use Rattle.listing.specs.First.{firstOf}
-use Rattle.kernel.specs.Ready.{rows-fit}
+use Rattle.kernel.specs.Ready.{rows-fit, scene-weighted}
 use Rattle.kernel.specs.Scene.{viewOf, solidA, solidB, listingOf}
 use Rattle.kernel.specs.Answers.{maskIn, enclosing, verdictIn, crossOr}
 use Rattle.kernel.specs.declared.verdict.Verdict.{Verdict}
 use Rattle.kernel.specs.declared.verdict.Verdict.the-variants.{AInB, BInA, Apart}
 use Rattle.demands.specs.Parity.{SolidNumber, VertexOf}
-use Rattle.demands.specs.ParityProof.{scene-weighted}
 use Rattle.demands.specs.Shift.{shiftedRow, shiftedView, shiftedDet, maskSeen, listingSeen, verdictSeen, Own, Shift}
 use Rattle.demands.specs.Same.{Clear, masks-same, hits-same, counts-same, lowests-same}
 

@@ -1,11 +1,10 @@
 // Questions about a solid: the faces that an edge pierces, and whether a vertex is enclosed.
 ghost use mathlib.Core.Path.{_≡_};
-ghost use Prim.Native.Nat.{_+_, _≤_};
-ghost use Rattle.scene.specs.Records.{verts};
 ghost use Rattle.pierce.specs.Faces.{valueOf};
 ghost use Rattle.judge.specs.Judge.{judged};
 ghost use Rattle.judge.specs.declared.Judged.the-variants.{Accepted};
 ghost use Rattle.kernel.specs.Answers.{isVertex, isSolid, isVertexOf, maskAsked, maskOutside, maskFault, maskIn, saidMask, maskedOf, enclosedFault, otherSolid, enclosedOf};
+ghost use Rattle.kernel.specs.Asked.{Outside};
 use crate::points::Answer;
 use crate::points::is_point;
 use crate::points_of;
@@ -95,7 +94,7 @@ fn mask_fault(s: &[u8], u: usize, v: usize, k: usize) -> Judged
 
 // The mask of u, v against the solid k of an accepted scene.
 fn mask_of(s: &[u8], u: usize, v: usize, k: usize) -> Mask
-    requires { ⌜ (judged (now s) ≡ Accepted) × (u ≤ verts (now s) + 1) × (v ≤ verts (now s) + 1) ⌝ }
+    requires { ⌜ (judged (now s) ≡ Accepted) × Outside (now s) u v k ⌝ }
     ensures { λ r. ⌜ valueOf r ≡ maskIn (now (s .entry)) u v k ⌝ }
 {
     let rows = decode::rows(s);

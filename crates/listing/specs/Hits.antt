@@ -8,11 +8,14 @@ use lib.IntN.{ℤ}
 use Rattle.laws.specs.Range.{countOf, lowestOf}
 use Rattle.scene.specs.Limits.{limits, mostPoints}
 use Rattle.scene.specs.Arrays.{rowIn, faceIn, AllWithin, FacesWithin}
+use Rattle.scene.specs.Faces.{Vertex}
 use Rattle.scene.specs.declared.Row.{Row}
 use Rattle.scene.specs.declared.Face.{Face}
 use Rattle.edges.specs.Edges.{joined, Corners}
 use Rattle.edges.specs.declared.Solid.{Solid}
+use Rattle.orient.specs.Weighted.{Weighted}
 use Rattle.pierce.specs.Formula.{pierced}
+use Rattle.pierce.specs.Beside.{BesideAll}
 use Rattle.pierce.specs.Faces.{maskAgainst, enclosed}
 
 -- what piercing reads of a scene: the number of its points, the far point's the last, and the rows and faces by their numbers
@@ -77,7 +80,11 @@ module _ (s : View) (k : Solid) where
   unfoldable pub lowestInside : ℕ
   lowestInside = lowestOf isInside (k .low + 1) (k .low + 1 + k .verts)
 
-  -- what the limits and the rules give: with it every number that is formed on the way has room
+  -- a vertex of the solid
+  abbrev pub Own : ℕ → Type 0
+  Own = Vertex (k .low) (k .low + k .verts)
+
+  -- what the limits and the rules give: with it every number that is formed on the way has room, and every sign can be asked for
   pub record Sound : Type 0 where
     pub rows : AllWithin limits (s .row)
     pub faces : FacesWithin limits (s .face)
@@ -86,3 +93,6 @@ module _ (s : View) (k : Solid) where
     pub own : k .first + k .count ≤ 2 * limits .mostFaces
     pub other : (k .other + k .others ≤ 2 * limits .mostFaces) × (k .others ≤ limits .mostFaces)
     pub corners : Corners (s .face) k
+    pub weighted : Weighted (s .points) (s .row)
+    pub edges : (u v : ℕ) → Own u → Own v → u < v → BesideAll (s .points) u v (s .face) (k .other) (k .others)
+    pub outward : (u : ℕ) → Own u → BesideAll (s .points) u (s .points) (s .face) (k .other) (k .others)

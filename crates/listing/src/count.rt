@@ -1,7 +1,8 @@
 // How many pairs there are.
 ghost use mathlib.Core.Path.{_≡_};
-ghost use Prim.Native.Nat.{_+_, _≤_, _<_};
+ghost use Prim.Native.Nat.{_+_};
 ghost use lib.ListN.{length};
+ghost use Rattle.scene.specs.Faces.{Vertex};
 ghost use Rattle.listing.specs.Hits.{viewIn, Sound, pairHits, vertexHits, solidHits};
 use crate::edge_mask;
 use edges::Solid;
@@ -19,7 +20,7 @@ fn count_pair(
     v: usize,
     both: bool,
 ) -> usize
-    requires { ⌜ Sound (viewIn n (now rows) (now corners)) k × (u ≤ k .low + k .verts) × (v ≤ k .low + k .verts) ⌝ }
+    requires { ⌜ Sound (viewIn n (now rows) (now corners)) k × Vertex (k .low) (k .low + k .verts) u × Vertex (k .low) (k .low + k .verts) v ⌝ }
     ensures { λ r. ⌜ r ≡ length (pairHits (viewIn n (now (rows .entry)) (now (corners .entry))) k u v both) ⌝ }
 {
     if !both {
@@ -33,7 +34,7 @@ fn count_pair(
 
 // Of the edges from u on.
 fn count_vertex(rows: &Rows, corners: &Corners, n: usize, k: Solid, u: usize) -> usize
-    requires { ⌜ Sound (viewIn n (now rows) (now corners)) k × (u ≤ k .low + k .verts) ⌝ }
+    requires { ⌜ Sound (viewIn n (now rows) (now corners)) k × Vertex (k .low) (k .low + k .verts) u ⌝ }
     ensures { λ r. ⌜ r ≡ length (vertexHits (viewIn n (now (rows .entry)) (now (corners .entry))) k u) ⌝ }
 {
     let low = k.low;

@@ -1,6 +1,7 @@
 // The first pair.
 ghost use mathlib.Core.Path.{_≡_};
-ghost use Prim.Native.Nat.{_+_, _≤_, _<_};
+ghost use Prim.Native.Nat.{_+_};
+ghost use Rattle.scene.specs.Faces.{Vertex};
 ghost use Rattle.listing.specs.Hits.{viewIn, Sound, pairHits, vertexHits, solidHits};
 ghost use Rattle.listing.specs.First.{firstOf};
 use crate::edge_mask;
@@ -24,7 +25,7 @@ fn find_pair(
     v: usize,
     both: bool,
 ) -> Found
-    requires { ⌜ Sound (viewIn n (now rows) (now corners)) k × (u ≤ k .low + k .verts) × (v ≤ k .low + k .verts) ⌝ }
+    requires { ⌜ Sound (viewIn n (now rows) (now corners)) k × Vertex (k .low) (k .low + k .verts) u × Vertex (k .low) (k .low + k .verts) v ⌝ }
     ensures { λ r. ⌜ r ≡ firstOf (pairHits (viewIn n (now (rows .entry)) (now (corners .entry))) k u v both) ⌝ }
 {
     if !both {
@@ -41,7 +42,7 @@ fn find_pair(
 }
 
 fn find_vertex(rows: &Rows, corners: &Corners, n: usize, k: Solid, u: usize) -> Found
-    requires { ⌜ Sound (viewIn n (now rows) (now corners)) k × (u ≤ k .low + k .verts) ⌝ }
+    requires { ⌜ Sound (viewIn n (now rows) (now corners)) k × Vertex (k .low) (k .low + k .verts) u ⌝ }
     ensures { λ r. ⌜ r ≡ firstOf (vertexHits (viewIn n (now (rows .entry)) (now (corners .entry))) k u) ⌝ }
 {
     let low = k.low;

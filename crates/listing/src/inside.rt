@@ -1,14 +1,15 @@
 // The solid's vertices that the other one encloses: how many, and the lowest.
 ghost use mathlib.Core.Path.{_≡_};
-ghost use Prim.Native.Nat.{_+_, _≤_, _<_};
+ghost use Prim.Native.Nat.{_+_};
 ghost use Rattle.laws.specs.Range.{countOf, lowestOf};
+ghost use Rattle.scene.specs.Faces.{Vertex};
 ghost use Rattle.listing.specs.Hits.{viewIn, Sound, isInside, insideCount, lowestInside};
 use edges::Solid;
 use scene::Corners;
 use scene::Rows;
 
 fn is_inside(rows: &Rows, corners: &Corners, n: usize, k: Solid, u: usize) -> bool
-    requires { ⌜ Sound (viewIn n (now rows) (now corners)) k × (u ≤ k .low + k .verts) ⌝ }
+    requires { ⌜ Sound (viewIn n (now rows) (now corners)) k × Vertex (k .low) (k .low + k .verts) u ⌝ }
     ensures { λ r. ⌜ r ≡ isInside (viewIn n (now (rows .entry)) (now (corners .entry))) k u ⌝ }
 {
     pierce::enclosed(rows, corners, n, u, k.other, k.others)

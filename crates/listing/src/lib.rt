@@ -1,7 +1,8 @@
 // The pierced pairs of a scene, counted, found and listed, by the mask of one edge at a time.
 ghost use mathlib.Core.Path.{_≡_};
-ghost use Prim.Native.Nat.{_+_, _≤_, _<_};
+ghost use Prim.Native.Nat.{_+_, _<_};
 ghost use Rattle.pierce.specs.Faces.{valueOf};
+ghost use Rattle.scene.specs.Faces.{Vertex};
 ghost use Rattle.listing.specs.Hits.{viewIn, Sound, edgeMask};
 use edges::Solid;
 use pierce::faces::Mask;
@@ -15,7 +16,7 @@ pub mod pour;
 
 // The mask of the edge u, v of the solid against the other one, in a scene of n points.
 fn edge_mask(rows: &Rows, corners: &Corners, n: usize, k: Solid, u: usize, v: usize) -> Mask
-    requires { ⌜ Sound (viewIn n (now rows) (now corners)) k × (u ≤ k .low + k .verts) × (v ≤ k .low + k .verts) ⌝ }
+    requires { ⌜ Sound (viewIn n (now rows) (now corners)) k × Vertex (k .low) (k .low + k .verts) u × Vertex (k .low) (k .low + k .verts) v × (u < v) ⌝ }
     ensures { λ r. ⌜ valueOf r ≡ edgeMask (viewIn n (now (rows .entry)) (now (corners .entry))) k u v ⌝ }
 {
     pierce::mask(rows, corners, n, u, v, k.other, k.others)

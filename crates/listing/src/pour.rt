@@ -3,6 +3,7 @@ ghost use mathlib.Core.Path.{_≡_};
 ghost use Prim.Native.Nat.{_+_, _*_, _≤_, _<_};
 ghost use Rattle.scene.specs.Limits.{limits};
 ghost use Rattle.pierce.specs.Faces.{width, valueOf};
+ghost use Rattle.scene.specs.Faces.{Vertex};
 ghost use Rattle.listing.specs.Hits.{viewIn, Sound, pairHits, vertexHits, solidHits, edgeHits};
 ghost use Rattle.listing.specs.Pour.{Pours, stepped, maskHit, maskHits, most};
 use crate::edge_mask;
@@ -89,7 +90,7 @@ fn pour_pair(
     seen: usize,
     out: &mut [u16],
 ) -> usize
-    requires { ⌜ Sound (viewIn n (now rows) (now corners)) k × (u ≤ k .low + k .verts) × (v ≤ k .low + k .verts) × (seen + limits .mostFaces < most) ⌝ }
+    requires { ⌜ Sound (viewIn n (now rows) (now corners)) k × Vertex (k .low) (k .low + k .verts) u × Vertex (k .low) (k .low + k .verts) v × (seen + limits .mostFaces < most) ⌝ }
     ensures { λ r. ⌜ Pours (pairHits (viewIn n (now (rows .entry)) (now (corners .entry))) k u v both) from seen (now (out .entry)) (now (out .exit)) r ⌝ }
 {
     if !both {
@@ -112,7 +113,7 @@ fn pour_vertex(
     seen: usize,
     out: &mut [u16],
 ) -> usize
-    requires { ⌜ Sound (viewIn n (now rows) (now corners)) k × (u ≤ k .low + k .verts) × (seen + limits .mostVertices * limits .mostFaces < most) ⌝ }
+    requires { ⌜ Sound (viewIn n (now rows) (now corners)) k × Vertex (k .low) (k .low + k .verts) u × (seen + limits .mostVertices * limits .mostFaces < most) ⌝ }
     ensures { λ r. ⌜ Pours (vertexHits (viewIn n (now (rows .entry)) (now (corners .entry))) k u) from seen (now (out .entry)) (now (out .exit)) r ⌝ }
 {
     let low = k.low;

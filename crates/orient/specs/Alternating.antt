@@ -17,13 +17,13 @@ plus z = isPlus (sign z)
 times : (a b : ℕ) → suc a * suc b ≡ suc (a * suc b + b)
 times a b = omega arith
 
-plus-neg : (z : ℤ) → z ≢ pos 0 → plus (negℤ z) ≡ not (plus z)
+pub plus-neg : (z : ℤ) → z ≢ pos 0 → plus (negℤ z) ≡ not (plus z)
 plus-neg (pos zero) h = absurd (h refl)
 plus-neg (pos (suc n)) h = refl
 plus-neg (negsuc n) h = refl
 
 -- a product of two numbers that are not zero: its sign, and that it is not zero
-plus-mul : (x y : ℤ) → x ≢ pos 0 → y ≢ pos 0 → plus (x *ℤ y) ≡ not (plus x ⊕ plus y)
+pub plus-mul : (x y : ℤ) → x ≢ pos 0 → y ≢ pos 0 → plus (x *ℤ y) ≡ not (plus x ⊕ plus y)
 plus-mul (pos zero) y h k = absurd (h refl)
 plus-mul (pos (suc a)) (pos zero) h k = absurd (k refl)
 plus-mul (pos (suc a)) (pos (suc b)) h k = rw (times a b)

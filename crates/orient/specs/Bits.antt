@@ -1,7 +1,7 @@
 -- What the code reads back of the numbers that it holds as bits, and what its tests of a sign say. Assumes nothing.
 use mathlib.Core.Path.{_≡_, refl, sym, subst, ap, _∙_}
 use mathlib.Core.Bool.{Bool}
-use Prim.Native.Nat.{ℕ, zero, suc, _+_, _*_, _^_, _≤_, _<_}
+use Prim.Native.Nat.{ℕ, zero, suc, _*_, _^_, _≤_, _<_}
 use native.Mathlib.Nat.{lt-of-le-of-lt}
 use native.Mathlib.Omega.{arith}
 use borrow.Author.Tests.{lt-ltb}
@@ -120,6 +120,11 @@ module _ {p : Point} {r : ℤ} (v : Within limits p) (e : r ≡ factor (reread (
   pub shift3 : Held (limits .mostWeight * mostPoints limits * mostPoints limits * mostPoints limits) (by-number (by-number (by-number r))) (factor (p .w) *ℤ p .n *ℤ p .n *ℤ p .n)
   shift3 = times shift2 number (lit< tt)
 
+-- ---- a test of two numbers, by their bits
+
+pub less-read : {x y : ℤ} {b : Bool} → SFits w64 x → SFits w64 y → ltZ (reread x) (reread y) ≡ b → b ≡ ltZ x y
+less-read p q e = sym e ∙ (λ i. ltZ (read p i) (read q i))
+
 -- ---- a determinant that `part` gave
 
 pub part-held : {r : ℤ} {a b c d : Point} (sx sy sz : Bool) → AreWithin limits a b c d → r ≡ partOf a b c d sx sy sz → Held (partSize limits sx sy sz) r (partOf a b c d sx sy sz)
@@ -132,11 +137,6 @@ lead-at (pos zero) rest h = absurd (h refl)
 lead-at (pos (suc n)) rest h = lt-ltb 0 (suc n) (omega arith)
 lead-at (negsuc n) rest h = refl
 
-lead-last : (t : ℤ) → ltZ (pos 0) t ≡ isPlus (sign t)
-lead-last (pos zero) = refl
-lead-last (pos (suc n)) = lt-ltb 0 (suc n) (omega arith)
-lead-last (negsuc n) = refl
-
 -- the result r of a call is t. Its bits are not 0: the sign is t's
 pub decides : {r t : ℤ} (rest : Sign) → mag r < 2 ^ 63 → r ≡ t → (ofZ w64 r ≡ 0 → ⊥) → ltZ (pos 0) (reread r) ≡ isPlus (sign t or rest)
 decides {r} {t} rest ok e h = ap (ltZ (pos 0)) (called ok e) ∙ lead-at t rest (λ z. h (ap (ofZ w64) (e ∙ z)))
@@ -144,6 +144,3 @@ decides {r} {t} rest ok e h = ap (ltZ (pos 0)) (called ok e) ∙ lead-at t rest 
 -- its bits are 0: the sign is said by what comes after
 pub passes-on : {r t : ℤ} (rest : Sign) → mag r < 2 ^ 63 → r ≡ t → ofZ w64 r ≡ 0 → sign t or rest ≡ rest
 passes-on {r} {t} rest ok e z = rw (sym (called ok e), z)
-
-pub settles : {r t : ℤ} → mag r < 2 ^ 63 → r ≡ t → ltZ (pos 0) (reread r) ≡ isPlus (sign t)
-settles {r} {t} ok e = ap (ltZ (pos 0)) (called ok e) ∙ lead-last t

@@ -11,6 +11,8 @@ pub mod Whole
 pub mod Signs
 pub mod Alternating
 pub mod Highest
+pub mod Settled
+pub mod Slide
 pub mod Weighted
 pub mod Rules
 pub mod Marked

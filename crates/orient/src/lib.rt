@@ -7,6 +7,8 @@ ghost use Rattle.scene.specs.Arrays.{rowIn, AllWithin};
 ghost use Rattle.orient.specs.Determinant.{det4};
 ghost use Rattle.orient.specs.Minors.{crossOf, threeOf, joinOf, meetOf};
 ghost use Rattle.orient.specs.Terms.{factor, c0, c1, c2, c3, termsOf, termsAt, isPlus, tied, positive, pointAt, positiveAt};
+ghost use Rattle.orient.specs.Slide.{swapped, outOfOrder, negative, negativeWeights, lastPositive, Tells};
+ghost use Rattle.orient.specs.Weighted.{Asked};
 ghost use Rattle.orient.specs.Columns.{rowOf, partOf};
 ghost use Rattle.orient.specs.Formed.{mostFormed, crossSize, threeSize, meetSize, JoinWithin, DetWithin};
 ghost use Rattle.orient.specs.Sizes.{Within, AreWithin};
@@ -42,7 +44,8 @@ struct Line {
 
 // Whether the sign of points a, b, c, d, in this order, is plus.
 pub fn positive_at(rows: &Rows, a: usize, b: usize, c: usize, d: usize) -> bool
-    requires { ⌜ AllWithin limits (rowIn (now rows)) × (a ≤ mostPoints limits) × (b ≤ mostPoints limits) × (c ≤ mostPoints limits) × (d ≤ mostPoints limits) ⌝ }
+    requires sizes { ⌜ AllWithin limits (rowIn (now rows)) × (a ≤ mostPoints limits) × (b ≤ mostPoints limits) × (c ≤ mostPoints limits) × (d ≤ mostPoints limits) ⌝ }
+    requires points { ⌜ Asked (rowIn (now rows)) a b c d ⌝ }
     ensures { λ r. ⌜ r ≡ positiveAt (rowIn (now (rows .entry))) a b c d ⌝ }
 {
     positive(
@@ -95,7 +98,7 @@ fn terms_of(a: Point, b: Point, c: Point, d: Point) -> Terms
 
 // Whether the sign is plus. Nothing of the shift is computed where c0 is not zero.
 fn positive(a: Point, b: Point, c: Point, d: Point) -> bool
-    requires { ⌜ AreWithin limits a b c d ⌝ }
+    requires { ⌜ AreWithin limits a b c d × Tells a b c d ⌝ }
     ensures { λ r. ⌜ r ≡ positive a b c d ⌝ }
 {
     let t0 = term0(a, b, c, d);
@@ -107,7 +110,7 @@ fn positive(a: Point, b: Point, c: Point, d: Point) -> bool
 
 // The same where c0 is zero: the first of c1, c2 and c3 that is not zero says it.
 fn tie(a: Point, b: Point, c: Point, d: Point) -> bool
-    requires { ⌜ AreWithin limits a b c d ⌝ }
+    requires { ⌜ AreWithin limits a b c d × Tells a b c d ⌝ }
     ensures { λ r. ⌜ r ≡ isPlus (tied a b c d) ⌝ }
 {
     let t1 = term1(a, b, c, d);
@@ -118,7 +121,41 @@ fn tie(a: Point, b: Point, c: Point, d: Point) -> bool
     if t2 != 0 {
         return 0 < t2;
     }
-    0 < term3(a, b, c, d)
+    last_positive(a, b, c, d)
+}
+
+// The last term on one slide: c3 is positive where the pairs out of order and the negative weights are odd in number.
+fn last_positive(a: Point, b: Point, c: Point, d: Point) -> bool
+    ensures { λ r. ⌜ r ≡ lastPositive a b c d ⌝ }
+{
+    (out_of_order(a, b, c, d) + negative_weights(a, b, c, d)) % 2 == 1
+}
+
+// Of the six pairs of numbers, in the order asked.
+fn out_of_order(a: Point, b: Point, c: Point, d: Point) -> usize
+    ensures { λ r. ⌜ (r ≡ outOfOrder a b c d) × (r ≤ 6) ⌝ }
+{
+    swapped(a, b) + swapped(a, c) + swapped(a, d) + swapped(b, c) + swapped(b, d) + swapped(c, d)
+}
+
+fn negative_weights(a: Point, b: Point, c: Point, d: Point) -> usize
+    ensures { λ r. ⌜ (r ≡ negativeWeights a b c d) × (r ≤ 4) ⌝ }
+{
+    negative(a) + negative(b) + negative(c) + negative(d)
+}
+
+// 1 where the earlier point has the greater number.
+fn swapped(p: Point, q: Point) -> usize
+    ensures { λ r. ⌜ (r ≡ swapped p q) × (r ≤ 1) ⌝ }
+{
+    if q.n < p.n { 1 } else { 0 }
+}
+
+// 1 where the weight is negative; 0 is not.
+fn negative(p: Point) -> usize
+    ensures { λ r. ⌜ (r ≡ negative p) × (r ≤ 1) ⌝ }
+{
+    if p.w < 0 { 1 } else { 0 }
 }
 
 // c0, of the rows as they are.

@@ -1,6 +1,7 @@
 pub mod Formula
 pub mod Steps
 pub mod Helper
+pub mod Beside
 pub mod Five
 pub mod Triangles
 pub mod Closed

@@ -5,7 +5,9 @@ ghost use Rattle.laws.specs.Mask.{digit};
 ghost use Rattle.scene.specs.Limits.{limits, mostPoints};
 ghost use Rattle.scene.specs.Arrays.{rowIn, faceIn, AllWithin, FaceWithin, FacesWithin};
 ghost use Rattle.orient.specs.Terms.{positiveAt};
+ghost use Rattle.orient.specs.Weighted.{Weighted, Asked};
 ghost use Rattle.pierce.specs.Formula.{canHelp, helper, counts, sidesCount, pierced};
+ghost use Rattle.pierce.specs.Beside.{Beside, BesideAll, Helped};
 ghost use Rattle.pierce.specs.Faces.{maskAgainst, enclosed, valueOf};
 use faces::Mask;
 use faces::WORD;
@@ -29,6 +31,7 @@ pub fn mask(
     requires rows { ⌜ AllWithin limits (rowIn (now rows)) × FacesWithin limits (faceIn (now corners)) ⌝ }
     requires points { ⌜ (6 ≤ n) × (n ≤ mostPoints limits) × (u ≤ mostPoints limits) × (v ≤ mostPoints limits) ⌝ }
     requires faces { ⌜ (first + count ≤ 2 * limits .mostFaces) × (count ≤ limits .mostFaces) ⌝ }
+    requires edge { ⌜ Weighted n (rowIn (now rows)) × BesideAll n u v (faceIn (now corners)) first count ⌝ }
     ensures { λ r. ⌜ valueOf r ≡ maskAgainst n (rowIn (now (rows .entry))) (faceIn (now (corners .entry))) u v first count ⌝ }
 {
     if count <= WORD {
@@ -56,6 +59,7 @@ fn word(
     requires rows { ⌜ AllWithin limits (rowIn (now rows)) × FacesWithin limits (faceIn (now corners)) ⌝ }
     requires points { ⌜ (6 ≤ n) × (n ≤ mostPoints limits) × (u ≤ mostPoints limits) × (v ≤ mostPoints limits) ⌝ }
     requires faces { ⌜ (first + count ≤ 2 * limits .mostFaces) × (count ≤ 64) ⌝ }
+    requires edge { ⌜ Weighted n (rowIn (now rows)) × BesideAll n u v (faceIn (now corners)) first count ⌝ }
     ensures { λ r. ⌜ r ≡ maskAgainst n (rowIn (now (rows .entry))) (faceIn (now (corners .entry))) u v first count ⌝ }
 {
     let mut word: u64 = 0;
@@ -80,6 +84,7 @@ pub fn enclosed(
     requires rows { ⌜ AllWithin limits (rowIn (now rows)) × FacesWithin limits (faceIn (now corners)) ⌝ }
     requires points { ⌜ (6 ≤ n) × (n ≤ mostPoints limits) × (u ≤ mostPoints limits) ⌝ }
     requires faces { ⌜ (first + count ≤ 2 * limits .mostFaces) × (count ≤ limits .mostFaces) ⌝ }
+    requires edge { ⌜ Weighted n (rowIn (now rows)) × BesideAll n u n (faceIn (now corners)) first count ⌝ }
     ensures { λ r. ⌜ r ≡ enclosed n (rowIn (now (rows .entry))) (faceIn (now (corners .entry))) u first count ⌝ }
 {
     faces::is_odd(mask(rows, corners, n, u, n, first, count))
@@ -87,7 +92,8 @@ pub fn enclosed(
 
 // The edge from u to v pierces the face, in a scene of n points.
 pub fn pierces(rows: &Rows, n: usize, u: usize, v: usize, f: Face) -> bool
-    requires { ⌜ AllWithin limits (rowIn (now rows)) × (6 ≤ n) × (n ≤ mostPoints limits) × (u ≤ mostPoints limits) × (v ≤ mostPoints limits) × FaceWithin limits f ⌝ }
+    requires points { ⌜ AllWithin limits (rowIn (now rows)) × (6 ≤ n) × (n ≤ mostPoints limits) × (u ≤ mostPoints limits) × (v ≤ mostPoints limits) × FaceWithin limits f ⌝ }
+    requires edge { ⌜ Weighted n (rowIn (now rows)) × Beside n u v f ⌝ }
     ensures { λ r. ⌜ r ≡ pierced n (rowIn (now (rows .entry))) u v f ⌝ }
 {
     let p = f.p;
@@ -102,7 +108,8 @@ pub fn pierces(rows: &Rows, n: usize, u: usize, v: usize, f: Face) -> bool
 
 // An odd number of the face's three sides count.
 fn sides(rows: &Rows, u: usize, v: usize, h: usize, f: Face) -> bool
-    requires { ⌜ AllWithin limits (rowIn (now rows)) × (u ≤ mostPoints limits) × (v ≤ mostPoints limits) × (h ≤ mostPoints limits) × FaceWithin limits f ⌝ }
+    requires points { ⌜ AllWithin limits (rowIn (now rows)) × (u ≤ mostPoints limits) × (v ≤ mostPoints limits) × (h ≤ mostPoints limits) × FaceWithin limits f ⌝ }
+    requires edge { ⌜ Helped (rowIn (now rows)) u v h f ⌝ }
     ensures { λ r. ⌜ r ≡ sidesCount (positiveAt (rowIn (now (rows .entry)))) u v h (f .p) (f .q) (f .r) ⌝ }
 {
     let p = f.p;
@@ -119,7 +126,8 @@ fn sides(rows: &Rows, u: usize, v: usize, h: usize, f: Face) -> bool
 
 // The side from s to t counts, by H(s) and H(t).
 fn side(rows: &Rows, u: usize, v: usize, s: usize, t: usize, hs: bool, ht: bool) -> bool
-    requires { ⌜ AllWithin limits (rowIn (now rows)) × (u ≤ mostPoints limits) × (v ≤ mostPoints limits) × (s ≤ mostPoints limits) × (t ≤ mostPoints limits) ⌝ }
+    requires sizes { ⌜ AllWithin limits (rowIn (now rows)) × (u ≤ mostPoints limits) × (v ≤ mostPoints limits) × (s ≤ mostPoints limits) × (t ≤ mostPoints limits) ⌝ }
+    requires points { ⌜ Asked (rowIn (now rows)) u v s t ⌝ }
     ensures { λ r. ⌜ r ≡ counts hs ht (positiveAt (rowIn (now (rows .entry))) u v s t) ⌝ }
 {
     if hs == ht {

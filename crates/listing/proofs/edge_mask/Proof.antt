@@ -5,7 +5,7 @@ use Rattle.listing.proofs.edge_mask.Statement.{statement}
 use Rattle.listing.proofs.edge_mask.Tie as tie
 
 mask-requires : tie.Need-mask-requires
-mask-requires c κs = search needs
+mask-requires c κs = let p = c .pre in (search needs, (search needs, (search needs, (p .0 .weighted, p .0 .edges _ _ (p .1) (p .2) (p .3)))))
 
 returns : tie.Need-returns
 unfolding edgeMask

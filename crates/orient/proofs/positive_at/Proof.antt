@@ -1,8 +1,10 @@
--- `orient::positive_at` meets its contract: the points are the rows of the array with their numbers, within the limits. Assumes nothing.
+-- `orient::positive_at` meets its contract: the points are the rows of the array with their numbers, within the limits, and of four different points
+-- the slide tells the last sign. Assumes nothing.
 use borrow.Author.Needs.{needs}
 use Rattle.scene.specs.Limits.{limits}
 use Rattle.orient.specs.Terms.{positiveAt}
 use Rattle.orient.specs.Sizes.{points-within}
+use Rattle.orient.specs.Weighted.{slide-tells}
 use Rattle.orient.proofs.positive_at.Statement.{statement}
 use Rattle.orient.proofs.positive_at.Tie as tie
 
@@ -23,7 +25,9 @@ positive-requires c κs =
     let d3 = c .before in
     let d2 = d3 .before in
     let d1 = d2 .before in
-    rw (d1 .point-at .ensures, d2 .point-at2 .ensures, d3 .point-at3 .ensures, c .point-at4 .ensures) (points-within limits _ _ _ _ _ (d1 .before .pre))
+    let pre = d1 .before .pre in
+    rw (d1 .point-at .ensures, d2 .point-at2 .ensures, d3 .point-at3 .ensures, c .point-at4 .ensures)
+    (points-within limits _ _ _ _ _ (pre .0), slide-tells _ _ _ _ _ (pre .1))
 
 returns : tie.Need-returns
 unfolding positiveAt

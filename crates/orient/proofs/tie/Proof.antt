@@ -1,8 +1,8 @@
--- `orient::tie` meets its contract: a term that is zero hands the sign on to the next. Assumes nothing.
+-- `orient::tie` meets its contract: a term that is zero hands the sign on to the next, and of the last the slide tells it. Assumes nothing.
 use borrow.Author.Needs.{needs}
 use mathlib.Core.Path.{sym, ap, _∙_}
 use Rattle.orient.specs.Terms.{isPlus}
-use Rattle.orient.specs.Bits.{decides, passes-on, settles}
+use Rattle.orient.specs.Bits.{decides, passes-on}
 use Rattle.orient.proofs.tie.Statement.{statement}
 use Rattle.orient.proofs.tie.Tie as tie
 
@@ -21,18 +21,19 @@ returns-2 c =
     decides _ (c .before .term2 .ok) (c .before .term2 .ensures) (c .if2 .taken)
     ∙ sym (ap isPlus (passes-on _ (d .before .term1 .ok) (d .before .term1 .ensures) (d .if1 .left)))
 
-term3-requires : tie.Need-term3-requires
-term3-requires c κs = search needs
+last-positive-requires : tie.Need-last-positive-requires
+last-positive-requires c κs = search needs
 
 returns-3 : tie.Need-returns-3
 returns-3 c =
     let e = c .before in
     let d = e .before .before in
-    settles (c .term3 .ok) (c .term3 .ensures)
+    c .last-positive .ensures
+    ∙ d .before .before .pre .1
     ∙ sym
     (ap isPlus
     (passes-on _ (d .before .term1 .ok) (d .before .term1 .ensures) (d .if1 .left) ∙ passes-on _ (e .before .term2 .ok) (e .before .term2 .ensures) (e .if2 .left)))
 
 pub tie-spec : {M : Type 1} → statement M
 tie-spec =
-    tie.close (tie.spec term1-requires returns term2-requires returns-2 term3-requires returns-3)
+    tie.close (tie.spec term1-requires returns term2-requires returns-2 last-positive-requires returns-3)

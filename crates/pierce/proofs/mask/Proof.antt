@@ -3,19 +3,23 @@ use native.Mathlib.Omega.{arith}
 use denote.Ref.{now}
 use borrow.Author.Needs.{needs}
 use Rattle.scene.specs.Arrays.{faceIn}
+use Rattle.pierce.specs.Beside.{beside-low, beside-high}
 use Rattle.pierce.specs.Faces.{valueOf, mask-words}
 use Rattle.pierce.proofs.mask.Statement.{statement}
 use Rattle.pierce.proofs.mask.Tie as tie
 
 word-requires : tie.Need-word-requires
-word-requires c κs = search needs
+word-requires c κs = (search needs, (search needs, (search needs, c .before .pre .1 .1 .1)))
 
 returns : tie.Need-returns
 unfolding valueOf
 returns c = omega (arith, c .word .ensures)
 
 word-requires-2 : tie.Need-word-requires-2
-word-requires-2 c κs = search needs
+word-requires-2 c κs =
+    let s = c .before in
+    let e = s .pre .1 .1 .1 in
+    (search needs, (search needs, (search needs, (e .0, beside-low (faceIn (now (s .args .corners))) (s .args .first) 64 (omega arith) (e .1)))))
 
 add-word : tie.Need-add-word
 add-word c = search needs
@@ -24,7 +28,10 @@ sub-word : tie.Need-sub-word
 sub-word c = search needs
 
 word-requires-3 : tie.Need-word-requires-3
-word-requires-3 c κs = search needs
+word-requires-3 c κs =
+    let s = c .before .before in
+    let e = s .pre .1 .1 .1 in
+    (search needs, (search needs, (search needs, (e .0, beside-high (faceIn (now (s .args .corners))) (s .args .first) 64 (e .1)))))
 
 returns-2 : tie.Need-returns-2
 unfolding valueOf

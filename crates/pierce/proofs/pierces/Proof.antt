@@ -2,15 +2,16 @@
 use Rattle.pierce.specs.Formula.{pierces}
 use Rattle.pierce.specs.Steps.{ends-alike, ends-differ}
 use Rattle.pierce.specs.Helper.{helper-most}
+use Rattle.pierce.specs.Beside.{ask-u, ask-v, helped}
 use borrow.Author.Needs.{needs}
 use Rattle.pierce.proofs.pierces.Statement.{statement}
 use Rattle.pierce.proofs.pierces.Tie as tie
 
 positive-at-requires : tie.Need-positive-at-requires
-positive-at-requires c κs = search needs
+positive-at-requires c κs = (search needs, ask-u (c .pre .1 .0) (c .pre .1 .1))
 
 positive-at-requires-2 : tie.Need-positive-at-requires-2
-positive-at-requires-2 c κs = search needs
+positive-at-requires-2 c κs = (search needs, ask-v (c .before .pre .1 .0) (c .before .pre .1 .1))
 
 returns : tie.Need-returns
 unfolding pierces
@@ -21,9 +22,11 @@ helper-requires c κs = search needs
 
 sides-requires : tie.Need-sides-requires
 sides-requires c κs =
-    let a = c .before .before .before .before .args in
-    let h = helper-most (a .n) (a .u) (a .v) (a .f) (search needs) in
-    search needs
+    let s = c .before .before .before .before in
+    let a = s .args in
+    let l = s .pre .0 .1 in
+    let h = helper-most (a .n) (a .u) (a .v) (a .f) l in
+    (search needs, helped (s .pre .1 .0) (s .pre .1 .1) l (c .helper .ensures))
 
 returns-2 : tie.Need-returns-2
 unfolding pierces

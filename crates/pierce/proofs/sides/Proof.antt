@@ -1,5 +1,6 @@
 -- Each side by its own function, and their sum.
 use Rattle.pierce.specs.Steps.{sides-sum}
+use Rattle.pierce.specs.Beside.{ask-rp}
 use borrow.Author.Needs.{needs}
 use Rattle.pierce.proofs.sides.Statement.{statement}
 use Rattle.pierce.proofs.sides.Tie as tie
@@ -20,7 +21,7 @@ side-requires-2 : tie.Need-side-requires-2
 side-requires-2 c κs = search needs
 
 side-requires-3 : tie.Need-side-requires-3
-side-requires-3 c κs = search needs
+side-requires-3 c κs = (search needs, ask-rp (c .before .before .before .before .before .pre .1))
 
 returns : tie.Need-returns
 returns c =

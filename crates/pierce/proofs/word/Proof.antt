@@ -7,6 +7,7 @@ use Rattle.laws.specs.Mask.{digit, maskOf, mask-more}
 use Rattle.scene.specs.Limits.{limits}
 use Rattle.scene.specs.Arrays.{rowIn, faceIn, FaceWithin}
 use Rattle.pierce.specs.Formula.{pierced}
+use Rattle.pierce.specs.Beside.{beside-same}
 use Rattle.pierce.specs.Faces.{maskAgainst}
 use Rattle.pierce.proofs.word.Statement.{statement}
 use Rattle.pierce.proofs.word.Tie as tie
@@ -32,8 +33,10 @@ face-in-requires c κs = search needs
 
 pierces-requires : tie.Need-pierces-requires Inv-loop μ-loop
 pierces-requires c κs =
-    let w : FaceWithin limits (c .face-in .result) = rw (c .face-in .ensures) (c .before .before .before .pre .0 .1 _) in
-    search needs
+    let p = c .before .before .before .pre in
+    let w : FaceWithin limits (c .face-in .result) = rw (c .face-in .ensures) (p .0 .1 _) in
+    let e = p .1 .1 .1 in
+    (search needs, (e .0, beside-same (c .face-in .ensures) (e .1 (c .before .before .loop .k) (search needs))))
 
 bit-requires : tie.Need-bit-requires Inv-loop μ-loop
 bit-requires c κs = search needs

@@ -1,11 +1,10 @@
-use native.Mathlib.Omega.{arith}
 use mathlib.Core.Path.{_≡_}
 use denote.Ref.{now}
 use Rattle.judge.specs.declared.Judged.the-variants.{Accepted}
 use Rattle.kernel.specs.declared.points.Answer.the-variants.{Refused}
 use Rattle.kernel.specs.Answers.{enclosedFault, enclosedOf}
 use Rattle.kernel.specs.Laws.{refused-so, accepted-so, yes-when, no-when}
-use Rattle.kernel.specs.Asked.{enclosed-asked}
+use Rattle.kernel.specs.Asked.{enclosed-asked, far-outside}
 use Rattle.kernel.specs.Ready.{enclosed-is}
 use borrow.Author.Needs.{needs}
 use Rattle.kernel.proofs.masks.enclosed.Statement.{statement}
@@ -35,7 +34,7 @@ mask-of-requires c κs =
     let s = c .before .before .before .before .before .before in
     let h : enclosedFault (now (s .args .s)) (s .args .i) ≡ Accepted = search accepted-so in
     let q = enclosed-asked (now (s .args .s)) (s .args .i) h in
-    (q .0, omega (arith, q .1), omega (arith, c .before .points-of .ensures))
+    (q .0, far-outside (now (s .args .s)) (s .args .i) (q .1) (c .before .points-of .ensures) (c .other-solid .ensures))
 
 is-odd-requires : tie.Need-is-odd-requires
 is-odd-requires c κs = search needs

@@ -2,12 +2,12 @@ use mathlib.Core.Path.{_≡_}
 use Rattle.judge.specs.declared.Judged.the-variants.{Accepted}
 use Rattle.kernel.specs.Answers.{piercesFault}
 use Rattle.kernel.specs.Laws.{accepted-so, yes-when, no-when}
-use Rattle.kernel.specs.Ready.{rows-fit, rows-are, far-fits, face-fits, point-fits, pierces-is}
+use Rattle.kernel.specs.Ready.{rows-fit, rows-are, far-fits, face-fits, point-fits, weighted-are, ends-beside, pierces-is}
 use denote.Ref.{now}
 use Rattle.kernel.specs.declared.points.Answer.the-variants.{Refused}
 use Rattle.kernel.specs.Answers.{piercesOf}
 use Rattle.kernel.specs.Laws.{refused-so}
-use Rattle.kernel.specs.Asked.{pierces-asked}
+use Rattle.kernel.specs.Asked.{pierces-asked, pierces-ends}
 use borrow.Author.Needs.{needs}
 use Rattle.kernel.proofs.points.pierces.Statement.{statement}
 use Rattle.kernel.proofs.points.pierces.Tie as tie
@@ -44,7 +44,8 @@ pierces-requires c κs =
     let h : piercesFault (now (s .args .s)) (s .args .u) (s .args .v) (s .args .f) ≡ Accepted = search accepted-so in
     let q = pierces-asked (now (s .args .s)) (s .args .u) (s .args .v) (s .args .f) h in
     let f = far-fits (now (s .args .s)) (q .0) (c .before .points-of .ensures) in
-    (rows-are (now (s .args .s)) (q .0) (c .before .before .before .rows .ensures), f .0, f .1, point-fits (now (s .args .s)) (q .0) (q .1), point-fits (now (s .args .s)) (q .0) (q .2), face-fits (now (s .args .s)) (q .0) (s .args .f) (c .corners .ensures))
+    let e = pierces-ends (now (s .args .s)) (s .args .u) (s .args .v) (s .args .f) h in
+    ((rows-are (now (s .args .s)) (q .0) (c .before .before .before .rows .ensures), f .0, f .1, point-fits (now (s .args .s)) (q .0) (q .1), point-fits (now (s .args .s)) (q .0) (q .2), face-fits (now (s .args .s)) (q .0) (s .args .f) (c .corners .ensures)), (weighted-are (now (s .args .s)) (q .0) (c .before .points-of .ensures) (c .before .before .before .rows .ensures), ends-beside (now (s .args .s)) (q .0) e (c .before .points-of .ensures) (c .corners .ensures)))
 
 returns-2 : tie.Need-returns-2
 unfolding piercesOf

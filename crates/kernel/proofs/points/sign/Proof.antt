@@ -2,12 +2,12 @@ use mathlib.Core.Path.{_≡_}
 use Rattle.judge.specs.declared.Judged.the-variants.{Accepted}
 use Rattle.kernel.specs.Answers.{signFault}
 use Rattle.kernel.specs.Laws.{accepted-so, answered-when}
-use Rattle.kernel.specs.Ready.{rows-fit, rows-are, point-fits, sign-is}
+use Rattle.kernel.specs.Ready.{rows-fit, rows-are, point-fits, four-are, sign-is}
 use denote.Ref.{now}
 use Rattle.kernel.specs.declared.points.Signed.the-variants.{Refused}
 use Rattle.kernel.specs.Answers.{signOf}
 use Rattle.kernel.specs.Laws.{refused-so}
-use Rattle.kernel.specs.Asked.{sign-asked}
+use Rattle.kernel.specs.Asked.{sign-asked, sign-four}
 use borrow.Author.Needs.{needs}
 use Rattle.kernel.proofs.points.sign.Statement.{statement}
 use Rattle.kernel.proofs.points.sign.Tie as tie
@@ -44,7 +44,8 @@ positive-at-requires c κs =
     let s = c .before .before .before .before .before .before .before .before in
     let h : signFault (now (s .args .s)) (s .args .a) (s .args .b) (s .args .c) (s .args .d) ≡ Accepted = search accepted-so in
     let q = sign-asked (now (s .args .s)) (s .args .a) (s .args .b) (s .args .c) (s .args .d) h in
-    (rows-are (now (s .args .s)) (q .0) (c .before .before .before .rows .ensures), point-fits (now (s .args .s)) (q .0) (q .1), point-fits (now (s .args .s)) (q .0) (q .2), point-fits (now (s .args .s)) (q .0) (q .3), point-fits (now (s .args .s)) (q .0) (q .4))
+    let f = sign-four (now (s .args .s)) (s .args .a) (s .args .b) (s .args .c) (s .args .d) h in
+    ((rows-are (now (s .args .s)) (q .0) (c .before .before .before .rows .ensures), point-fits (now (s .args .s)) (q .0) (q .1), point-fits (now (s .args .s)) (q .0) (q .2), point-fits (now (s .args .s)) (q .0) (q .3), point-fits (now (s .args .s)) (q .0) (q .4)), four-are (now (s .args .s)) (q .0) (c .before .before .before .rows .ensures) f)
 
 returns-2 : tie.Need-returns-2
 unfolding signOf

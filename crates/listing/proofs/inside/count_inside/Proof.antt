@@ -1,7 +1,7 @@
 -- What is counted, and the count of the rest, equal the whole.
 use native.Mathlib.Omega.{arith}
 use Rattle.laws.specs.Range.{count-one, count-none}
-use Prim.Native.Nat.{_+_, _-_, _≤_}
+use Prim.Native.Nat.{_+_, _-_, _≤_, _<_}
 use mathlib.Core.Path.{_≡_}
 use Rattle.laws.specs.Range.{countOf, loops}
 use mathlib.Core.Logic.{⊎-elim}
@@ -10,7 +10,7 @@ use Rattle.listing.proofs.inside.count_inside.Statement.{statement}
 use Rattle.listing.proofs.inside.count_inside.Tie as tie
 
 abbrev Inv-loop : tie.InvT-loop
-Inv-loop rows corners n k e c₀ u₀ c u = (c + countOf (isInside (viewIn n rows corners) k) u e ≡ countOf (isInside (viewIn n rows corners) k) (k .low + 1) (k .low + 1 + k .verts)) × (c ≤ u)
+Inv-loop rows corners n k e c₀ u₀ c u = (c + countOf (isInside (viewIn n rows corners) k) u e ≡ countOf (isInside (viewIn n rows corners) k) (k .low + 1) (k .low + 1 + k .verts)) × (c ≤ u) × (k .low < u)
 
 abbrev μ-loop : tie.MeasureT-loop
 μ-loop rows corners n k e c₀ u₀ c u = e - u
@@ -43,8 +43,8 @@ loop-again : tie.Need-loop-again Inv-loop μ-loop
 loop-again c =
     let l = c .before .before .before in
     let i = c .before .before in
-    ⊎-elim (λ w. (count-one _ _ _ _ (l .loop .inv .0) (i .loop-test .taken) (c .before .is-inside .ensures) (w .0 .taken) (w .1), omega arith))
-    (λ w. (count-none _ _ _ _ (l .loop .inv .0) (i .loop-test .taken) (c .before .is-inside .ensures) (w .0 .left) (w .1), omega arith)) (c .if1 .came)
+    ⊎-elim (λ w. (count-one _ _ _ _ (l .loop .inv .0) (i .loop-test .taken) (c .before .is-inside .ensures) (w .0 .taken) (w .1), omega arith, omega arith))
+    (λ w. (count-none _ _ _ _ (l .loop .inv .0) (i .loop-test .taken) (c .before .is-inside .ensures) (w .0 .left) (w .1), omega arith, omega arith)) (c .if1 .came)
 
 returns : tie.Need-returns Inv-loop μ-loop
 unfolding insideCount

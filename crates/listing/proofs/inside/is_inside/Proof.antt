@@ -5,7 +5,7 @@ use Rattle.listing.proofs.inside.is_inside.Statement.{statement}
 use Rattle.listing.proofs.inside.is_inside.Tie as tie
 
 enclosed-requires : tie.Need-enclosed-requires
-enclosed-requires c κs = search needs
+enclosed-requires c κs = let p = c .pre in (search needs, (search needs, (search needs, (p .0 .weighted, p .0 .outward _ (p .1)))))
 
 returns : tie.Need-returns
 unfolding isInside

@@ -1,5 +1,5 @@
 -- The lowest of the rest is the lowest of the whole.
-use Prim.Native.Nat.{_+_, _-_, _≤_}
+use Prim.Native.Nat.{_+_, _-_, _≤_, _<_}
 use mathlib.Core.Path.{_≡_}
 use Rattle.laws.specs.Range.{lowestOf, loops}
 use Rattle.listing.specs.Hits.{viewIn, isInside, lowestInside}
@@ -7,7 +7,7 @@ use Rattle.listing.proofs.inside.lowest_inside.Statement.{statement}
 use Rattle.listing.proofs.inside.lowest_inside.Tie as tie
 
 abbrev Inv-loop : tie.InvT-loop
-Inv-loop rows corners n k e u₀ u = lowestOf (isInside (viewIn n rows corners) k) u e ≡ lowestInside (viewIn n rows corners) k
+Inv-loop rows corners n k e u₀ u = (lowestOf (isInside (viewIn n rows corners) k) u e ≡ lowestInside (viewIn n rows corners) k) × (k .low < u)
 
 abbrev μ-loop : tie.MeasureT-loop
 μ-loop rows corners n k e u₀ u = e - u
