@@ -5,7 +5,8 @@
 
 The scenes stand in one file of entries: two bytes of length, low byte first, then the scene's
 bytes.  For each scene the print is its report and, where the scene is accepted, the answers to
-the questions below, one after the other, as `ask` prints them.
+the questions below, one after the other, as `ask` prints them; all of it twice, since the kernel
+is asked by both of its engines.
 """
 
 import random
@@ -31,7 +32,7 @@ REFUSED_KINDS = (
 # How many scenes of each kind; `largest` has every count at its limit.
 QUOTAS = {"verdict cross": 160, "verdict apart": 110, "verdict a-in-b": 90, "verdict b-in-a": 90,
           "largest": 3, **dict.fromkeys(REFUSED_KINDS, 12), "refused 3 longest": 4}
-LONG_LISTING = 500
+LONG_LISTING = 1000
 
 
 def questions(n, data):
@@ -60,7 +61,7 @@ def print_of(n, data):
     if not isinstance(scene, Refused):
         for question in questions(n, data):
             lines += ask(scene, [str(word) for word in question])
-    return "".join(line + "\n" for line in lines)
+    return 2 * "".join(line + "\n" for line in lines)
 
 
 def packed(scenes):

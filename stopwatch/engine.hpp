@@ -160,7 +160,9 @@ inline bool positive(const Scene& s, int a, int b, int c, int d) {
   return t > 0;
 }
 
-// ---- piercing: formula (13), A(u) and A(v) first
+// ---- piercing, A(u) and A(v) first: by five signs, or with FORMULA defined by formula (13), as the kernel's two engines
+
+#ifdef FORMULA
 
 inline bool sideCounts(const Scene& s, int u, int v, int from, int to, bool hFrom, bool hTo) {
   return hFrom != hTo && hFrom != positive(s, u, v, from, to);
@@ -173,17 +175,24 @@ inline bool pierces(const Scene& s, int u, int v, const Face& f) {
   bool hp = positive(s, u, v, h, f.p), hq = positive(s, u, v, h, f.q), hr = positive(s, u, v, h, f.r);
   return sideCounts(s, u, v, f.p, f.q, hp, hq) ^ sideCounts(s, u, v, f.q, f.r, hq, hr) ^ sideCounts(s, u, v, f.r, f.p, hr, hp);
 }
+#else
+inline bool pierces(const Scene& s, int u, int v, const Face& f) {
+  if (positive(s, f.p, f.q, f.r, u) == positive(s, f.p, f.q, f.r, v)) return false;
+  bool pq = positive(s, u, v, f.p, f.q);
+  return pq == positive(s, u, v, f.q, f.r) && pq == positive(s, u, v, f.r, f.p);
+}
+#endif
 
 // ---- the questions to an accepted scene
 
 // A solid's edges: bit j - 1 - low of word i for the edge from i to the higher j.
 struct Edges {
-  std::uint32_t to[mostPoints + 1] = {};
+  std::uint64_t to[mostPoints + 1] = {};
 };
 
 inline Edges edgesOf(const Scene& s, int k) {
   Edges e;
-  auto put = [&](int i, int j) { (i < j ? e.to[i] |= 1u << (j - 1 - s.low[k]) : e.to[j] |= 1u << (i - 1 - s.low[k])); };
+  auto put = [&](int i, int j) { (i < j ? e.to[i] |= std::uint64_t(1) << (j - 1 - s.low[k]) : e.to[j] |= std::uint64_t(1) << (i - 1 - s.low[k])); };
   for (int i = 0; i < s.faces[k]; i++) {
     const Face& f = s.face[k][i];
     put(f.p, f.q);

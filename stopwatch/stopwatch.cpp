@@ -30,7 +30,7 @@ struct Solid {
 enum Kind { overlapping, apart, nested, touching, flat, kinds };
 const char* const nameOf[kinds] = {"overlapping", "apart", "nested", "touching", "flat"};
 
-const int sizes[] = {4, 8, 16, 32};
+const int sizes[] = {4, 8, 16, 32, 48};
 const int seeds = 5;
 
 // Rings of as many vertices each between two poles: n vertices and 2n - 4 faces; of 4 vertices, a tetrahedron.

@@ -1,6 +1,7 @@
 // The question on the command line.
 ghost use Prim.Native.Nat.{_<_};
 use check::same;
+use engine::Engine;
 
 pub enum Asked {
     Unknown,
@@ -57,9 +58,21 @@ fn number_in(word: &[u8]) -> Number {
     Number::Is(n)
 }
 
-fn number_at(i: usize) -> Number {
+// Where word i of the question stands: behind `--formula`, where that is the first.
+fn place(engine: Engine, i: usize) -> usize
+    requires { ⌜ i < 10 ⌝ }
+{
+    match engine {
+        Engine::Plain => i,
+        Engine::Formula => i + 1,
+    }
+}
+
+fn number_at(engine: Engine, i: usize) -> Number
+    requires { ⌜ i < 10 ⌝ }
+{
     let mut word = [0u8; WORD];
-    let n = os::arg(i, &mut word);
+    let n = os::arg(place(engine, i), &mut word);
     if os::errno() != 0 {
         return Number::None;
     }
@@ -85,8 +98,8 @@ fn without_number(word: &[u8]) -> Asked {
     Asked::Unknown
 }
 
-fn with_one(word: &[u8]) -> Asked {
-    let Number::Is(n) = number_at(2) else {
+fn with_one(engine: Engine, word: &[u8]) -> Asked {
+    let Number::Is(n) = number_at(engine, 2) else {
         return Asked::Unknown;
     };
     if same(word, b"enclosed") {
@@ -101,14 +114,14 @@ fn with_one(word: &[u8]) -> Asked {
     Asked::Unknown
 }
 
-fn with_three(word: &[u8]) -> Asked {
-    let Number::Is(u) = number_at(2) else {
+fn with_three(engine: Engine, word: &[u8]) -> Asked {
+    let Number::Is(u) = number_at(engine, 2) else {
         return Asked::Unknown;
     };
-    let Number::Is(v) = number_at(3) else {
+    let Number::Is(v) = number_at(engine, 3) else {
         return Asked::Unknown;
     };
-    let Number::Is(k) = number_at(4) else {
+    let Number::Is(k) = number_at(engine, 4) else {
         return Asked::Unknown;
     };
     if same(word, b"pierces") {
@@ -120,17 +133,17 @@ fn with_three(word: &[u8]) -> Asked {
     Asked::Unknown
 }
 
-fn with_four(word: &[u8]) -> Asked {
-    let Number::Is(a) = number_at(2) else {
+fn with_four(engine: Engine, word: &[u8]) -> Asked {
+    let Number::Is(a) = number_at(engine, 2) else {
         return Asked::Unknown;
     };
-    let Number::Is(b) = number_at(3) else {
+    let Number::Is(b) = number_at(engine, 3) else {
         return Asked::Unknown;
     };
-    let Number::Is(c) = number_at(4) else {
+    let Number::Is(c) = number_at(engine, 4) else {
         return Asked::Unknown;
     };
-    let Number::Is(d) = number_at(5) else {
+    let Number::Is(d) = number_at(engine, 5) else {
         return Asked::Unknown;
     };
     if same(word, b"sign") {
@@ -140,21 +153,37 @@ fn with_four(word: &[u8]) -> Asked {
 }
 
 // The question, of `count` words with the program's own.
-fn asked_by(count: usize, word: &[u8]) -> Asked {
-    match count {
-        2 => without_number(word),
-        3 => with_one(word),
-        5 => with_three(word),
-        6 => with_four(word),
-        _ => Asked::Unknown,
+fn asked_by(engine: Engine, count: usize, word: &[u8]) -> Asked {
+    if count == place(engine, 2) {
+        return without_number(word);
     }
+    if count == place(engine, 3) {
+        return with_one(engine, word);
+    }
+    if count == place(engine, 5) {
+        return with_three(engine, word);
+    }
+    if count == place(engine, 6) {
+        return with_four(engine, word);
+    }
+    Asked::Unknown
 }
 
-pub fn question() -> Asked {
+// The engine that is asked: that of the formula where the first word says so.
+pub fn engine_asked() -> Engine {
     let mut word = [0u8; 16];
     let n = os::arg(1, &mut word);
+    if same(&word[..n], b"--formula") {
+        return Engine::Formula;
+    }
+    Engine::Plain
+}
+
+pub fn question(engine: Engine) -> Asked {
+    let mut word = [0u8; 16];
+    let n = os::arg(place(engine, 1), &mut word);
     if os::errno() != 0 {
         return Asked::Unknown;
     }
-    asked_by(os::arg_count(), &word[..n])
+    asked_by(engine, os::arg_count(), &word[..n])
 }

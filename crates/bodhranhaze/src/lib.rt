@@ -1,9 +1,10 @@
-// The questions to a scene, for C: numbers for the answers, and 0 where a refused scene has none. include/bodhranhaze.h declares them and says what the
-// caller must keep.
+// The questions to a scene, for C, asked of the plain engine: numbers for the answers, and 0 where a refused scene has none. include/bodhranhaze.h
+// declares them and says what the caller must keep.
 ghost use mathlib.Core.Path.{_≡_};
 ghost use Rattle.judge.specs.Judge.{judged};
 ghost use Rattle.kernel.specs.Answers.{verdictNumber, verdictOf};
 ghost use Rattle.bodhranhaze.specs.Calls.{refusalNumber, refusalPlace, pairsOf, insideOf, IsListing};
+use engine::Engine;
 use judge::Judged;
 use kernel::inside::Enclosing;
 use kernel::lists::Listed;
@@ -38,7 +39,7 @@ pub extern "C" fn bodhranhaze_place(s: &[u8]) -> usize
 pub extern "C" fn bodhranhaze_verdict(s: &[u8]) -> usize
     ensures { λ r. ⌜ r ≡ verdictNumber (verdictOf (now (s .entry))) ⌝ }
 {
-    let v = kernel::verdict::verdict_of(s);
+    let v = kernel::verdict::verdict_of(Engine::Plain, s);
     match v {
         Verdict::Cross(_, _, _) => 0,
         Verdict::AInB(_) => 1,
@@ -54,7 +55,7 @@ pub extern "C" fn bodhranhaze_pairs(s: &[u8]) -> usize
     ensures { λ r. ⌜ r ≡ pairsOf (now (s .entry)) ⌝ }
 {
     let mut none = [0u16; 1];
-    let l = kernel::lists::listing_part(s, 0, &mut none);
+    let l = kernel::lists::listing_part(Engine::Plain, s, 0, &mut none);
     match l {
         Listed::Count(n) => n,
         Listed::Refused(_) => 0,
@@ -66,7 +67,7 @@ pub extern "C" fn bodhranhaze_pairs(s: &[u8]) -> usize
 pub extern "C" fn bodhranhaze_inside(s: &[u8], solid: usize) -> usize
     ensures { λ r. ⌜ r ≡ insideOf (now (s .entry)) solid ⌝ }
 {
-    let e = kernel::inside::inside(s, solid);
+    let e = kernel::inside::inside(Engine::Plain, s, solid);
     match e {
         Enclosing::Count(n) => n,
         Enclosing::Refused(_) => 0,
@@ -78,7 +79,7 @@ pub extern "C" fn bodhranhaze_inside(s: &[u8], solid: usize) -> usize
 pub extern "C" fn bodhranhaze_listing(s: &[u8], list: &mut [u16]) -> usize
     ensures { λ r. ⌜ IsListing (now (s .entry)) (now (list .entry)) (now (list .exit)) r ⌝ }
 {
-    if let Listed::Count(n) = kernel::lists::listing(s, list) {
+    if let Listed::Count(n) = kernel::lists::listing(Engine::Plain, s, list) {
         return n;
     }
     bodhranhaze_pairs(s)

@@ -10,6 +10,7 @@ pub mod Marked
 pub mod Witnesses
 pub mod Shift
 pub mod Kept
+pub mod Engines
 pub mod AnswersTests
 pub mod AnswersProof
 pub mod AnswersGivenProof
@@ -26,3 +27,4 @@ pub mod WitnessesProof
 pub mod Same
 pub mod ShiftProof
 pub mod KeptProof
+pub mod EnginesProof

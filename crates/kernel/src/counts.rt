@@ -6,6 +6,7 @@ ghost use Rattle.kernel.specs.Answers.{countsIn, countedOf};
 use crate::points_of;
 use crate::solid_a;
 use crate::solid_b;
+use engine::Engine;
 use judge::Judged;
 use listing::count::count_solid;
 use listing::inside::count_inside;
@@ -24,7 +25,7 @@ pub enum Counted {
 }
 
 // Of an accepted scene.
-fn counts_of(s: &[u8]) -> Counts
+fn counts_of(engine: Engine, s: &[u8]) -> Counts
     requires { ⌜ judged (now s) ≡ Accepted ⌝ }
     ensures { λ r. ⌜ r ≡ countsIn (now (s .entry)) ⌝ }
 {
@@ -34,17 +35,18 @@ fn counts_of(s: &[u8]) -> Counts
     let a = solid_a(s);
     let b = solid_b(s);
     Counts {
-        pairs: count_solid(&rows, &corners, n, a) + count_solid(&rows, &corners, n, b),
-        a_in_b: count_inside(&rows, &corners, n, a),
-        b_in_a: count_inside(&rows, &corners, n, b),
+        pairs: count_solid(engine, &rows, &corners, n, a)
+            + count_solid(engine, &rows, &corners, n, b),
+        a_in_b: count_inside(engine, &rows, &corners, n, a),
+        b_in_a: count_inside(engine, &rows, &corners, n, b),
     }
 }
 
-pub fn count(s: &[u8]) -> Counted
+pub fn count(engine: Engine, s: &[u8]) -> Counted
     ensures { λ r. ⌜ r ≡ countedOf (now (s .entry)) ⌝ }
 {
     if let Judged::Refused(r) = judge::judge(s) {
         return Counted::Refused(r);
     }
-    Counted::Counts(counts_of(s))
+    Counted::Counts(counts_of(engine, s))
 }

@@ -7,6 +7,7 @@ use crate::masks::is_solid;
 use crate::points_of;
 use crate::solid_a;
 use crate::solid_b;
+use engine::Engine;
 use judge::Judged;
 use listing::inside::count_inside;
 use scene::Refusal;
@@ -30,7 +31,7 @@ fn inside_fault(s: &[u8], k: usize) -> Judged
 }
 
 // Of an accepted scene.
-fn inside_of(s: &[u8], k: usize) -> usize
+fn inside_of(engine: Engine, s: &[u8], k: usize) -> usize
     requires { ⌜ judged (now s) ≡ Accepted ⌝ }
     ensures { λ r. ⌜ r ≡ insideIn (now (s .entry)) k ⌝ }
 {
@@ -38,17 +39,17 @@ fn inside_of(s: &[u8], k: usize) -> usize
     let corners = decode::faces(s);
     let n = points_of(s);
     if k == 1 {
-        return count_inside(&rows, &corners, n, solid_a(s));
+        return count_inside(engine, &rows, &corners, n, solid_a(s));
     }
-    count_inside(&rows, &corners, n, solid_b(s))
+    count_inside(engine, &rows, &corners, n, solid_b(s))
 }
 
 // Of solid k, 1 for A and 2 for B.
-pub fn inside(s: &[u8], k: usize) -> Enclosing
+pub fn inside(engine: Engine, s: &[u8], k: usize) -> Enclosing
     ensures { λ r. ⌜ r ≡ insideOf (now (s .entry)) k ⌝ }
 {
     if let Judged::Refused(r) = inside_fault(s, k) {
         return Enclosing::Refused(r);
     }
-    Enclosing::Count(inside_of(s, k))
+    Enclosing::Count(inside_of(engine, s, k))
 }

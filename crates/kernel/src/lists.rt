@@ -11,6 +11,7 @@ ghost use Rattle.kernel.specs.Answers.{IsListed, IsPart};
 use crate::points_of;
 use crate::solid_a;
 use crate::solid_b;
+use engine::Engine;
 use judge::Judged;
 use listing::pour::pour_solid;
 use scene::Refusal;
@@ -30,15 +31,15 @@ const MOST_PAIRS: usize = 2 * Scene::MOST_FACES * Scene::MOST_FACES;
 const ROOM: usize = 3 * MOST_PAIRS;
 
 // The pairs of an accepted scene from the one numbered `from` on, as far as there is room; how many there are in all.
-fn pour(s: &[u8], from: usize, out: &mut [u16]) -> usize
+fn pour(engine: Engine, s: &[u8], from: usize, out: &mut [u16]) -> usize
     requires { ⌜ judged (now s) ≡ Accepted ⌝ }
     ensures { λ r. ⌜ Pours (listingOf (now (s .entry))) from 0 (now (out .entry)) (now (out .exit)) r ⌝ }
 {
     let rows = decode::rows(s);
     let corners = decode::faces(s);
     let n = points_of(s);
-    let c = pour_solid(&rows, &corners, n, solid_a(s), from, 0, out);
-    pour_solid(&rows, &corners, n, solid_b(s), from, c, out)
+    let c = pour_solid(engine, &rows, &corners, n, solid_a(s), from, 0, out);
+    pour_solid(engine, &rows, &corners, n, solid_b(s), from, c, out)
 }
 
 // out with all of `from` at its front.
@@ -54,19 +55,19 @@ fn copy_in(from: &[u16], out: &mut [u16])
 }
 
 // The whole listing, or refusal 10 with the count. It is poured into a list of its own first, so that a refusal leaves the lent one as it is.
-pub fn listing(s: &[u8], out: &mut [u16]) -> Listed
+pub fn listing(engine: Engine, s: &[u8], out: &mut [u16]) -> Listed
     ensures { λ r. ⌜ IsListed (now (s .entry)) (now (out .entry)) (now (out .exit)) r ⌝ }
 {
     if let Judged::Refused(r) = judge::judge(s) {
         return Listed::Refused(r);
     }
     let mut own = [0u16; ROOM];
-    let n = pour(s, 0, &mut own);
+    let n = pour(engine, s, 0, &mut own);
     if n > out.len() / 3 {
         return Listed::Refused(Refusal::Room(n));
     }
     if n > MOST_PAIRS {
-        pour(s, 0, out);
+        pour(engine, s, 0, out);
         return Listed::Count(n);
     }
     copy_in(&own[..3 * n], out);
@@ -75,11 +76,11 @@ pub fn listing(s: &[u8], out: &mut [u16]) -> Listed
 
 // The part of the listing from the pair numbered `from` on (from 0) for which the lent list has room; the answer counts the whole. A program
 // prints a listing longer than its buffer part by part.
-pub fn listing_part(s: &[u8], from: usize, out: &mut [u16]) -> Listed
+pub fn listing_part(engine: Engine, s: &[u8], from: usize, out: &mut [u16]) -> Listed
     ensures { λ r. ⌜ IsPart (now (s .entry)) from (now (out .entry)) (now (out .exit)) r ⌝ }
 {
     if let Judged::Refused(r) = judge::judge(s) {
         return Listed::Refused(r);
     }
-    Listed::Count(pour(s, from, out))
+    Listed::Count(pour(engine, s, from, out))
 }

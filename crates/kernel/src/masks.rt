@@ -8,6 +8,7 @@ ghost use Rattle.kernel.specs.Asked.{Outside};
 use crate::points::Answer;
 use crate::points::is_point;
 use crate::points_of;
+use engine::Engine;
 use judge::Judged;
 use pierce::faces;
 use pierce::faces::Mask;
@@ -93,26 +94,35 @@ fn mask_fault(s: &[u8], u: usize, v: usize, k: usize) -> Judged
 }
 
 // The mask of u, v against the solid k of an accepted scene.
-fn mask_of(s: &[u8], u: usize, v: usize, k: usize) -> Mask
+fn mask_of(engine: Engine, s: &[u8], u: usize, v: usize, k: usize) -> Mask
     requires { ⌜ (judged (now s) ≡ Accepted) × Outside (now s) u v k ⌝ }
     ensures { λ r. ⌜ valueOf r ≡ maskIn (now (s .entry)) u v k ⌝ }
 {
     let rows = decode::rows(s);
     let corners = decode::faces(s);
     if k == 1 {
-        return pierce::mask(&rows, &corners, points_of(s), u, v, 0, byte(s, 3));
+        return engine::mask(engine, &rows, &corners, points_of(s), u, v, 0, byte(s, 3));
     }
-    pierce::mask(&rows, &corners, points_of(s), u, v, byte(s, 3), byte(s, 5))
+    engine::mask(
+        engine,
+        &rows,
+        &corners,
+        points_of(s),
+        u,
+        v,
+        byte(s, 3),
+        byte(s, 5),
+    )
 }
 
 // The mask of u, v against solid k, with the number of its ones.
-pub fn mask(s: &[u8], u: usize, v: usize, k: usize) -> Masked
+pub fn mask(engine: Engine, s: &[u8], u: usize, v: usize, k: usize) -> Masked
     ensures { λ r. ⌜ saidMask r ≡ maskedOf (now (s .entry)) u v k ⌝ }
 {
     if let Judged::Refused(r) = mask_fault(s, u, v, k) {
         return Masked::Refused(r);
     }
-    let m = mask_of(s, u, v, k);
+    let m = mask_of(engine, s, u, v, k);
     Masked::Faces(m, faces::ones(m))
 }
 
@@ -139,13 +149,13 @@ fn other_solid(s: &[u8], i: usize) -> usize
 }
 
 // Whether the vertex with point number i is enclosed by the other solid.
-pub fn enclosed(s: &[u8], i: usize) -> Answer
+pub fn enclosed(engine: Engine, s: &[u8], i: usize) -> Answer
     ensures { λ r. ⌜ r ≡ enclosedOf (now (s .entry)) i ⌝ }
 {
     if let Judged::Refused(r) = enclosed_fault(s, i) {
         return Answer::Refused(r);
     }
-    if faces::is_odd(mask_of(s, i, points_of(s), other_solid(s, i))) {
+    if faces::is_odd(mask_of(engine, s, i, points_of(s), other_solid(s, i))) {
         return Answer::Yes;
     }
     Answer::No

@@ -6,6 +6,7 @@ ghost use Rattle.judge.specs.Judge.{judged};
 ghost use Rattle.judge.specs.declared.Judged.the-variants.{Accepted};
 ghost use Rattle.kernel.specs.Answers.{isPoint, isFace, arePoints, differ, signFault, signOf, clear, edgeAndFace, piercesFault, piercesOf};
 use crate::points_of;
+use engine::Engine;
 use judge::Judged;
 use orient::Terms;
 use scene::Face;
@@ -154,14 +155,14 @@ fn pierces_fault(s: &[u8], u: usize, v: usize, f: usize) -> Judged
 }
 
 // Whether the edge from u to v pierces face f.
-pub fn pierces(s: &[u8], u: usize, v: usize, f: usize) -> Answer
+pub fn pierces(engine: Engine, s: &[u8], u: usize, v: usize, f: usize) -> Answer
     ensures { λ r. ⌜ r ≡ piercesOf (now (s .entry)) u v f ⌝ }
 {
     if let Judged::Refused(r) = pierces_fault(s, u, v, f) {
         return Answer::Refused(r);
     }
     let rows = decode::rows(s);
-    if pierce::pierces(&rows, points_of(s), u, v, corners(s, f)) {
+    if engine::pierces(engine, &rows, points_of(s), u, v, corners(s, f)) {
         return Answer::Yes;
     }
     Answer::No

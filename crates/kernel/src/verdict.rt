@@ -8,6 +8,7 @@ ghost use Rattle.kernel.specs.Answers.{enclosing, verdictIn, verdictOf};
 use crate::points_of;
 use crate::solid_a;
 use crate::solid_b;
+use engine::Engine;
 use judge::Judged;
 use listing::find::Found;
 use listing::find::find_solid;
@@ -27,16 +28,16 @@ pub enum Verdict {
 }
 
 // Of an accepted scene in whose decoded form nothing pierces.
-fn enclosing(s: &[u8], rows: &Rows, corners: &Corners) -> Verdict
+fn enclosing(engine: Engine, s: &[u8], rows: &Rows, corners: &Corners) -> Verdict
     requires { ⌜ (judged (now s) ≡ Accepted) × (rowIn (now rows) ≡ row (tablesOf (now s))) × (faceIn (now corners) ≡ face (tablesOf (now s))) ⌝ }
     ensures { λ r. ⌜ r ≡ enclosing (now (s .entry)) ⌝ }
 {
     let n = points_of(s);
-    let p = lowest_inside(rows, corners, n, solid_a(s));
+    let p = lowest_inside(engine, rows, corners, n, solid_a(s));
     if p <= byte(s, 2) {
         return Verdict::AInB(p);
     }
-    let q = lowest_inside(rows, corners, n, solid_b(s));
+    let q = lowest_inside(engine, rows, corners, n, solid_b(s));
     if q <= byte(s, 2) + byte(s, 4) {
         return Verdict::BInA(q);
     }
@@ -44,7 +45,7 @@ fn enclosing(s: &[u8], rows: &Rows, corners: &Corners) -> Verdict
 }
 
 // Of an accepted scene.
-fn decide(s: &[u8]) -> Verdict
+fn decide(engine: Engine, s: &[u8]) -> Verdict
     requires { ⌜ judged (now s) ≡ Accepted ⌝ }
     ensures { λ r. ⌜ r ≡ verdictIn (now (s .entry)) ⌝ }
 {
@@ -53,20 +54,20 @@ fn decide(s: &[u8]) -> Verdict
     let n = points_of(s);
     let a = solid_a(s);
     let b = solid_b(s);
-    if let Found::Pair(u, v, f) = find_solid(&rows, &corners, n, a) {
+    if let Found::Pair(u, v, f) = find_solid(engine, &rows, &corners, n, a) {
         return Verdict::Cross(u, v, f);
     }
-    if let Found::Pair(u, v, f) = find_solid(&rows, &corners, n, b) {
+    if let Found::Pair(u, v, f) = find_solid(engine, &rows, &corners, n, b) {
         return Verdict::Cross(u, v, f);
     }
-    enclosing(s, &rows, &corners)
+    enclosing(engine, s, &rows, &corners)
 }
 
-pub fn verdict_of(s: &[u8]) -> Verdict
+pub fn verdict_of(engine: Engine, s: &[u8]) -> Verdict
     ensures { λ r. ⌜ r ≡ verdictOf (now (s .entry)) ⌝ }
 {
     if let Judged::Refused(r) = judge::judge(s) {
         return Verdict::Refused(r);
     }
-    decide(s)
+    decide(engine, s)
 }

@@ -6,12 +6,14 @@ ghost use Rattle.scene.specs.Faces.{Vertex};
 ghost use Rattle.listing.specs.Hits.{viewIn, Sound, pairHits, vertexHits, solidHits};
 use crate::edge_mask;
 use edges::Solid;
+use engine::Engine;
 use pierce::faces;
 use scene::Corners;
 use scene::Rows;
 
 // Of u and v, where some face has both as corners, and u is the lower.
 fn count_pair(
+    engine: Engine,
     rows: &Rows,
     corners: &Corners,
     n: usize,
@@ -29,11 +31,18 @@ fn count_pair(
     if v <= u {
         return 0;
     }
-    faces::ones(edge_mask(rows, corners, n, k, u, v))
+    faces::ones(edge_mask(engine, rows, corners, n, k, u, v))
 }
 
 // Of the edges from u on.
-fn count_vertex(rows: &Rows, corners: &Corners, n: usize, k: Solid, u: usize) -> usize
+fn count_vertex(
+    engine: Engine,
+    rows: &Rows,
+    corners: &Corners,
+    n: usize,
+    k: Solid,
+    u: usize,
+) -> usize
     requires { ⌜ Sound (viewIn n (now rows) (now corners)) k × Vertex (k .low) (k .low + k .verts) u ⌝ }
     ensures { λ r. ⌜ r ≡ length (vertexHits (viewIn n (now (rows .entry)) (now (corners .entry))) k u) ⌝ }
 {
@@ -43,7 +52,7 @@ fn count_vertex(rows: &Rows, corners: &Corners, n: usize, k: Solid, u: usize) ->
     let mut c: usize = 0;
     let mut m: usize = 0;
     while m < verts {
-        c += count_pair(rows, corners, n, k, u, low + 1 + m, left % 2 == 1);
+        c += count_pair(engine, rows, corners, n, k, u, low + 1 + m, left % 2 == 1);
         left = left / 2;
         m += 1;
     }
@@ -51,7 +60,7 @@ fn count_vertex(rows: &Rows, corners: &Corners, n: usize, k: Solid, u: usize) ->
 }
 
 // Of the solid's edges with the other's faces.
-pub fn count_solid(rows: &Rows, corners: &Corners, n: usize, k: Solid) -> usize
+pub fn count_solid(engine: Engine, rows: &Rows, corners: &Corners, n: usize, k: Solid) -> usize
     requires { ⌜ Sound (viewIn n (now rows) (now corners)) k ⌝ }
     ensures { λ r. ⌜ r ≡ length (solidHits (viewIn n (now (rows .entry)) (now (corners .entry))) k) ⌝ }
 {
@@ -60,7 +69,7 @@ pub fn count_solid(rows: &Rows, corners: &Corners, n: usize, k: Solid) -> usize
     let mut c: usize = 0;
     let mut i: usize = 0;
     while i < verts {
-        c += count_vertex(rows, corners, n, k, low + 1 + i);
+        c += count_vertex(engine, rows, corners, n, k, low + 1 + i);
         i += 1;
     }
     c

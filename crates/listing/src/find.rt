@@ -6,6 +6,7 @@ ghost use Rattle.listing.specs.Hits.{viewIn, Sound, pairHits, vertexHits
 ghost use Rattle.listing.specs.First.{firstOf};
 use crate::edge_mask;
 use edges::Solid;
+use engine::Engine;
 use pierce::faces;
 use scene::Corners;
 use scene::Rows;
@@ -17,6 +18,7 @@ pub enum Found {
 }
 
 fn find_pair(
+    engine: Engine,
     rows: &Rows,
     corners: &Corners,
     n: usize,
@@ -34,14 +36,21 @@ fn find_pair(
     if v <= u {
         return Found::Nothing;
     }
-    let m = edge_mask(rows, corners, n, k, u, v);
+    let m = edge_mask(engine, rows, corners, n, k, u, v);
     if faces::has_face(m) {
         return Found::Pair(u, v, k.other + 1 + faces::first_face(m));
     }
     Found::Nothing
 }
 
-fn find_vertex(rows: &Rows, corners: &Corners, n: usize, k: Solid, u: usize) -> Found
+fn find_vertex(
+    engine: Engine,
+    rows: &Rows,
+    corners: &Corners,
+    n: usize,
+    k: Solid,
+    u: usize,
+) -> Found
     requires { ⌜ Sound (viewIn n (now rows) (now corners)) k × Vertex (k .low) (k .low + k .verts) u ⌝ }
     ensures { λ r. ⌜ r ≡ firstOf (vertexHits (viewIn n (now (rows .entry)) (now (corners .entry))) k u) ⌝ }
 {
@@ -51,7 +60,7 @@ fn find_vertex(rows: &Rows, corners: &Corners, n: usize, k: Solid, u: usize) -> 
     let mut m: usize = 0;
     while m < verts {
         let both = left % 2 == 1;
-        if let Found::Pair(a, b, f) = find_pair(rows, corners, n, k, u, low + 1 + m, both) {
+        if let Found::Pair(a, b, f) = find_pair(engine, rows, corners, n, k, u, low + 1 + m, both) {
             return Found::Pair(a, b, f);
         }
         left = left / 2;
@@ -60,7 +69,7 @@ fn find_vertex(rows: &Rows, corners: &Corners, n: usize, k: Solid, u: usize) -> 
     Found::Nothing
 }
 
-pub fn find_solid(rows: &Rows, corners: &Corners, n: usize, k: Solid) -> Found
+pub fn find_solid(engine: Engine, rows: &Rows, corners: &Corners, n: usize, k: Solid) -> Found
     requires { ⌜ Sound (viewIn n (now rows) (now corners)) k ⌝ }
     ensures { λ r. ⌜ r ≡ firstOf (solidHits (viewIn n (now (rows .entry)) (now (corners .entry))) k) ⌝ }
 {
@@ -68,7 +77,7 @@ pub fn find_solid(rows: &Rows, corners: &Corners, n: usize, k: Solid) -> Found
     let verts = k.verts;
     let mut i: usize = 0;
     while i < verts {
-        if let Found::Pair(a, b, f) = find_vertex(rows, corners, n, k, low + 1 + i) {
+        if let Found::Pair(a, b, f) = find_vertex(engine, rows, corners, n, k, low + 1 + i) {
             return Found::Pair(a, b, f);
         }
         i += 1;

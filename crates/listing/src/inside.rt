@@ -5,17 +5,18 @@ ghost use Rattle.laws.specs.Range.{countOf, lowestOf};
 ghost use Rattle.scene.specs.Faces.{Vertex};
 ghost use Rattle.listing.specs.Hits.{viewIn, Sound, isInside, insideCount, lowestInside};
 use edges::Solid;
+use engine::Engine;
 use scene::Corners;
 use scene::Rows;
 
-fn is_inside(rows: &Rows, corners: &Corners, n: usize, k: Solid, u: usize) -> bool
+fn is_inside(engine: Engine, rows: &Rows, corners: &Corners, n: usize, k: Solid, u: usize) -> bool
     requires { ⌜ Sound (viewIn n (now rows) (now corners)) k × Vertex (k .low) (k .low + k .verts) u ⌝ }
     ensures { λ r. ⌜ r ≡ isInside (viewIn n (now (rows .entry)) (now (corners .entry))) k u ⌝ }
 {
-    pierce::enclosed(rows, corners, n, u, k.other, k.others)
+    engine::enclosed(engine, rows, corners, n, u, k.other, k.others)
 }
 
-pub fn count_inside(rows: &Rows, corners: &Corners, n: usize, k: Solid) -> usize
+pub fn count_inside(engine: Engine, rows: &Rows, corners: &Corners, n: usize, k: Solid) -> usize
     requires { ⌜ Sound (viewIn n (now rows) (now corners)) k ⌝ }
     ensures { λ r. ⌜ r ≡ insideCount (viewIn n (now (rows .entry)) (now (corners .entry))) k ⌝ }
 {
@@ -23,7 +24,7 @@ pub fn count_inside(rows: &Rows, corners: &Corners, n: usize, k: Solid) -> usize
     let mut c: usize = 0;
     let mut u = k.low + 1;
     while u < e {
-        if is_inside(rows, corners, n, k, u) {
+        if is_inside(engine, rows, corners, n, k, u) {
             c += 1;
         }
         u += 1;
@@ -32,14 +33,14 @@ pub fn count_inside(rows: &Rows, corners: &Corners, n: usize, k: Solid) -> usize
 }
 
 // The number behind the solid's last vertex where there is none.
-pub fn lowest_inside(rows: &Rows, corners: &Corners, n: usize, k: Solid) -> usize
+pub fn lowest_inside(engine: Engine, rows: &Rows, corners: &Corners, n: usize, k: Solid) -> usize
     requires { ⌜ Sound (viewIn n (now rows) (now corners)) k ⌝ }
     ensures { λ r. ⌜ r ≡ lowestInside (viewIn n (now (rows .entry)) (now (corners .entry))) k ⌝ }
 {
     let e = k.low + 1 + k.verts;
     let mut u = k.low + 1;
     while u < e {
-        if is_inside(rows, corners, n, k, u) {
+        if is_inside(engine, rows, corners, n, k, u) {
             return u;
         }
         u += 1;

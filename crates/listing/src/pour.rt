@@ -8,6 +8,7 @@ ghost use Rattle.listing.specs.Hits.{viewIn, Sound, pairHits, vertexHits
 ghost use Rattle.listing.specs.Pour.{Pours, stepped, maskHit, maskHits, most};
 use crate::edge_mask;
 use edges::Solid;
+use engine::Engine;
 use pierce::faces;
 use pierce::faces::Mask;
 use scene::Corners;
@@ -79,6 +80,7 @@ fn pour_mask(
 }
 
 fn pour_pair(
+    engine: Engine,
     rows: &Rows,
     corners: &Corners,
     n: usize,
@@ -99,11 +101,12 @@ fn pour_pair(
     if v <= u {
         return seen;
     }
-    let m = edge_mask(rows, corners, n, k, u, v);
+    let m = edge_mask(engine, rows, corners, n, k, u, v);
     pour_mask(m, u, v, k.other, k.others, from, seen, out)
 }
 
 fn pour_vertex(
+    engine: Engine,
     rows: &Rows,
     corners: &Corners,
     n: usize,
@@ -123,6 +126,7 @@ fn pour_vertex(
     let mut m: usize = 0;
     while m < verts {
         c = pour_pair(
+            engine,
             rows,
             corners,
             n,
@@ -141,6 +145,7 @@ fn pour_vertex(
 }
 
 pub fn pour_solid(
+    engine: Engine,
     rows: &Rows,
     corners: &Corners,
     n: usize,
@@ -157,7 +162,7 @@ pub fn pour_solid(
     let mut c = seen;
     let mut i: usize = 0;
     while i < verts {
-        c = pour_vertex(rows, corners, n, k, low + 1 + i, from, c, out);
+        c = pour_vertex(engine, rows, corners, n, k, low + 1 + i, from, c, out);
         i += 1;
     }
     c

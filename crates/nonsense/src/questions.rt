@@ -2,6 +2,7 @@
 ghost use Prim.Native.Nat.{_≤_};
 use crate::chance::next;
 use crate::chance::pick;
+use engine::Engine;
 use judge::Judged;
 use kernel::counts;
 use kernel::counts::Counted;
@@ -89,9 +90,17 @@ pub fn ask_points(s: &[u8], x: u64, tally: &mut [u64; ROWS]) -> u64 {
     let r = pick(c, 12);
     note(tally, 0, of_judge(judge::judge(s)));
     note(tally, 1, of_sign(points::sign(s, p, q, r, pick(d, 12))));
-    note(tally, 2, of_answer(points::pierces(s, p, q, r)));
-    note(tally, 3, of_mask(masks::mask(s, p, q, r % 4)));
-    note(tally, 4, of_answer(masks::enclosed(s, p)));
+    note(
+        tally,
+        2,
+        of_answer(points::pierces(Engine::Plain, s, p, q, r)),
+    );
+    note(
+        tally,
+        3,
+        of_mask(masks::mask(Engine::Plain, s, p, q, r % 4)),
+    );
+    note(tally, 4, of_answer(masks::enclosed(Engine::Plain, s, p)));
     d
 }
 
@@ -100,12 +109,20 @@ fn ask_listing(s: &[u8], n: usize, tally: &mut [u64; ROWS])
     requires { ⌜ n ≤ 16 ⌝ }
 {
     let mut out = [0u16; 16];
-    note(tally, 7, of_listing(lists::listing(s, &mut out[..n])));
+    note(
+        tally,
+        7,
+        of_listing(lists::listing(Engine::Plain, s, &mut out[..n])),
+    );
 }
 
 fn ask_part(s: &[u8], from: usize, tally: &mut [u64; ROWS]) {
     let mut out = [0u16; 16];
-    note(tally, 8, of_listing(lists::listing_part(s, from, &mut out)));
+    note(
+        tally,
+        8,
+        of_listing(lists::listing_part(Engine::Plain, s, from, &mut out)),
+    );
 }
 
 // The others; the next random number.
@@ -114,8 +131,8 @@ pub fn ask_rest(s: &[u8], x: u64, tally: &mut [u64; ROWS]) -> u64 {
     let b = next(a);
     let c = next(b);
     let k = pick(c, 24);
-    note(tally, 5, of_verdict(verdict::verdict_of(s)));
-    note(tally, 6, of_counts(counts::count(s)));
+    note(tally, 5, of_verdict(verdict::verdict_of(Engine::Plain, s)));
+    note(tally, 6, of_counts(counts::count(Engine::Plain, s)));
     ask_listing(s, pick(a, 16) % 16, tally);
     ask_part(s, pick(b, 16), tally);
     note(tally, 9, of_judge(record::record_refusal(s, k)));

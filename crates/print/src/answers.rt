@@ -4,6 +4,7 @@ use crate::number;
 use crate::refusal;
 use crate::signed;
 use crate::text;
+use engine::Engine;
 use judge::Judged;
 use kernel::counts;
 use kernel::counts::Counted;
@@ -60,12 +61,12 @@ fn say_answer(question: &[u8], answer: Answer) {
     }
 }
 
-pub fn say_pierces(s: &[u8], u: usize, v: usize, f: usize) {
-    say_answer(b"pierces", points::pierces(s, u, v, f));
+pub fn say_pierces(engine: Engine, s: &[u8], u: usize, v: usize, f: usize) {
+    say_answer(b"pierces", points::pierces(engine, s, u, v, f));
 }
 
-pub fn say_enclosed(s: &[u8], i: usize) {
-    say_answer(b"enclosed", masks::enclosed(s, i));
+pub fn say_enclosed(engine: Engine, s: &[u8], i: usize) {
+    say_answer(b"enclosed", masks::enclosed(engine, s, i));
 }
 
 fn say_faces(m: Mask, ones: usize) {
@@ -77,8 +78,8 @@ fn say_faces(m: Mask, ones: usize) {
     end();
 }
 
-pub fn say_mask(s: &[u8], u: usize, v: usize, k: usize) {
-    let answer = masks::mask(s, u, v, k);
+pub fn say_mask(engine: Engine, s: &[u8], u: usize, v: usize, k: usize) {
+    let answer = masks::mask(engine, s, u, v, k);
     match answer {
         Masked::Refused(r) => refusal(r),
         Masked::Faces(m, ones) => say_faces(m, ones),
@@ -96,8 +97,8 @@ pub fn say_word(v: Verdict) {
     }
 }
 
-pub fn say_verdict(s: &[u8]) {
-    let v = verdict::verdict_of(s);
+pub fn say_verdict(engine: Engine, s: &[u8]) {
+    let v = verdict::verdict_of(engine, s);
     say_word(v);
     match v {
         Verdict::Refused(r) => refusal(r),
@@ -115,8 +116,8 @@ pub fn say_verdict(s: &[u8]) {
     }
 }
 
-pub fn say_counts(s: &[u8]) {
-    let answer = counts::count(s);
+pub fn say_counts(engine: Engine, s: &[u8]) {
+    let answer = counts::count(engine, s);
     match answer {
         Counted::Refused(r) => refusal(r),
         Counted::Counts(c) => {

@@ -3,6 +3,7 @@ use crate::end;
 use crate::number;
 use crate::refusal;
 use crate::text;
+use engine::Engine;
 use kernel::counts;
 use kernel::counts::Counted;
 use kernel::lists;
@@ -47,22 +48,22 @@ fn say_count(n: usize) {
 }
 
 // The listing of an accepted scene with n pairs.
-pub fn say_pairs(s: &[u8], n: usize) {
+pub fn say_pairs(engine: Engine, s: &[u8], n: usize) {
     say_count(n);
     let mut part = [0u16; 3 * PART];
     let mut k = 0;
     while k < n {
-        lists::listing_part(s, k, &mut part);
+        lists::listing_part(engine, s, k, &mut part);
         say_rows(&part, n - k);
         k += least(n - k, PART);
     }
 }
 
-pub fn say_listing(s: &[u8]) {
-    let answer = counts::count(s);
+pub fn say_listing(engine: Engine, s: &[u8]) {
+    let answer = counts::count(engine, s);
     match answer {
         Counted::Refused(r) => refusal(r),
-        Counted::Counts(c) => say_pairs(s, c.pairs),
+        Counted::Counts(c) => say_pairs(engine, s, c.pairs),
     }
 }
 
@@ -115,15 +116,15 @@ fn say_listed(answer: Listed, l: &[u16]) {
 }
 
 // The listing into so many of these places, or into all of them.
-fn lend(s: &[u8], places: usize, room: &mut [u16]) {
+fn lend(engine: Engine, s: &[u8], places: usize, room: &mut [u16]) {
     fill(room);
     let n = least(places, room.len());
-    let answer = lists::listing(s, &mut room[..n]);
+    let answer = lists::listing(engine, s, &mut room[..n]);
     say_listed(answer, room);
 }
 
 // The listing into so many lent places, of which the longest listing takes the most.
-pub fn say_lent(s: &[u8], places: usize) {
+pub fn say_lent(engine: Engine, s: &[u8], places: usize) {
     let mut room = [0u16; 3 * MOST_PAIRS];
-    lend(s, places, &mut room);
+    lend(engine, s, places, &mut room);
 }

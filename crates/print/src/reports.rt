@@ -5,6 +5,7 @@ use crate::listings::say_pairs;
 use crate::number;
 use crate::refusal;
 use crate::text;
+use engine::Engine;
 use kernel::counts;
 use kernel::counts::Counted;
 use kernel::counts::Counts;
@@ -22,21 +23,21 @@ fn say_header(h: Scene) {
 }
 
 // Of an accepted scene.
-fn say_all(s: &[u8], c: Counts) {
+fn say_all(engine: Engine, s: &[u8], c: Counts) {
     say_header(read::counts(s));
-    say_word(verdict::verdict_of(s));
+    say_word(verdict::verdict_of(engine, s));
     end();
     text(b"inside");
     number(c.a_in_b);
     number(c.b_in_a);
     end();
-    say_pairs(s, c.pairs);
+    say_pairs(engine, s, c.pairs);
 }
 
-pub fn say_report(s: &[u8]) {
-    let answer = counts::count(s);
+pub fn say_report(engine: Engine, s: &[u8]) {
+    let answer = counts::count(engine, s);
     match answer {
         Counted::Refused(r) => refusal(r),
-        Counted::Counts(c) => say_all(s, c),
+        Counted::Counts(c) => say_all(engine, s, c),
     }
 }

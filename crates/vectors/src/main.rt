@@ -1,6 +1,7 @@
-// Prints the report of each scene on standard input and, where it is accepted, the answers to ten questions about it. A scene stands there
-// behind two bytes of length, low byte first.
+// Prints the report of each scene on standard input and, where it is accepted, the answers to ten questions about it: by the plain engine, and again by
+// the formula. A scene stands there behind two bytes of length, low byte first.
 ghost use Prim.Native.Nat.{_≤_};
+use engine::Engine;
 use judge::Judged;
 use libc::STDIN_FILENO;
 use print::answers::say_enclosed;
@@ -22,7 +23,7 @@ fn rest(n: usize, m: usize) -> usize
 }
 
 // The questions about points, to the scene with number n.
-fn say_points(s: &[u8], n: usize) {
+fn say_points(engine: Engine, s: &[u8], n: usize) {
     let a = byte(s, 2);
     let fa = byte(s, 3);
     let points = a + byte(s, 4) + 1;
@@ -38,32 +39,38 @@ fn say_points(s: &[u8], n: usize) {
         1 + rest(3 * k + 1, points),
         1 + rest(5 * k + 2, points),
     );
-    say_pierces(s, 1 + rest(n, a), points, 1 + fa + rest(n, byte(s, 5)));
-    say_pierces(s, u, v, 1 + rest(n, faces + 1));
+    say_pierces(
+        engine,
+        s,
+        1 + rest(n, a),
+        points,
+        1 + fa + rest(n, byte(s, 5)),
+    );
+    say_pierces(engine, s, u, v, 1 + rest(n, faces + 1));
 }
 
 // The others.
-fn say_others(s: &[u8], n: usize) {
+fn say_others(engine: Engine, s: &[u8], n: usize) {
     let a = byte(s, 2);
     let b = byte(s, 4);
     let points = a + b + 1;
     let faces = byte(s, 3) + byte(s, 5);
-    say_mask(s, a + 1 + rest(n, b), points, 1);
-    say_mask(s, 1 + rest(n, points), points, 1 + n % 3);
-    say_enclosed(s, 1 + rest(n, points + 1));
-    say_verdict(s);
+    say_mask(engine, s, a + 1 + rest(n, b), points, 1);
+    say_mask(engine, s, 1 + rest(n, points), points, 1 + n % 3);
+    say_enclosed(engine, s, 1 + rest(n, points + 1));
+    say_verdict(engine, s);
     say_record(s, rest(n, points + faces + 3));
-    say_lent(s, n % 100);
+    say_lent(engine, s, n % 100);
 }
 
-fn say_scene(s: &[u8], n: usize) {
-    say_report(s);
+fn say_scene(engine: Engine, s: &[u8], n: usize) {
+    say_report(engine, s);
     let j = judge::judge(s);
     match j {
         Judged::Refused(_) => {}
         Judged::Accepted => {
-            say_points(s, n);
-            say_others(s, n);
+            say_points(engine, s, n);
+            say_others(engine, s, n);
         }
     }
 }
@@ -71,7 +78,8 @@ fn say_scene(s: &[u8], n: usize) {
 // Fills the buffer with a scene, or with what is left of the input.
 fn say_next(buffer: &mut [u8], n: usize) {
     let got = io::read_full(STDIN_FILENO, buffer);
-    say_scene(&buffer[..got], n);
+    say_scene(Engine::Plain, &buffer[..got], n);
+    say_scene(Engine::Formula, &buffer[..got], n);
 }
 
 // Whether there was one more scene.

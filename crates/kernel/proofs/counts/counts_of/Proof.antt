@@ -43,8 +43,8 @@ count-solid-requires-2 c κs =
     let v = view-is (now (s .args .s)) (d .before .points-of .result) (d .before .before .before .rows .result) (d .before .before .faces .result) (d .before .points-of .ensures) (d .before .before .before .rows .ensures) (d .before .before .faces .ensures) in
     ready-b (now (s .args .s)) (s .pre) (d .before .points-of .result) (d .before .before .before .rows .result) (d .before .before .faces .result) v (c .before .before .before .before .before .solid-b .result) (c .before .before .before .before .before .solid-b .ensures)
 
-add-t15 : tie.Need-add-t15
-add-t15 c =
+add-t16 : tie.Need-add-t16
+add-t16 c =
     let d = c .before .before .before .before .before .before .before in
     let s = d .before .before .before .before .before in
     let v = view-is (now (s .args .s)) (d .before .points-of .result) (d .before .before .before .rows .result) (d .before .before .faces .result) (d .before .points-of .ensures) (d .before .before .before .rows .ensures) (d .before .before .faces .ensures) in
@@ -96,7 +96,7 @@ counts-of-spec =
     solid-b-requires
     count-solid-requires
     count-solid-requires-2
-    add-t15
+    add-t16
     count-inside-requires
     count-inside-requires-2
     returns)

@@ -20,10 +20,10 @@ use Rattle.listing.proofs.count.count_vertex.Statement.{statement}
 use Rattle.listing.proofs.count.count_vertex.Tie as tie
 
 abbrev Inv-loop : tie.InvT-loop
-Inv-loop rows corners n k u low verts left₀ c₀ m₀ left c m = (m ≤ verts) × (left ≡ bitsLeft (viewIn n rows corners) k u m) × (c ≡ length (upTo (pairsAt (viewIn n rows corners) k u) m))
+Inv-loop engine rows corners n k u low verts left₀ c₀ m₀ left c m = (m ≤ verts) × (left ≡ bitsLeft (viewIn n rows corners) k u m) × (c ≡ length (upTo (pairsAt (viewIn n rows corners) k u) m))
 
 abbrev μ-loop : tie.MeasureT-loop
-μ-loop rows corners n k u low verts left₀ c₀ m₀ left c m = verts - m
+μ-loop engine rows corners n k u low verts left₀ c₀ m₀ left c m = verts - m
 
 neighbours-requires : tie.Need-neighbours-requires Inv-loop μ-loop
 neighbours-requires c κs = search needs

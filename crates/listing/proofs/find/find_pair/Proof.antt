@@ -25,14 +25,14 @@ edge-mask-requires c κs = search needs
 has-face-requires : tie.Need-has-face-requires
 has-face-requires c κs = search needs
 
-add-t11 : tie.Need-add-t11
-add-t11 c = search needs
+add-t12 : tie.Need-add-t12
+add-t12 c = search needs
 
 first-face-requires : tie.Need-first-face-requires
 first-face-requires c κs = search needs
 
-add-t13 : tie.Need-add-t13
-add-t13 c =
+add-t14 : tie.Need-add-t14
+add-t14 c =
     let m = c .before .before .before .before in
     let s = m .before .before .before in
     omega (arith, c .first-face .ensures, edge-face (viewIn (s .args .n) (now (s .args .rows)) (now (s .args .corners))) (s .args .k) (s .args .u) (s .args .v) (m .edge-mask .ensures) (not-false (s .args .both) (m .before .before .if1 .left)) (m .before .if2 .left) (omega (arith, s .pre .0 .other .1)) (some-face _ (c .before .before .before .has-face .ensures) (c .before .before .if3 .taken)), s .pre .0 .other .0)
@@ -58,8 +58,8 @@ find-pair-spec =
     returns-2
     edge-mask-requires
     has-face-requires
-    add-t11
+    add-t12
     first-face-requires
-    add-t13
+    add-t14
     returns-3
     returns-4)

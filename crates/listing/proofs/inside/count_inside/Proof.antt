@@ -10,10 +10,10 @@ use Rattle.listing.proofs.inside.count_inside.Statement.{statement}
 use Rattle.listing.proofs.inside.count_inside.Tie as tie
 
 abbrev Inv-loop : tie.InvT-loop
-Inv-loop rows corners n k e c₀ u₀ c u = (c + countOf (isInside (viewIn n rows corners) k) u e ≡ countOf (isInside (viewIn n rows corners) k) (k .low + 1) (k .low + 1 + k .verts)) × (c ≤ u) × (k .low < u)
+Inv-loop engine rows corners n k e c₀ u₀ c u = (c + countOf (isInside (viewIn n rows corners) k) u e ≡ countOf (isInside (viewIn n rows corners) k) (k .low + 1) (k .low + 1 + k .verts)) × (c ≤ u) × (k .low < u)
 
 abbrev μ-loop : tie.MeasureT-loop
-μ-loop rows corners n k e c₀ u₀ c u = e - u
+μ-loop engine rows corners n k e c₀ u₀ c u = e - u
 
 add-e : tie.Need-add-e Inv-loop μ-loop
 add-e c = search loops

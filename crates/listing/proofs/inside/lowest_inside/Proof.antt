@@ -7,10 +7,10 @@ use Rattle.listing.proofs.inside.lowest_inside.Statement.{statement}
 use Rattle.listing.proofs.inside.lowest_inside.Tie as tie
 
 abbrev Inv-loop : tie.InvT-loop
-Inv-loop rows corners n k e u₀ u = (lowestOf (isInside (viewIn n rows corners) k) u e ≡ lowestInside (viewIn n rows corners) k) × (k .low < u)
+Inv-loop engine rows corners n k e u₀ u = (lowestOf (isInside (viewIn n rows corners) k) u e ≡ lowestInside (viewIn n rows corners) k) × (k .low < u)
 
 abbrev μ-loop : tie.MeasureT-loop
-μ-loop rows corners n k e u₀ u = e - u
+μ-loop engine rows corners n k e u₀ u = e - u
 
 add-e : tie.Need-add-e Inv-loop μ-loop
 add-e c = search loops

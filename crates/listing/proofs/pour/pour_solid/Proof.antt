@@ -11,10 +11,10 @@ use Rattle.listing.proofs.pour.pour_solid.Statement.{statement}
 use Rattle.listing.proofs.pour.pour_solid.Tie as tie
 
 abbrev Inv-loop : tie.InvT-loop
-Inv-loop rows corners n k from seen out₀ low verts c₀ i₀ out c i = (i ≤ verts) × Pours (upTo (λ j. vertexHits (viewIn n rows corners) k (k .low + 1 + j)) i) from seen out₀ out c
+Inv-loop engine rows corners n k from seen out₀ low verts c₀ i₀ out c i = (i ≤ verts) × Pours (upTo (λ j. vertexHits (viewIn n rows corners) k (k .low + 1 + j)) i) from seen out₀ out c
 
 abbrev μ-loop : tie.MeasureT-loop
-μ-loop rows corners n k from seen out₀ low verts c₀ i₀ out c i = verts - i
+μ-loop engine rows corners n k from seen out₀ low verts c₀ i₀ out c i = verts - i
 
 loop-holds : tie.Need-loop-holds Inv-loop μ-loop
 loop-holds c = (omega arith, pours-start _ _ _ _)

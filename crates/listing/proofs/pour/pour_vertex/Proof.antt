@@ -16,10 +16,10 @@ use Rattle.listing.proofs.pour.pour_vertex.Statement.{statement}
 use Rattle.listing.proofs.pour.pour_vertex.Tie as tie
 
 abbrev Inv-loop : tie.InvT-loop
-Inv-loop rows corners n k u from seen out₀ low verts left₀ c₀ m₀ out left c m = (m ≤ verts) × (left ≡ bitsLeft (viewIn n rows corners) k u m) × Pours (upTo (pairsAt (viewIn n rows corners) k u) m) from seen out₀ out c
+Inv-loop engine rows corners n k u from seen out₀ low verts left₀ c₀ m₀ out left c m = (m ≤ verts) × (left ≡ bitsLeft (viewIn n rows corners) k u m) × Pours (upTo (pairsAt (viewIn n rows corners) k u) m) from seen out₀ out c
 
 abbrev μ-loop : tie.MeasureT-loop
-μ-loop rows corners n k u from seen out₀ low verts left₀ c₀ m₀ out left c m = verts - m
+μ-loop engine rows corners n k u from seen out₀ low verts left₀ c₀ m₀ out left c m = verts - m
 
 neighbours-requires : tie.Need-neighbours-requires Inv-loop μ-loop
 neighbours-requires c κs = search needs

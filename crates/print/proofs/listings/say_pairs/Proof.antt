@@ -8,10 +8,10 @@ use Rattle.print.proofs.listings.say_pairs.Statement.{statement}
 use Rattle.print.proofs.listings.say_pairs.Tie as tie
 
 abbrev Inv-loop : tie.InvT-loop
-Inv-loop s n part₀ k₀ part k = (k ≤ n) × (length part ≡ 3 * (2 * limits .mostFaces * limits .mostFaces / 3))
+Inv-loop engine s n part₀ k₀ part k = (k ≤ n) × (length part ≡ 3 * (2 * limits .mostFaces * limits .mostFaces / 3))
 
 abbrev μ-loop : tie.MeasureT-loop
-μ-loop s n part₀ k₀ part k = n - k
+μ-loop engine s n part₀ k₀ part k = n - k
 
 say-count-requires : tie.Need-say-count-requires Inv-loop μ-loop
 say-count-requires c κs = search needs

@@ -3,10 +3,10 @@ use native.Mathlib.Omega.{arith}
 use denote.Ref.{now}
 use borrow.Author.Needs.{needs}
 use Rattle.scene.specs.Arrays.{faceIn}
 use Rattle.pierce.specs.Beside.{beside-low, beside-high}
 use Rattle.pierce.specs.Faces.{valueOf, mask-words}
-use Rattle.pierce.proofs.mask.Statement.{statement}
-use Rattle.pierce.proofs.mask.Tie as tie
+use Rattle.engine.proofs.mask.Statement.{statement}
+use Rattle.engine.proofs.mask.Tie as tie
 
 word-requires : tie.Need-word-requires
 word-requires c κs = (search needs, (search needs, (search needs, c .before .pre .1 .1 .1)))

@@ -6,17 +6,17 @@ use borrow.Author.Needs.{needs}
 use Rattle.laws.specs.Mask.{digit, maskOf, mask-more}
 use Rattle.scene.specs.Limits.{limits}
 use Rattle.scene.specs.Arrays.{rowIn, faceIn, FaceWithin}
 use Rattle.pierce.specs.Formula.{pierced}
 use Rattle.pierce.specs.Beside.{beside-same}
 use Rattle.pierce.specs.Faces.{maskAgainst}
-use Rattle.pierce.proofs.word.Statement.{statement}
-use Rattle.pierce.proofs.word.Tie as tie
+use Rattle.engine.proofs.word.Statement.{statement}
+use Rattle.engine.proofs.word.Tie as tie
 
 abbrev Inv-loop : tie.InvT-loop
-Inv-loop rows corners n u v first count word₀ k₀ word k = (k ≤ count) × (word ≡ maskAgainst n (rowIn rows) (faceIn corners) u v first k)
+Inv-loop engine rows corners n u v first count word₀ k₀ word k = (k ≤ count) × (word ≡ maskAgainst n (rowIn rows) (faceIn corners) u v first k)
 
 abbrev μ-loop : tie.MeasureT-loop
-μ-loop rows corners n u v first count word₀ k₀ word k = count - k
+μ-loop engine rows corners n u v first count word₀ k₀ word k = count - k
 
 loop-holds : tie.Need-loop-holds Inv-loop μ-loop
 unfolding maskOf

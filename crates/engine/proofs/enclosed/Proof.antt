@@ -1,9 +1,9 @@
 -- The oddness of the mask toward the far point.
 use mathlib.Core.Path.{ap, _∙_}
 use Rattle.pierce.specs.Faces.{isOdd}
 use borrow.Author.Needs.{needs}
-use Rattle.pierce.proofs.enclosed.Statement.{statement}
-use Rattle.pierce.proofs.enclosed.Tie as tie
+use Rattle.engine.proofs.enclosed.Statement.{statement}
+use Rattle.engine.proofs.enclosed.Tie as tie
 
 mask-requires : tie.Need-mask-requires
 mask-requires c κs = search needs
