@@ -55,6 +55,16 @@ def with_vertex(row):
     return scene_bytes(FAR, [row] + A_VERTICES[1:], TETRAHEDRON, B_VERTICES, TETRAHEDRON)
 
 
+def with_far(row):
+    """The printed scene with another far point."""
+    return scene_bytes(row, A_VERTICES, TETRAHEDRON, B_VERTICES, TETRAHEDRON)
+
+
+def with_faces(faces):
+    """The printed scene with other faces of A."""
+    return scene_bytes(FAR, A_VERTICES, faces, B_VERTICES, TETRAHEDRON)
+
+
 def bipyramid(vertices):
     """Faces over a ring of all vertices but the last two."""
     ring = vertices - 2
@@ -75,6 +85,12 @@ def limit_cases():
     yield "weight 16", judge(with_vertex((0, 0, 0, 16))), None
     yield "weight 17", judge(with_vertex((0, 0, 0, 17))), (6, 2)
     yield "weight 0", judge(with_vertex((0, 0, 0, 0))), (6, 2)
+    yield "far point of weight 0", judge(with_far((1, 2, 3, 0))), None
+    yield "far point of four zeros", judge(with_far((0, 0, 0, 0))), (14, 1)
+    yield "far point of three zeros and weight 17", judge(with_far((0, 0, 0, 17))), (6, 1)
+    yield "far point (4096, 0, 0, 0)", judge(with_far((4096, 0, 0, 0))), (5, 1)
+    yield "an edge in four faces", judge(with_faces([(1, 2, 3), (1, 2, 3), (1, 2, 4), (1, 2, 4)])), None
+    yield "edges in three faces", judge(with_faces([(1, 2, 3), (1, 2, 3), (1, 2, 3), (1, 2, 4)])), (9, 10)
     yield "48 vertices", judge(with_vertices(most)), None
     yield "49 vertices", judge(with_vertices(most + 1)), (2, 0)
     yield "a byte too long", judge(PRINTED + b"\0"), (3, 0)

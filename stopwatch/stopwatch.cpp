@@ -70,23 +70,23 @@ Solid ball(std::mt19937& random, int n, double radius, double least, int centre)
   return s;
 }
 
-void putRow(Bytes& b, char first, char second, const Vertex& v) {
+void putRow(Bytes& b, char first, char second, const Vertex& v, int weight = 1) {
   b.push_back(first);
   b.push_back(second);
   for (int n : {v.x, v.y, v.z}) {
     b.push_back(n & 255);
     b.push_back(n >> 8 & 255);
   }
-  b.push_back(1);
+  b.push_back(weight);
 }
 
-Bytes write(const Solid& a, const Solid& b, const Vertex& far) {
+Bytes write(const Solid& a, const Solid& b, const Vertex& far, int farWeight) {
   Bytes out = {'S', 'C'};
   for (const Solid* s : {&a, &b}) {
     out.push_back(s->vertices.size());
     out.push_back(s->faces.size());
   }
-  putRow(out, 'F', 'P', far);
+  putRow(out, 'F', 'P', far, farWeight);
   for (const Solid* s : {&a, &b})
     for (const Vertex& v : s->vertices) putRow(out, 'V', 'X', v);
   for (const Solid* s : {&a, &b})
@@ -126,7 +126,7 @@ Bytes sceneOf(Kind kind, int n, int seed) {
     for (Solid* s : {&a, &b})
       for (Vertex& v : s->vertices) v.z = 0;
   }
-  return write(a, b, far);
+  return write(a, b, far, seed == 0 ? 0 : 1);  // a direction in one scene of five
 }
 
 // ---- the same answers

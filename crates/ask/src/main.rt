@@ -17,6 +17,10 @@ use print::listings::say_listing;
 use print::text;
 use scene::Scene;
 
+mod faces;
+mod header;
+mod points;
+mod said;
 mod why;
 mod words;
 

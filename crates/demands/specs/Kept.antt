@@ -16,7 +16,8 @@ use Rattle.judge.specs.Judge.{rule, judgedAt, judged}
 use Rattle.judge.specs.declared.Judged.{Judged}
 use Rattle.judge.specs.declared.Judged.the-variants.{Accepted, Refused}
 use Rattle.rules.specs.Rules.{CountsOk, HeaderOk, MarkOk, CoordinatesOk, WeightIn, CornersOk, RecordsOk, AllUsed, SidesOk}
-use Rattle.orient.specs.Terms.{Numbered, Powers, powers, positiveAt, termsAt}
+use Rattle.laws.specs.Sign.{sign, _or_}
+use Rattle.orient.specs.Terms.{Numbered, Powers, powers, isPlus, positiveAt, termsAt}
 use Rattle.pierce.specs.Formula.{pierced}
 use Rattle.listing.specs.Pour.{allIn, partIn}
 use Rattle.kernel.specs.Scene.{listingOf}
@@ -107,12 +108,15 @@ module _ (s : List ℕ) where
   abbrev pub termsByWeight : (a b c d : ℕ) → Powers ℤ
   termsByWeight a b c d = powers (pos 0) (pos 1) _+ℤ_ _-ℤ_ _*ℤ_ (byWeight a) (byWeight b) (byWeight c) (byWeight d)
 
-  -- the terms, and so the signs, on which every other answer rests
+  -- the terms and the sign, on which every other answer rests
   pub record SameTerms (a b c d : ℕ) : Type 0 where
     pub t0 : termsAt (row (tablesOf s)) a b c d .c0 ≡ termsByWeight a b c d .e0
     pub t1 : termsAt (row (tablesOf s)) a b c d .c1 ≡ termsByWeight a b c d .e1
     pub t2 : termsAt (row (tablesOf s)) a b c d .c2 ≡ termsByWeight a b c d .e2
     pub t3 : termsAt (row (tablesOf s)) a b c d .c3 ≡ termsByWeight a b c d .e3
+    pub positive :
+        positiveAt (row (tablesOf s)) a b c d
+        ≡ isPlus (let t = termsByWeight a b c d in sign (t .e0) or (sign (t .e1) or sign (t .e2) or sign (t .e3)))
 
   pub record AllWeighted : Type 0 where
     pub still : Still

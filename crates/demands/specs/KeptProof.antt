@@ -13,7 +13,8 @@ use Rattle.scene.specs.Records.{verts}
 use Rattle.scene.specs.Tables.{rowAt, tablesOf, row}
 use Rattle.scene.specs.Read.{row-is, far-is}
 use Rattle.scene.specs.declared.Row.{Row}
-use Rattle.orient.specs.Terms.{powers, factor, numbered, terms, pointAt, termsAt}
+use Rattle.orient.specs.Terms.{powers, isPlus, factor, numbered, terms, orientation, pointAt, positiveAt, termsAt}
+use Rattle.laws.specs.Sign.{sign, _or_}
 use Rattle.orient.specs.Laws.{factor-weight}
 use Rattle.demands.specs.Words.{Point, FourPoints}
 use Rattle.scene.specs.Faces.{Both, EdgeOk}
@@ -31,7 +32,7 @@ use Rattle.kernel.specs.declared.points.Answer.the-variants as answer
 use Rattle.kernel.specs.declared.counts.Counted.the-variants as counted
 use Rattle.kernel.specs.declared.verdict.Verdict.the-variants as verdict
 use Rattle.kernel.specs.declared.lists.Listed.the-variants as listed
-use Rattle.demands.specs.Kept.{Answers, Still, RulesOfTwo, SharedEdges, SmallerLimits, LargerModels, RulesOfWeights, byWeight, SameTerms, FarAtInfinity}
+use Rattle.demands.specs.Kept.{Answers, Still, SharedEdges, LargerModels, RulesOfWeights, byWeight, termsByWeight, SameTerms, FarAtInfinity}
 
 -- the scene's judgement comes first, and says nothing
 module _ {X : Type 0} (refuse : Refusal → X) {j : Judged} (e : j ≡ Accepted) where
@@ -159,18 +160,26 @@ module _ (s : List ℕ) (h : RulesOfWeights s) where
       let e = factor-here i (h .0) (h .1) in
       λ j. record { x = r .x; y = r .y; z = r .z; w = r .w; k = e j; i = pos i }
 
-  same-terms : (a b c d : ℕ) → FourPoints s a b c d → SameTerms s a b c d
-  unfolding termsAt terms
-  same-terms a b c d f =
+  same-powers : (a b c d : ℕ) → FourPoints s a b c d →
+      terms (pointAt (row (tablesOf s)) a) (pointAt (row (tablesOf s)) b) (pointAt (row (tablesOf s)) c) (pointAt (row (tablesOf s)) d) ≡ termsByWeight s a b c d
+  unfolding terms
+  same-powers a b c d f =
       let na = numbered-same a (f .0) in
       let nb = numbered-same b (f .1) in
       let nc = numbered-same c (f .2) in
       let nd = numbered-same d (f .3) in
+      λ j. powers (pos 0) (pos 1) _+ℤ_ _-ℤ_ _*ℤ_ (na j) (nb j) (nc j) (nd j)
+
+  same-terms : (a b c d : ℕ) → FourPoints s a b c d → SameTerms s a b c d
+  unfolding termsAt positiveAt orientation
+  same-terms a b c d f =
+      let e = same-powers a b c d f in
       record {
-        t0 = λ j. powers (pos 0) (pos 1) _+ℤ_ _-ℤ_ _*ℤ_ (na j) (nb j) (nc j) (nd j) .e0;
-        t1 = λ j. powers (pos 0) (pos 1) _+ℤ_ _-ℤ_ _*ℤ_ (na j) (nb j) (nc j) (nd j) .e1;
-        t2 = λ j. powers (pos 0) (pos 1) _+ℤ_ _-ℤ_ _*ℤ_ (na j) (nb j) (nc j) (nd j) .e2;
-        t3 = λ j. powers (pos 0) (pos 1) _+ℤ_ _-ℤ_ _*ℤ_ (na j) (nb j) (nc j) (nd j) .e3;
+        t0 = λ j. e j .e0;
+        t1 = λ j. e j .e1;
+        t2 = λ j. e j .e2;
+        t3 = λ j. e j .e3;
+        positive = λ j. isPlus (sign (e j .e0) or (sign (e j .e1) or sign (e j .e2) or sign (e j .e3)));
       }
 
 pub far-at-infinity : FarAtInfinity

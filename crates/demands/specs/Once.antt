@@ -1,4 +1,4 @@
--- No second answer. For each public function of every crate, and of the very relation that its contract names: what is asked has no second answer,
+-- No second answer. For each function that another crate can call, and of the very relation that its contract names: what is asked has no second answer,
 -- nor second contents of a lent place. Bytes that are shown are said by what they hold, an array is as long as its type says, and the words of a
 -- mask are below 2 ^ 64 as theirs says. `limits_agree` answers nothing. Assumes nothing.
 use mathlib.Core.Path.{_≡_}
@@ -10,17 +10,16 @@ use lib.IntN.{ℤ}
 use lib.ListN.{length}
 use Rattle.laws.specs.Unique.{Once}
 use Rattle.laws.specs.Mask.{testBit}
-use Rattle.scene.specs.Limits.{limits}
 use Rattle.scene.specs.Refusal.{numberOf, placeOf}
 use Rattle.scene.specs.Bytes.{byteAt, twoAt}
-use Rattle.scene.specs.Records.{countsOf, faceStart, faceRecord}
-use Rattle.scene.specs.Tables.{tablesOf, row, face, cornerAt}
+use Rattle.scene.specs.Records.{countsOf}
+use Rattle.scene.specs.Tables.{tablesOf, row, face}
 use Rattle.scene.specs.Arrays.{rowIn, faceIn}
 use Rattle.scene.specs.declared.Refusal.{Refusal}
 use Rattle.scene.specs.declared.Scene.{Scene}
 use Rattle.scene.specs.declared.Row.{Row}
 use Rattle.scene.specs.declared.Face.{Face}
-use Rattle.judge.specs.Judge.{within, judged, headerFault, recordsFault, unusedsFault, edgesFault}
+use Rattle.judge.specs.Judge.{judged}
 use Rattle.judge.specs.declared.Judged.{Judged}
 use Rattle.record.specs.Shown.{refusal, shown}
 use Rattle.orient.specs.Terms.{positiveAt, termsAt}
@@ -36,7 +35,7 @@ use Rattle.listing.specs.Pour.{Pours}
 use Rattle.listing.specs.declared.find.Found.{Found}
 use Rattle.kernel.specs.Inside.{insideOf}
 use Rattle.kernel.specs.declared.inside.Enclosing.{Enclosing}
-use Rattle.kernel.specs.Answers.{isPoint, signOf, piercesOf, saidMask, maskedOf, enclosedOf, countedOf, verdictOf, IsListed, IsPart}
+use Rattle.kernel.specs.Answers.{isPoint, isSolid, signOf, piercesOf, saidMask, maskedOf, enclosedOf, countedOf, verdictOf, IsListed, IsPart}
 use Rattle.kernel.specs.declared.points.Signed.{Signed}
 use Rattle.kernel.specs.declared.points.Answer.{Answer}
 use Rattle.kernel.specs.declared.masks.Masked.{Masked}
@@ -74,14 +73,6 @@ pub record SceneOnce : Type 0 where
 
 pub record JudgeOnce : Type 0 where
   pub judge : Once (λ (s : List ℕ) (r : Judged). r ≡ judged s)
-  pub is-within : (low high : ℕ) → Once (λ (n : ℕ) (r : Bool). r ≡ within low high n)
-  pub header-fault : Once (λ (s : List ℕ) (r : Judged). r ≡ headerFault limits s)
-  pub face-start : (i : ℕ) → Once (λ (s : List ℕ) (r : ℕ). (r ≡ faceStart s i) × (r < 16384))
-  pub face-record : (i : ℕ) → Once (λ (s : List ℕ) (r : ℕ). r ≡ faceRecord s i)
-  pub corner : (i m : ℕ) → Once (λ (s : List ℕ) (r : ℕ). r ≡ cornerAt s i m)
-  pub records-fault : Once (λ (s : List ℕ) (r : Judged). r ≡ recordsFault limits s)
-  pub unuseds-fault : Once (λ (s : List ℕ) (r : Judged). r ≡ unusedsFault s)
-  pub edges-fault : Once (λ (s : List ℕ) (r : Judged). r ≡ edgesFault s)
 
 pub record RecordOnce : Type 0 where
   pub record-refusal : (k : ℕ) → Once (λ (s : List ℕ) (r : Judged). r ≡ refusal s k)
@@ -95,6 +86,7 @@ pub record EdgesOnce : Type 0 where
   pub is-corner : (i : ℕ) → Once (λ (f : Face) (r : Bool). r ≡ isCorner i f)
   pub neighbours-of : (k : Solid) (u : ℕ) → Once (λ (corners : List ℕ) (r : ℕ). r ≡ neighbours (faceIn corners) k u)
 
+-- `pierce`, `plain` and `engine`, by either engine
 pub record PierceOnce : Type 0 where
   pub mask : (corners : List ℕ) (n u v first count : ℕ) →
       OnceOfWords Words (λ (rows : List ℤ) (r : Mask). valueOf r ≡ maskAgainst n (rowIn rows) (faceIn corners) u v first count)
@@ -117,6 +109,7 @@ pub record ListingOnce : Type 0 where
 
 pub record KernelOnce : Type 0 where
   pub is-point : (i : ℕ) → Once (λ (s : List ℕ) (r : Bool). r ≡ isPoint s i)
+  pub is-solid : Once (λ (k : ℕ) (r : Bool). r ≡ isSolid k)
   pub sign : (a b c d : ℕ) → Once (λ (s : List ℕ) (r : Signed). r ≡ signOf s a b c d)
   pub pierces : (u v f : ℕ) → Once (λ (s : List ℕ) (r : Answer). r ≡ piercesOf s u v f)
   pub mask : (u v k : ℕ) → OnceOfWords WordsSaid (λ (s : List ℕ) (r : Masked). saidMask r ≡ maskedOf s u v k)

@@ -77,18 +77,7 @@ of-scene =
     }
 
 of-judge : JudgeOnce
-of-judge =
-    record {
-      judge = once _;
-      is-within = λ low high. once _;
-      header-fault = once _;
-      face-start = λ i s b c p q. p .0 ∙ sym (q .0);
-      face-record = λ i. once _;
-      corner = λ i m. once _;
-      records-fault = once _;
-      unuseds-fault = once _;
-      edges-fault = once _;
-    }
+of-judge = record { judge = once _ }
 
 of-record : RecordOnce
 of-record = record { record-refusal = λ k. once _; record-shown = λ k. once _ }
@@ -126,6 +115,7 @@ of-kernel : KernelOnce
 of-kernel =
     record {
       is-point = λ i. once _;
+      is-solid = once _;
       sign = λ a b c d. once _;
       pierces = λ u v f. once _;
       mask = λ u v k s b c x y p q. same-said b c x y (p ∙ sym q);

@@ -2,36 +2,28 @@
 -- solid: the ones of the three masks add up to an even number. And the route: the oddness from u to v is that from u to w plus that from v to w.
 -- The masks are those of the public question. Assumes nothing.
 use mathlib.Core.Path.{_≡_}
-use mathlib.Core.Logic.{_≢_, _⊎_}
+use mathlib.Core.Logic.{_≢_}
 use mathlib.Core.List.{List}
-use Prim.Native.Nat.{ℕ, _+_, _%_, _≤_}
+use Prim.Native.Nat.{ℕ, _+_, _%_}
 use lib.Count.{ones}
 use Rattle.laws.specs.Bools.{_⊕_}
-use Rattle.scene.specs.Records.{vertsA, verts}
 use Rattle.judge.specs.Judge.{judged}
 use Rattle.judge.specs.declared.Judged.the-variants.{Accepted}
 use Rattle.pierce.specs.Faces.{isOdd}
 use Rattle.kernel.specs.Answers.{maskIn, faces-are, maskedOf}
-
--- a solid's number: 1 is A, 2 is B
-abbrev pub SolidNumber : ℕ → Type 0
-SolidNumber k = (k ≡ 1) ⊎ (k ≡ 2)
-
--- point i is a vertex of solid k: A's are 1 to a, B's are a+1 to a+b
-abbrev pub VertexOf : List ℕ → (k i : ℕ) → Type 0
-VertexOf s k i = ((k ≡ 1) × (1 ≤ i) × (i ≤ vertsA s)) ⊎ ((k ≡ 2) × (vertsA s + 1 ≤ i) × (i ≤ verts s))
+use Rattle.demands.specs.Words.{SolidNumber, Point, VertexOf}
 
 -- three different numbers from 1 to a+b+1, none of which is a vertex of solid k
 pub record Outside (s : List ℕ) (k u v w : ℕ) : Type 0 where
-  pub u-point : (1 ≤ u) × (u ≤ verts s + 1)
-  pub v-point : (1 ≤ v) × (v ≤ verts s + 1)
-  pub w-point : (1 ≤ w) × (w ≤ verts s + 1)
+  pub u-point : Point s u
+  pub v-point : Point s v
+  pub w-point : Point s w
   pub uv : u ≢ v
   pub uw : u ≢ w
   pub vw : v ≢ w
-  pub u-out : VertexOf s k u → ⊥
-  pub v-out : VertexOf s k v → ⊥
-  pub w-out : VertexOf s k w → ⊥
+  pub u-out : ¬ VertexOf s k u
+  pub v-out : ¬ VertexOf s k v
+  pub w-out : ¬ VertexOf s k w
 
 -- X, of every accepted scene, either solid and three such numbers
 abbrev Always : (List ℕ → (k u v w : ℕ) → Type 0) → Type 0

@@ -1,9 +1,10 @@
 -- Parity holds: an accepted scene's points have weights and its solids are closed. Assumes nothing.
 use mathlib.Core.Path.{_≡_}
-use mathlib.Core.Logic.{inl, inr}
+use mathlib.Core.Logic.{_⊎_, inl, inr, ⊎-elim}
 use mathlib.Core.Bool.{true, false}
 use mathlib.Core.List.{List}
-use Prim.Native.Nat.{ℕ, _+_, _≤_}
+use Prim.Native.Nat.{ℕ, _+_, _≤_, _<_}
+use native.Mathlib.Decide.{decLt}
 use native.Mathlib.Omega.{arith}
 use borrow.Author.Tests.{ne-eqb}
 use lib.Dec.{leb}
@@ -21,7 +22,8 @@ use Rattle.pierce.specs.Parity.{Solid, Triangle, solid-by-edges}
 use Rattle.pierce.specs.Scene.{scene-parity, scene-route}
 use Rattle.kernel.specs.Ready.{scene-weighted}
 use Rattle.kernel.specs.Answers.{answered, isPoint, isVertexOf, maskAsked, maskOutside, maskFault, maskIn, maskedOf, isSolid}
-use Rattle.demands.specs.Parity.{SolidNumber, VertexOf, Outside, Parity, Route, Asked}
+use Rattle.demands.specs.Parity.{Outside, Parity, Route, Asked}
+use Rattle.demands.specs.Words.{SolidNumber, VertexOf}
 
 module _ (s : List ℕ) (ok : judged s ≡ Accepted) where
   solid-a : Solid (verts s + 1) 0 (vertsA s) (run (face (tablesOf s)) (0 + 1) (facesA s))
@@ -40,9 +42,9 @@ module _ {s : List ℕ} {k u v w : ℕ} (h : Outside s k u v w) where
         uv = h .uv;
         uw = h .uw;
         vw = h .vw;
-        u-out = λ x. h .u-out (inl (e, omega arith, omega arith));
-        v-out = λ x. h .v-out (inl (e, omega arith, omega arith));
-        w-out = λ x. h .w-out (inl (e, omega arith, omega arith));
+        u-out = λ x. h .u-out (inl (e, (omega arith, omega arith)));
+        v-out = λ x. h .v-out (inl (e, (omega arith, omega arith)));
+        w-out = λ x. h .w-out (inl (e, (omega arith, omega arith)));
       }
 
   triangle-b : k ≡ 2 → Triangle (verts s + 1) (vertsA s) (verts s) u v w
@@ -54,20 +56,34 @@ module _ {s : List ℕ} {k u v w : ℕ} (h : Outside s k u v w) where
         uv = h .uv;
         uw = h .uw;
         vw = h .vw;
-        u-out = λ x. h .u-out (inr (e, omega arith, omega arith));
-        v-out = λ x. h .v-out (inr (e, omega arith, omega arith));
-        w-out = λ x. h .w-out (inr (e, omega arith, omega arith));
+        u-out = λ x. h .u-out (inr (e, (omega arith, omega arith)));
+        v-out = λ x. h .v-out (inr (e, (omega arith, omega arith)));
+        w-out = λ x. h .w-out (inr (e, (omega arith, omega arith)));
       }
+
+-- a solid is A or B
+pub either : {k : ℕ} → SolidNumber k → (k ≡ 1) ⊎ (k ≡ 2)
+either {k} h = go (decLt k 2)
+  where
+    go : Dec (k < 2) → (k ≡ 1) ⊎ (k ≡ 2)
+    go (yes l) = inl (omega arith)
+    go (no l) = inr (omega arith)
 
 pub parity : Parity
 unfolding maskIn
-parity s ok k (inl e) u v w h = rw e (scene-parity _ _ (scene-weighted s ok) (face (tablesOf s)) 0 (facesA s) (solid-a s ok) u v w (triangle-a h e))
-parity s ok k (inr e) u v w h = rw e (scene-parity _ _ (scene-weighted s ok) (face (tablesOf s)) (facesA s) (facesB s) (solid-b s ok) u v w (triangle-b h e))
+parity s ok k n u v w h =
+    ⊎-elim
+    (λ e. rw e (scene-parity _ _ (scene-weighted s ok) (face (tablesOf s)) 0 (facesA s) (solid-a s ok) u v w (triangle-a h e)))
+    (λ e. rw e (scene-parity _ _ (scene-weighted s ok) (face (tablesOf s)) (facesA s) (facesB s) (solid-b s ok) u v w (triangle-b h e)))
+    (either n)
 
 pub route : Route
 unfolding maskIn
-route s ok k (inl e) u v w h = rw e (scene-route _ _ (scene-weighted s ok) (face (tablesOf s)) 0 (facesA s) (solid-a s ok) u v w (triangle-a h e))
-route s ok k (inr e) u v w h = rw e (scene-route _ _ (scene-weighted s ok) (face (tablesOf s)) (facesA s) (facesB s) (solid-b s ok) u v w (triangle-b h e))
+route s ok k n u v w h =
+    ⊎-elim
+    (λ e. rw e (scene-route _ _ (scene-weighted s ok) (face (tablesOf s)) 0 (facesA s) (solid-a s ok) u v w (triangle-a h e)))
+    (λ e. rw e (scene-route _ _ (scene-weighted s ok) (face (tablesOf s)) (facesA s) (facesB s) (solid-b s ok) u v w (triangle-b h e)))
+    (either n)
 
 -- ---- the questions are not refused
 
@@ -76,14 +92,11 @@ module _ (s : List ℕ) (k i : ℕ) where
   unfolding isPoint
   point h = within-iff 1 (verts s + 1) i .1 h
 
-  out : SolidNumber k → (VertexOf s k i → ⊥) → 1 ≤ i → isVertexOf s k i ≡ false
+  out : SolidNumber k → ¬ VertexOf s k i → 1 ≤ i → isVertexOf s k i ≡ false
   unfolding isVertexOf
-  out (inl e) n l = rw e (fails-iff (leb i (vertsA s)) (leb-iff i (vertsA s)) .1 (λ h. n (inl (e, l, h))))
-  out (inr e) n l = rw e (fails-iff (within (vertsA s + 1) (verts s) i) (within-iff (vertsA s + 1) (verts s) i) .1 (λ h. n (inr (e, h .0, h .1))))
-
-solid-asked : {k : ℕ} → SolidNumber k → within 1 2 k ≡ true
-solid-asked {k} (inl e) = within-iff 1 2 k .1 (omega arith, omega arith)
-solid-asked {k} (inr e) = within-iff 1 2 k .1 (omega arith, omega arith)
+  out h n l =
+      ⊎-elim (λ e. rw e (fails-iff (leb i (vertsA s)) (leb-iff i (vertsA s)) .1 (λ h. n (inl (e, (l, h))))))
+      (λ e. rw e (fails-iff (within (vertsA s + 1) (verts s) i) (within-iff (vertsA s + 1) (verts s) i) .1 (λ h. n (inr (e, h))))) (either h)
 
 pub asked : Asked
 unfolding maskedOf maskFault maskAsked isSolid maskOutside answered rule andThen
@@ -92,7 +105,7 @@ asked s ok k n u v w h =
       ok,
       point s k u (h .u-point),
       point s k v (h .v-point),
-      solid-asked n,
+      within-iff 1 2 k .1 n,
       ne-eqb u v (h .uv),
       out s k u n (h .u-out) (h .u-point .0),
       out s k v n (h .v-out) (h .v-point .0),

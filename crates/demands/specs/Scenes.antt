@@ -31,3 +31,7 @@ farPoint = at (pos 100) (pos 101) (pos 103)
 
 abbrev pub scene : Table → Table → Tables
 scene a b = record { a = a; b = b; far = farPoint }
+
+-- with the far point that way, infinitely far
+abbrev pub sceneTo : (x y z : ℤ) → Table → Table → Tables
+sceneTo x y z a b = record { a = a; b = b; far = weighted x y z (pos 0) }

@@ -25,7 +25,7 @@ use Rattle.kernel.specs.Scene.{viewOf, solidA, solidB, listingOf}
 use Rattle.kernel.specs.Answers.{maskIn, verdictIn, crossOr}
 use Rattle.kernel.specs.declared.verdict.Verdict.{Verdict}
 use Rattle.kernel.specs.declared.verdict.Verdict.the-variants.{AInB, BInA, Apart}
-use Rattle.demands.specs.Parity.{SolidNumber, VertexOf}
+use Rattle.demands.specs.Words.{SolidNumber, VertexOf}
 
 -- ---- the rows
 
@@ -82,7 +82,7 @@ pub record SameShifted (s : List ℕ) (N : ℕ) : Type 0 where
   pub nonzero : (a b c d : ℕ) → Four (Upto (verts s + 1)) a b c d → shiftedDet N s a b c d ≢ pos 0
   pub signs : (a b c d : ℕ) → Four (Upto (verts s + 1)) a b c d → isPlus (sign (shiftedDet N s a b c d)) ≡ positiveAt (row (tablesOf s)) a b c d
   pub seen : (a b c d : ℕ) → Four (Upto (verts s + 1)) a b c d → isPlus (sign (shiftedDet N s a b c d)) ≡ positiveAt (shiftedView N s .row) a b c d
-  pub masks : (u v k : ℕ) → SolidNumber k → Upto (verts s + 1) u → Upto (verts s + 1) v → u ≢ v → (VertexOf s k u → ⊥) → (VertexOf s k v → ⊥) →
+  pub masks : (u v k : ℕ) → SolidNumber k → Upto (verts s + 1) u → Upto (verts s + 1) v → u ≢ v → ¬ VertexOf s k u → ¬ VertexOf s k v →
       maskSeen (shiftedView N s) s u v k ≡ maskIn s u v k
   pub inside-a : insideCount (shiftedView N s) (solidA s) ≡ insideCount (viewOf s) (solidA s)
   pub inside-b : insideCount (shiftedView N s) (solidB s) ≡ insideCount (viewOf s) (solidB s)

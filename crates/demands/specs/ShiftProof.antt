@@ -1,7 +1,7 @@
 -- The shift is real: above the size of every term, the whole determinant has the sign of the terms, and the answers depend on the signs alone.
 -- Assumes nothing.
 use mathlib.Core.Path.{_≡_, refl, sym, ap, ap₂, _∙_}
-use mathlib.Core.Logic.{_≢_, inl, inr}
+use mathlib.Core.Logic.{_≢_, inl, inr, ⊎-elim}
 use mathlib.Core.Bool.{cond}
 use mathlib.Core.List.{List, _++_}
 use Prim.Native.Nat.{ℕ, zero, suc, _+_, _≤_, _<_}
@@ -32,7 +32,8 @@ use Rattle.kernel.specs.Scene.{viewOf, solidA, solidB, listingOf}
 use Rattle.kernel.specs.Answers.{maskIn, enclosing, verdictIn, crossOr}
 use Rattle.kernel.specs.declared.verdict.Verdict.{Verdict}
 use Rattle.kernel.specs.declared.verdict.Verdict.the-variants.{AInB, BInA, Apart}
-use Rattle.demands.specs.Parity.{SolidNumber, VertexOf}
+use Rattle.demands.specs.ParityProof.{either}
+use Rattle.demands.specs.Words.{SolidNumber, VertexOf}
 use Rattle.demands.specs.Shift.{shiftedRow, shiftedView, shiftedDet, maskSeen, listingSeen, verdictSeen, Own, Shift}
 use Rattle.demands.specs.Same.{Clear, masks-same, hits-same, counts-same, lowests-same}
 
@@ -113,21 +114,24 @@ module _ (s : List ℕ) (ok : judged s ≡ Accepted) where
     far-b : Clear n (vertsA s) (verts s) n
     far-b = record { point = omega arith; out = λ h. omega arith }
 
-    masks : (u v k : ℕ) → SolidNumber k → Upto n u → Upto n v → u ≢ v → (VertexOf s k u → ⊥) → (VertexOf s k v → ⊥) →
+    masks : (u v k : ℕ) → SolidNumber k → Upto n u → Upto n v → u ≢ v → ¬ VertexOf s k u → ¬ VertexOf s k v →
         maskSeen (shiftedView N s) s u v k ≡ maskIn s u v k
     unfolding maskIn
-    masks u v k (inl e) pu pv d ou ov =
+    masks u v k h pu pv d ou ov =
+        ⊎-elim
+        (λ e.
         rw e
         (sym (masks-same n rows rows′ (face (tablesOf s)) six same 0 (vertsA s) (omega arith) 0 (facesA s) faces-of-a u v
-        (record { point = pu; out = λ h. ou (inl (e, omega arith, omega arith)) })
-        (record { point = pv; out = λ h. ov (inl (e, omega arith, omega arith)) })
-        d))
-    masks u v k (inr e) pu pv d ou ov =
+        (record { point = pu; out = λ h. ou (inl (e, (omega arith, omega arith))) })
+        (record { point = pv; out = λ h. ov (inl (e, (omega arith, omega arith))) })
+        d)))
+        (λ e.
         rw e
         (sym (masks-same n rows rows′ (face (tablesOf s)) six same (vertsA s) (verts s) (omega arith) (facesA s) (facesB s) faces-of-b u v
-        (record { point = pu; out = λ h. ou (inr (e, omega arith, omega arith)) })
-        (record { point = pv; out = λ h. ov (inr (e, omega arith, omega arith)) })
-        d))
+        (record { point = pu; out = λ h. ou (inr (e, (omega arith, omega arith))) })
+        (record { point = pv; out = λ h. ov (inr (e, (omega arith, omega arith))) })
+        d)))
+        (either h)
 
     -- ---- the hits and the enclosed vertices of A, whose other solid is B, and of B
 

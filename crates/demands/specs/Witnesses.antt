@@ -1,5 +1,5 @@
 -- One accepted scene for each verdict, so that no demand is about nothing: the printed scene, which crosses, and a small solid beside, within and around
--- another. Assumes nothing.
+-- another; and the printed scene with a direction as far point, and with an edge of A in four faces. Assumes nothing.
 use mathlib.Core.Path.{_≡_}
 use mathlib.Core.List.{List, [], _∷_}
 use Prim.Native.Nat.{ℕ}
@@ -16,7 +16,7 @@ use Rattle.kernel.specs.declared.counts.Counts.{Counts}
 use Rattle.kernel.specs.declared.counts.Counted.the-variants as counted
 use Rattle.kernel.specs.declared.verdict.Verdict.{Verdict}
 use Rattle.kernel.specs.declared.verdict.Verdict.the-variants.{Cross, AInB, BInA, Apart}
-use Rattle.demands.specs.Scenes.{minus, at, four, scene}
+use Rattle.demands.specs.Scenes.{minus, at, corners, four, scene, sceneTo}
 
 -- ---- the solids: that at the origin, the printed one that it crosses, one beside it and one around it
 
@@ -40,6 +40,10 @@ around =
       faces = four;
     }
 
+-- two faces twice: the edge of 1 and 2 is in four
+abbrev shared : Table
+shared = record { rows = small .rows; faces = corners 1 2 3 ∷ corners 1 2 3 ∷ corners 1 2 4 ∷ corners 1 2 4 ∷ [] }
+
 -- ---- the bytes
 
 abbrev pub printed : List ℕ
@@ -53,6 +57,12 @@ inner = bytesOf (scene small around)
 
 abbrev pub outer : List ℕ
 outer = bytesOf (scene around small)
+
+abbrev pub direction : List ℕ
+direction = bytesOf (sceneTo (pos 100) (pos 101) (pos 103) small crossing)
+
+abbrev pub inFour : List ℕ
+inFour = bytesOf (scene shared crossing)
 
 -- ---- what is said of them
 
@@ -75,3 +85,5 @@ pub record Witnesses : Type 0 where
   pub a-in-b : Witness inner [] 4 0 (AInB 1)
   pub b-in-a : Witness outer [] 0 4 (BInA 5)
   pub apart : Witness outside [] 0 0 Apart
+  pub to-infinity : Witness direction (hit 5 6 1 ∷ hit 5 7 1 ∷ hit 5 8 1 ∷ []) 0 1 (Cross 5 6 1)
+  pub edge-in-four : Witness inFour (hit 5 6 1 ∷ hit 5 6 2 ∷ hit 5 7 1 ∷ hit 5 7 2 ∷ hit 5 8 1 ∷ hit 5 8 2 ∷ []) 0 0 (Cross 5 6 1)

@@ -19,4 +19,6 @@ witnesses =
       a-in-b = record { long = refl; accepted = refl; listing = refl; counts = refl; verdict = refl };
       b-in-a = record { long = refl; accepted = refl; listing = refl; counts = refl; verdict = refl };
       apart = record { long = refl; accepted = refl; listing = refl; counts = refl; verdict = refl };
+      to-infinity = record { long = refl; accepted = refl; listing = refl; counts = refl; verdict = refl };
+      edge-in-four = record { long = refl; accepted = refl; listing = refl; counts = refl; verdict = refl };
     }

@@ -1,7 +1,7 @@
 -- The word of one face's corners, and how the words of faces join to that of a vertex's neighbours. Assumes nothing.
-use mathlib.Core.Path.{_≡_, refl, sym, ap, ap₂, _∙_}
+use mathlib.Core.Path.{_≡_, refl, sym, ap₂, _∙_}
 use mathlib.Core.Bool.{Bool, true, false, not, cond, _&&_, _||_}
-use Prim.Native.Nat.{ℕ, zero, suc, _+_, _-_, _^_, _≤_, _<_}
+use Prim.Native.Nat.{ℕ, _+_, _-_, _^_, _≤_, _<_}
 use native.Mathlib.Omega.{arith}
 use native.Mathlib.Decide.{ℕ-discrete}
 use lib.Bits.{bitOr}
@@ -12,7 +12,6 @@ use Rattle.laws.specs.Mask.{maskOf, or-masks, mask-none, mask-same, mask-one}
 use Rattle.scene.specs.Faces.{FaceOf}
 use Rattle.scene.specs.declared.Face.{Face}
 use Rattle.edges.specs.Edges.{width, isCorner, hasBoth}
-use Rattle.edges.specs.declared.Solid.{Solid}
 
 abbrev pub bitOf : (low i : ℕ) → ℕ
 bitOf low i = 2 ^ (i - (low + 1))

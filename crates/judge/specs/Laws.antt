@@ -2,15 +2,11 @@
 use Prim.Native.Nat.{ℕ, _+_, _<_, _≤_}
 use mathlib.Core.Path.{_≡_, refl, sym, ap, _∙_}
 use mathlib.Core.Bool.{Bool, true, false, not}
-use mathlib.Core.List.{List}
 use borrow.Author.Needs.{needs}
 use borrow.Author.Tests.{not-true, not-false}
 use Rattle.laws.specs.Range as range
 use Rattle.laws.specs.Range.{any-end, any-found, any-next, count-end, count-one, count-none}
-use Rattle.laws.specs.Decides.{decides}
-use Rattle.scene.specs.Limits.{Limits}
-use Rattle.scene.specs.Records.{facesA, facesB}
-use Rattle.judge.specs.Judge.{firstFault, andThen, rule, opens, within, countsOk, headerFault}
+use Rattle.judge.specs.Judge.{firstFault, andThen, rule}
 use Rattle.scene.specs.declared.Refusal.{Refusal}
 use Rattle.judge.specs.declared.Judged.{Judged}
 use Rattle.judge.specs.declared.Judged.the-variants.{Accepted, Refused}

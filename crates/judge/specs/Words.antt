@@ -1,6 +1,6 @@
 -- A word for each vertex of a solid: bit w of the word of v is set exactly when v and w are corners of an odd number of its faces together. One pass
 -- over the faces turns the bits; the vertices that are used are a word of their own. Assumes nothing.
-use Prim.Native.Nat.{ℕ, zero, suc, _+_, _*_, _/_, _%_, _^_, _≤_, _<_}
+use Prim.Native.Nat.{ℕ, suc, _+_, _/_, _%_, _^_, _<_}
 use mathlib.Core.Path.{_≡_, refl, sym, ap, ap₂, _∙_}
 use mathlib.Core.Logic.{_≢_}
 use mathlib.Core.Bool.{Bool, true, false, not, cond, _&&_, _||_}
@@ -13,7 +13,7 @@ use lib.Dec.{eqb}
 use lib.ListN.{length, getD, set, replicate, length-set, length-replicate, getD-replicate}
 use lib.Seq.{getD-set-same, getD-set-other}
 use Rattle.laws.specs.Bools.{law, all, _≐_, _⊕_}
-use Rattle.laws.specs.Mask.{maskOf, or-masks, xor-masks, mask-none, mask-one, mask-same, mask-test}
+use Rattle.laws.specs.Mask.{maskOf, or-masks, xor-masks, mask-none, place-mask, mask-same, mask-test}
 use Rattle.laws.specs.Range.{more, anyOf, countOf, any-more, count-more, over-stop}
 use Rattle.scene.specs.Records.{faces}
 use Rattle.scene.specs.Tables.{cornerAt}
@@ -64,21 +64,11 @@ pub record TurnsFace (s : List ℕ) (i : ℕ) (before after : List ℕ) : Type 0
   pub size : length after ≡ length before
   pub at : (v : ℕ) → v < places → getD after v 0 ≡ bitXor (getD before v 0) (cond (isCorner s v i) (cornersWord s i) 0)
 
-same-place : (k i : ℕ) → eqb k i ≡ eqb i k
-same-place k i = go (ℕ-discrete k i)
-  where
-    go : Dec (k ≡ i) → eqb k i ≡ eqb i k
-    go (yes e) = eq-eqb k i e ∙ sym (eq-eqb i k (sym e))
-    go (no d) = ne-eqb k i d ∙ sym (ne-eqb i k (λ e. d (sym e)))
-
-one-place : (i : ℕ) → i < places → 2 ^ i ≡ maskOf (λ k. eqb i k) places
-one-place i h = sym (mask-one i places h) ∙ mask-same (λ k. eqb k i) (λ k. eqb i k) places (λ k b. same-place k i)
-
 pub three-places : (s : List ℕ) (i : ℕ) {x y z : ℕ} → CornersIn s i → x ≡ 2 ^ cornerAt s i 0 → y ≡ 2 ^ cornerAt s i 1 → z ≡ 2 ^ cornerAt s i 2 →
     bitOr (bitOr x y) z ≡ cornersWord s i
 unfolding cornersWord isCorner
 three-places s i h ex ey ez =
-    ap₂ bitOr (ap₂ bitOr (ex ∙ one-place _ (h .p)) (ey ∙ one-place _ (h .q)) ∙ or-masks _ _ places) (ez ∙ one-place _ (h .r))
+    ap₂ bitOr (ap₂ bitOr (ex ∙ place-mask _ places (h .p)) (ey ∙ place-mask _ places (h .q)) ∙ or-masks _ _ places) (ez ∙ place-mask _ places (h .r))
     ∙ or-masks _ _ places
     ∙ mask-same _ _ places
     (λ k b.

@@ -1,7 +1,6 @@
-// Refusal 8, a vertex in no face, and refusal 9, an edge that lies in an odd number of its solid's faces. A solid's faces are the file's from a up to e.
+// Refusal 8, a vertex in no face, and refusal 9, an edge that lies in an odd number of its solid's faces.
 ghost use mathlib.Core.Path.{_≡_};
 ghost use Prim.Native.Nat.{_+_, _<_, _≤_};
-ghost use Rattle.scene.specs.Limits.{limits};
 ghost use Rattle.scene.specs.Records.{facesA, facesB, verts, vertsA, vertsB, faces};
 ghost use Rattle.scene.specs.Tables.{cornerAt};
 ghost use Rattle.judge.specs.Judge.{andThen, isUsed, unusedFault, unusedsFault, closedAt, edgeFault, edgesFault};
@@ -9,6 +8,7 @@ ghost use Rattle.judge.specs.Words.{places, CornersIn, FacesIn, AreWords
 use crate::Judged;
 use crate::records::corner;
 use crate::records::face_record;
+use crate::words::PLACES;
 use crate::words::Words;
 use crate::words::in_even;
 use crate::words::in_used;
@@ -123,9 +123,9 @@ pub fn solids_fault(s: &[u8]) -> Judged
 {
     let a = byte(s, 3);
     let b = byte(s, 5);
-    let mut wa: Words = [0; 64];
+    let mut wa: Words = [0; PLACES];
     let ua = words_of(s, 0, a, &mut wa);
-    let mut wb: Words = [0; 64];
+    let mut wb: Words = [0; PLACES];
     let ub = words_of(s, a, b, &mut wb);
     if let Judged::Refused(r) = unuseds_fault(s, ua, ub) {
         return Judged::Refused(r);

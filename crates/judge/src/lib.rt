@@ -5,6 +5,7 @@ use scene::Refusal;
 
 mod closed;
 mod header;
+mod points;
 mod records;
 mod words;
 

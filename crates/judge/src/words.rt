@@ -7,22 +7,16 @@ ghost use Rattle.laws.specs.Mask.{testBit};
 ghost use Rattle.judge.specs.Words.{places, CornersIn, AreWords, usedWord, cornersWord, turned, TurnsFace};
 use crate::records::corner;
 
-// The word of the vertex v stands at v.
-pub type Words = [u64; 64];
+// The bits of a word. The word of the vertex v stands at v.
+pub const PLACES: usize = 64;
+
+pub type Words = [u64; PLACES];
 
 fn bit(p: usize) -> u64
     requires { ⌜ p < places ⌝ }
     ensures { λ r. ⌜ r ≡ 2 ^ p ⌝ }
 {
     1 << p
-}
-
-// The corners of the file's face i.
-fn corners_word(s: &[u8], i: usize) -> u64
-    requires { ⌜ (i < 1024) × CornersIn (now s) i ⌝ }
-    ensures { λ r. ⌜ r ≡ cornersWord (now (s .entry)) i ⌝ }
-{
-    bit(corner(s, i, 0)) | bit(corner(s, i, 1)) | bit(corner(s, i, 2))
 }
 
 // The bits of t turn in the word of p.
@@ -33,14 +27,19 @@ fn turn(words: &mut Words, p: usize, t: u64)
     words[p] = words[p] ^ t;
 }
 
-// Each two corners of the file's face i are together in one face more; t is the word of its corners.
-fn turn_face(words: &mut Words, s: &[u8], i: usize, t: u64)
-    requires { ⌜ (length (now words) ≡ places) × (i < 1024) × CornersIn (now s) i × (t ≡ cornersWord (now s) i) ⌝ }
-    ensures { λ _. ⌜ TurnsFace (now (s .entry)) i (now (words .entry)) (now (words .exit)) ⌝ }
+// Each two corners of the file's face i are together in one face more; the answer is the word of its corners.
+fn turn_face(words: &mut Words, s: &[u8], i: usize) -> u64
+    requires { ⌜ (length (now words) ≡ places) × (i < 1024) × CornersIn (now s) i ⌝ }
+    ensures { λ r. ⌜ TurnsFace (now (s .entry)) i (now (words .entry)) (now (words .exit)) × (r ≡ cornersWord (now (s .entry)) i) ⌝ }
 {
-    turn(words, corner(s, i, 0), t);
-    turn(words, corner(s, i, 1), t);
-    turn(words, corner(s, i, 2), t);
+    let p = corner(s, i, 0);
+    let q = corner(s, i, 1);
+    let r = corner(s, i, 2);
+    let t = bit(p) | bit(q) | bit(r);
+    turn(words, p, t);
+    turn(words, q, t);
+    turn(words, r, t);
+    t
 }
 
 // The words of the file's n faces from a on are put in the place of zeros; the answer is the word of the vertices that are used.
@@ -52,9 +51,7 @@ pub fn words_of(s: &[u8], a: usize, n: usize, words: &mut Words) -> u64
     let mut used: u64 = 0;
     let mut k = 0;
     while k < n {
-        let t = corners_word(s, a + k);
-        turn_face(words, s, a + k, t);
-        used = used | t;
+        used = used | turn_face(words, s, a + k);
         k += 1;
     }
     used

@@ -2,8 +2,8 @@
 -- document 01. Assumes nothing.
 use mathlib.Core.Path.{_≡_}
 use mathlib.Core.Bool.{Bool, not, cond, _&&_}
-use mathlib.Core.List.{List, [], _∷_, _++_}
-use Prim.Native.Nat.{ℕ, _+_, _*_, _≤_}
+use mathlib.Core.List.{List, [], _∷_}
+use Prim.Native.Nat.{ℕ, _+_, _*_}
 use lib.Count.{ones}
 use lib.Dec.{eqb, leb}
 use lib.ListN.{length}
@@ -20,7 +20,7 @@ use Rattle.orient.specs.Terms.{positiveAt, termsAt}
 use Rattle.edges.specs.Edges.{isCorner}
 use Rattle.pierce.specs.Formula.{pierced}
 use Rattle.pierce.specs.Faces.{maskAgainst, isOdd, valueOf}
-use Rattle.listing.specs.Hits.{View, isInside, insideCount, lowestInside}
+use Rattle.listing.specs.Hits.{insideCount, lowestInside}
 use Rattle.listing.specs.First.{firstOf}
 use Rattle.listing.specs.Pour.{allIn, partIn}
 use Rattle.listing.specs.declared.find.Found.{Found}

@@ -17,23 +17,22 @@ use Rattle.judge.specs.Tests.{within-iff}
 use Rattle.orient.specs.Signs.{Upto, Four}
 use Rattle.edges.specs.Edges.{isCorner}
 use Rattle.kernel.specs.Answers.{isPoint, isVertex, isFace, arePoints, differ, signFault, clear, edgeAndFace, piercesFault, isVertexOf, maskAsked, maskOutside, maskFault, otherSolid, enclosedFault}
-use Rattle.kernel.specs.Laws.{within-says}
 
 module _ (s : List ℕ) where
   point-is : (i : ℕ) → isPoint s i ≡ true → i ≤ verts s + 1
   unfolding isPoint
-  point-is i e = within-says 1 (verts s + 1) i e .1
+  point-is i e = within-iff 1 (verts s + 1) i .0 e .1
 
   vertex-is : (i : ℕ) → isVertex s i ≡ true → Upto (verts s) i
   unfolding isVertex
-  vertex-is i e = within-says 1 (verts s) i e
+  vertex-is i e = within-iff 1 (verts s) i .0 e
 
   abbrev Point : ℕ → Type 0
   Point i = i ≤ verts s + 1
 
   point-upto : (i : ℕ) → isPoint s i ≡ true → Upto (verts s + 1) i
   unfolding isPoint
-  point-upto i e = within-says 1 (verts s + 1) i e
+  point-upto i e = within-iff 1 (verts s + 1) i .0 e
 
   pub sign-asked : (a b c d : ℕ) → signFault s a b c d ≡ Accepted → (judged s ≡ Accepted) × Point a × Point b × Point c × Point d
   unfolding signFault arePoints
@@ -88,7 +87,7 @@ module _ (s : List ℕ) where
       record {
         u-point = point-upto u (x .0);
         v-point = point-upto v (y .0);
-        is-face = within-says 1 (faces s) f (y .1);
+        is-face = within-iff 1 (faces s) f .0 (y .1);
         differ = differ-iff u v .0 (p .0);
         u-out = not-true _ (q .0);
         v-out = not-true _ (q .1);

@@ -1,10 +1,8 @@
 -- What was found of the two solids, in the arrays that a scene was decoded into, is the scene's own answer. Assumes nothing.
 use mathlib.Core.Path.{_≡_, refl, sym, ap, ap₂, _∙_}
-use mathlib.Core.Bool.{Bool, cond}
 use mathlib.Core.List.{List, [], _∷_, _++_}
 use Prim.Native.Nat.{ℕ, _+_, _≤_, _<_}
 use borrow.Author.Tests.{le-leb, lt-leb}
-use lib.Dec.{leb}
 use Rattle.scene.specs.Records.{vertsA, vertsB, verts}
 use Rattle.edges.specs.declared.Solid.{Solid}
 use Rattle.listing.specs.Hits.{View, Hit, solidHits, lowestInside}

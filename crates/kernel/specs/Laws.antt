@@ -5,8 +5,7 @@ use mathlib.Core.List.{List}
 use Prim.Native.Nat.{ℕ, _+_, _≤_, _<_}
 use native.Mathlib.Omega.{arith}
 use lib.Dec.{leb}
-use borrow.Author.Tests.{leb-true, lt-leb, le-leb, eq-eqb, ne-eqb}
-use Rattle.laws.specs.Decides.{and-iff}
+use borrow.Author.Tests.{lt-leb, le-leb, eq-eqb, ne-eqb}
 use Rattle.laws.specs.Tests.{and-same-stops, and-same-goes-on}
 use Rattle.scene.specs.Records.{vertsA, vertsB, verts}
 use Rattle.scene.specs.declared.Refusal.{Refusal}
@@ -50,10 +49,6 @@ within-stops low high n h = sym (ap (λ (b : Bool). b && leb n high) (lt-leb low
 pub within-is : (low high n : ℕ) {m : ℕ} → low ≤ n → m ≡ high → leb n m ≡ within low high n
 unfolding within
 within-is low high n h e = ap (leb n) e ∙ sym (ap (λ (b : Bool). b && leb n high) (le-leb low n h))
-
-pub within-says : (low high n : ℕ) → within low high n ≡ true → (low ≤ n) × (n ≤ high)
-unfolding within
-within-says low high n e = let h = and-iff _ _ .0 e in (leb-true _ _ (h .0), leb-true _ _ (h .1))
 
 -- ---- tests of a vertex of a solid
 

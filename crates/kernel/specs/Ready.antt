@@ -3,7 +3,7 @@ use mathlib.Core.Path.{_≡_, refl, ap, ap₂, _∙_}
 use mathlib.Core.Logic.{_≢_}
 use mathlib.Core.Bool.{Bool, true, false, _||_, true≢false}
 use mathlib.Core.List.{List}
-use Prim.Native.Nat.{ℕ, _+_, _*_, _≤_, _<_}
+use Prim.Native.Nat.{ℕ, _+_, _*_, _≤_}
 use native.Mathlib.Omega.{arith}
 use borrow.Author.Tests.{eqb-false, ne-eqb, leb-true, leb-false}
 use lib.Count.{ones}
@@ -11,7 +11,7 @@ use lib.Dec.{leb}
 use lib.IntN.{ℤ}
 use Rattle.laws.specs.Decides.{leb-iff, fails-iff}
 use Rattle.scene.specs.Limits.{limits, mostPoints}
-use Rattle.scene.specs.Records.{vertsA, vertsB, facesA, facesB, verts, faces}
+use Rattle.scene.specs.Records.{vertsA, facesA, facesB, verts, faces}
 use Rattle.scene.specs.Read.{points-are}
 use Rattle.scene.specs.Tables.{tablesOf, row, face}
 use Rattle.scene.specs.Arrays.{rowIn, faceIn, AllWithin, FaceWithin, FacesWithin}
@@ -20,7 +20,6 @@ use Rattle.scene.specs.declared.Row.{Row}
 use Rattle.scene.specs.declared.Face.{Face}
 use Rattle.edges.specs.declared.Solid.{Solid}
 use Rattle.judge.specs.Judge.{judged}
-use Rattle.judge.specs.declared.Judged.{Judged}
 use Rattle.judge.specs.declared.Judged.the-variants.{Accepted}
 use Rattle.rules.specs.Given.{counts, weighted, rows-within, faces-within, face-of-a, face-of-b}
 use Rattle.judge.specs.Tests.{within-iff}

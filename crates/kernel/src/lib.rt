@@ -1,9 +1,7 @@
-// The questions to a scene. Each takes the scene's bytes, judges them once, and answers or refuses: a refusal of the scene (1 to 9) comes before
+// The questions to a scene. Each takes the scene's bytes, judges them once, and answers or refuses: a refusal of the scene (1 to 9, and 14) comes before
 // the question's own (10 to 12), and 11 before 12.
 ghost use mathlib.Core.Path.{_≡_};
-ghost use Prim.Native.Nat.{_+_, _≤_, _<_};
-ghost use Rattle.judge.specs.Judge.{judged};
-ghost use Rattle.judge.specs.declared.Judged.the-variants.{Accepted};
+ghost use Prim.Native.Nat.{_+_};
 ghost use Rattle.scene.specs.Records.{verts};
 ghost use Rattle.kernel.specs.Scene.{solidA, solidB};
 use edges::Solid;

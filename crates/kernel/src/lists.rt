@@ -26,7 +26,7 @@ pub enum Listed {
 
 // Room for the longest listing: a face's plane parts two sides of a triangle at most, and each edge is in two faces or more, so that no more
 // than as many edges as the solid has faces pierce a face of the other.
-const MOST_PAIRS: usize = 2 * Scene::MOST_FACES * Scene::MOST_FACES;
+pub const MOST_PAIRS: usize = 2 * Scene::MOST_FACES * Scene::MOST_FACES;
 
 const ROOM: usize = 3 * MOST_PAIRS;
 

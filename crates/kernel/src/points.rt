@@ -1,8 +1,7 @@
 // Questions about points: the sign of four, and whether the edge of two pierces a face.
 ghost use mathlib.Core.Path.{_≡_};
-ghost use Prim.Native.Nat.{_≤_, _<_};
-ghost use Rattle.scene.specs.Tables.{tablesOf, row, face};
-ghost use Rattle.judge.specs.Judge.{judged};
+ghost use Prim.Native.Nat.{_<_};
+ghost use Rattle.scene.specs.Tables.{tablesOf, face};
 ghost use Rattle.judge.specs.declared.Judged.the-variants.{Accepted};
 ghost use Rattle.kernel.specs.Answers.{isPoint, isFace, arePoints, differ, signFault, signOf, clear, edgeAndFace, piercesFault, piercesOf};
 use crate::points_of;

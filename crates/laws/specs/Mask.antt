@@ -2,7 +2,6 @@
 -- pass. Assumes nothing.
 use mathlib.Core.Path.{_≡_, refl, sym, ap, ap₂, _∙_}
 use mathlib.Core.Bool.{Bool, true, false, not, _||_}
-use mathlib.Core.List.{List, [], _∷_}
 use Prim.Native.Nat.{ℕ, zero, suc, _+_, _-_, _*_, _^_, _/_, _%_, _≤_, _<_}
 use native.Mathlib.Nat.{pow-suc, add-comm, mul-comm, mul-assoc, mul-le-mul-right, add-mul-div-left}
 use native.Mathlib.Decide.{ℕ-discrete}
@@ -14,7 +13,7 @@ use lib.Dec.{lit<, eqb}
 use lib.Bits.{bitOr, bitXor, or-shifted-r, or-block, xor-block}
 use lib.Pow.{pow-add, pow-pos, shl-exact, shr-shr, high}
 use Rattle.laws.specs.Bools.{_⊕_}
-use Rattle.laws.specs.Range.{more, fold}
+use Rattle.laws.specs.Range.{more}
 use Rattle.laws.specs.Even.{odd, count, oddN, odd-count}
 use Rattle.laws.specs.Lists.{run}
 
@@ -189,6 +188,17 @@ mask-one i (suc n) h = go (ℕ-discrete n i) (mask-one i n)
     go (yes e) before =
         rw (mask-none (λ k. eqb k i) n (λ k b. ne-eqb k i (omega arith)), eq-eqb n i e) (omega (arith, ap (λ (m : ℕ). 2 ^ m) e))
     go (no d) before = rw (ne-eqb n i d) (omega (arith, before (omega arith)))
+
+-- the same, by the number that is looked for
+pub place-mask : (i n : ℕ) → i < n → 2 ^ i ≡ maskOf (λ k. eqb i k) n
+place-mask i n h = sym (mask-one i n h) ∙ mask-same (λ k. eqb k i) (λ k. eqb i k) n (λ k b. turned k)
+  where
+    turned : (k : ℕ) → eqb k i ≡ eqb i k
+    turned k = go (ℕ-discrete k i)
+      where
+        go : Dec (k ≡ i) → eqb k i ≡ eqb i k
+        go (yes e) = eq-eqb k i e ∙ sym (eq-eqb i k (sym e))
+        go (no d) = ne-eqb k i d ∙ sym (ne-eqb i k (λ e. d (sym e)))
 
 -- ---- one bit asked for
 

@@ -1,9 +1,9 @@
 -- Sizes of whole numbers: `Small N z` says that z is from -N to N. A product's size is the product of the sizes, a sum's and a
 -- difference's at most their sum, and a number of size below 2 ^ 63 fits an i64. Assumes nothing.
-use mathlib.Core.Path.{_≡_, refl, sym, ap, _∙_, subst}
+use mathlib.Core.Path.{_≡_, refl, sym, _∙_, subst}
 use mathlib.Core.Bool.{Bool, true, false, cond}
 use Prim.Native.Nat.{ℕ, zero, suc, _+_, _-_, _*_, _^_, _≤_, _<_}
-use native.Mathlib.Nat.{le-refl, le-trans, le-of-lt, lt-of-le-of-lt, add-le-add, mul-le-mul, le-suc}
+use native.Mathlib.Nat.{le-refl, le-trans, lt-of-le-of-lt, add-le-add, mul-le-mul}
 use native.Mathlib.Omega.{arith}
 use lib.Dec.{T, ltb, ltb→lt, lit<}
 use lib.IntN.{ℤ, pos, negsuc, negℤ, natAbs, subℕ, _+ℤ_, _-ℤ_, _*ℤ_}

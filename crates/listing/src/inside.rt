@@ -1,7 +1,6 @@
 // The solid's vertices that the other one encloses: how many, and the lowest.
 ghost use mathlib.Core.Path.{_≡_};
 ghost use Prim.Native.Nat.{_+_};
-ghost use Rattle.laws.specs.Range.{countOf, lowestOf};
 ghost use Rattle.scene.specs.Faces.{Vertex};
 ghost use Rattle.listing.specs.Hits.{viewIn, Sound, isInside, insideCount, lowestInside};
 use edges::Solid;

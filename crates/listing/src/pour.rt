@@ -4,7 +4,7 @@ ghost use Prim.Native.Nat.{_+_, _*_, _≤_, _<_};
 ghost use Rattle.scene.specs.Limits.{limits};
 ghost use Rattle.pierce.specs.Faces.{width, valueOf};
 ghost use Rattle.scene.specs.Faces.{Vertex};
-ghost use Rattle.listing.specs.Hits.{viewIn, Sound, pairHits, vertexHits, solidHits, edgeHits};
+ghost use Rattle.listing.specs.Hits.{viewIn, Sound, pairHits, vertexHits, solidHits};
 ghost use Rattle.listing.specs.Pour.{Pours, stepped, maskHit, maskHits, most};
 use crate::edge_mask;
 use edges::Solid;

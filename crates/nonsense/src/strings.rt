@@ -129,7 +129,17 @@ fn make_random(base: &[u8], kind: usize, x: u64, s: &mut Bytes) -> Made {
     }
 }
 
-// One of these; or the scene with up to three bytes changed, or with up to seven faces doubled.
+// The printed scene's far point becomes a direction, or four zeros.
+fn aim(s: &mut Bytes, x: u64) {
+    put(s, 14, 0);
+    if pick(x, 2) == 0 {
+        put(s, 8, 0);
+        put(s, 10, 0);
+        put(s, 12, 0);
+    }
+}
+
+// One of these; or the scene with another far point, with up to three bytes changed, or with up to seven faces doubled.
 pub fn make(base: &[u8], x: u64, s: &mut Bytes) -> Made {
     let kind = pick(x, 16);
     if kind < 4 {
@@ -137,6 +147,9 @@ pub fn make(base: &[u8], x: u64, s: &mut Bytes) -> Made {
     }
     copy(base, base.len(), s);
     let n = base.len();
+    if kind == 4 {
+        aim(s, next(x));
+    }
     if kind < 8 {
         Made {
             len: n,

@@ -7,13 +7,15 @@ ghost use Rattle.scene.specs.Arrays.{rowIn, AllWithin};
 ghost use Rattle.orient.specs.Determinant.{det4};
 ghost use Rattle.orient.specs.Minors.{crossOf, threeOf, joinOf, meetOf};
 ghost use Rattle.orient.specs.Terms.{factor, c0, c1, c2, c3, termsOf, termsAt, isPlus, tied, positive, pointAt, positiveAt};
-ghost use Rattle.orient.specs.Slide.{swapped, outOfOrder, negative, negativeWeights, lastPositive, Tells};
+ghost use Rattle.orient.specs.Slide.{Tells};
 ghost use Rattle.orient.specs.Weighted.{Asked};
 ghost use Rattle.orient.specs.Columns.{rowOf, partOf};
 ghost use Rattle.orient.specs.Formed.{mostFormed, crossSize, threeSize, meetSize, JoinWithin, DetWithin};
 ghost use Rattle.orient.specs.Sizes.{Within, AreWithin};
 use scene::Row;
 use scene::Rows;
+
+mod slide;
 
 // The four terms.
 pub struct Terms {
@@ -121,41 +123,7 @@ fn tie(a: Point, b: Point, c: Point, d: Point) -> bool
     if t2 != 0 {
         return 0 < t2;
     }
-    last_positive(a, b, c, d)
-}
-
-// The last term on one slide: c3 is positive where the pairs out of order and the negative weights are odd in number.
-fn last_positive(a: Point, b: Point, c: Point, d: Point) -> bool
-    ensures { λ r. ⌜ r ≡ lastPositive a b c d ⌝ }
-{
-    (out_of_order(a, b, c, d) + negative_weights(a, b, c, d)) % 2 == 1
-}
-
-// Of the six pairs of numbers, in the order asked.
-fn out_of_order(a: Point, b: Point, c: Point, d: Point) -> usize
-    ensures { λ r. ⌜ (r ≡ outOfOrder a b c d) × (r ≤ 6) ⌝ }
-{
-    swapped(a, b) + swapped(a, c) + swapped(a, d) + swapped(b, c) + swapped(b, d) + swapped(c, d)
-}
-
-fn negative_weights(a: Point, b: Point, c: Point, d: Point) -> usize
-    ensures { λ r. ⌜ (r ≡ negativeWeights a b c d) × (r ≤ 4) ⌝ }
-{
-    negative(a) + negative(b) + negative(c) + negative(d)
-}
-
-// 1 where the earlier point has the greater number.
-fn swapped(p: Point, q: Point) -> usize
-    ensures { λ r. ⌜ (r ≡ swapped p q) × (r ≤ 1) ⌝ }
-{
-    if q.n < p.n { 1 } else { 0 }
-}
-
-// 1 where the weight is negative; 0 is not.
-fn negative(p: Point) -> usize
-    ensures { λ r. ⌜ (r ≡ negative p) × (r ≤ 1) ⌝ }
-{
-    if p.w < 0 { 1 } else { 0 }
+    slide::last_positive(a, b, c, d)
 }
 
 // c0, of the rows as they are.

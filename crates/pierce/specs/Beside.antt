@@ -35,10 +35,10 @@ pub record Helped (row : ℕ → Row) (u v h : ℕ) (f : Face) : Type 0 where
   pub six : Six (Upto points) u v h (f .p) (f .q) (f .r)
 
 -- where the face is one of a solid whose vertices are the points above low, up to high, and u and v are none of them
-in-scene : {n low high i : ℕ} → high ≤ n → Vertex low high i → Upto n i
+pub in-scene : {n low high i : ℕ} → high ≤ n → Vertex low high i → Upto n i
 in-scene l h = omega arith
 
-apart : {low high u i : ℕ} → (Vertex low high u → ⊥) → Vertex low high i → u ≢ i
+pub apart : {low high u i : ℕ} → (Vertex low high u → ⊥) → Vertex low high i → u ≢ i
 apart out h e = out (rw e h)
 
 pub beside : {n low high u v : ℕ} → high ≤ n → Upto n u → Upto n v → u ≢ v → (Vertex low high u → ⊥) → (Vertex low high v → ⊥) →

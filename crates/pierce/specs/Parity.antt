@@ -18,6 +18,7 @@ use Rattle.pierce.specs.Formula.{pierces}
 use Rattle.pierce.specs.Five.{hits, hitsFace, by-helper}
 use Rattle.pierce.specs.Triangles.{two-faces, hits-back}
 use Rattle.pierce.specs.Faces.{maskBy, isOdd, odd-faces}
+use Rattle.pierce.specs.Beside.{in-scene, apart}
 use Rattle.pierce.specs.Closed.{Closed, BothWays, round, closed-sum, closed-by-edges}
 
 -- a closed solid whose vertices are the points above low, up to high, of n
@@ -47,12 +48,6 @@ turn t = search ne-sym
 
 swap : {n low high u v w : ℕ} → Triangle n low high u v w → Triangle n low high u w v
 swap t = search ne-sym
-
-in-scene : {n low high i : ℕ} → high ≤ n → Vertex low high i → Upto n i
-in-scene l h = omega arith
-
-apart : {low high u i : ℕ} → (Vertex low high u → ⊥) → Vertex low high i → u ≢ i
-apart out h e = out (rw e h)
 
 six : {n low high u v w : ℕ} → high ≤ n → Triangle n low high u v w → (f : Face) → FaceOf low high f → Six (Upto n) u v w (f .p) (f .q) (f .r)
 six l t f h = search (ne-sym, in-scene, apart)

@@ -1,7 +1,6 @@
 -- Of a scene whose points all have a weight: piercing is the test of five signs, and the parity of its masks says that enclosure does not
 -- depend on the way out. Assumes nothing.
 use mathlib.Core.Path.{_≡_}
-use mathlib.Core.Bool.{Bool}
 use Prim.Native.Nat.{ℕ, _+_, _%_, _≤_}
 use lib.Count.{ones}
 use Rattle.laws.specs.Bools.{_⊕_}

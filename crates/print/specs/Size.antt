@@ -1,6 +1,6 @@
 -- The size of a negative i64 as the machine forms it: one added, negated, cast, one added. Each step fits, also for the lowest. Assumes nothing.
-use Prim.Native.Nat.{ℕ, zero, suc, _+_, _<_, _≤_, _^_}
-use mathlib.Core.Path.{_≡_, refl, sym, ap, _∙_, subst}
+use Prim.Native.Nat.{ℕ, zero, suc, _+_, _<_, _^_}
+use mathlib.Core.Path.{_≡_, sym, ap, _∙_, subst}
 use mathlib.Core.Bool.{Bool, true, false}
 use native.Mathlib.Omega.{arith}
 use lib.Dec.{T, ltb→lt}
@@ -68,3 +68,11 @@ pub casts : {z : ℤ} → SFits w64 z → ltZ (reread z) (pos 0) ≡ false → T
 casts {z = negsuc k} f h = absurd (subst T (plain f h) tt)
 casts {z = pos n} f h =
     subst (λ (x : ℤ). T (nonNeg x) × Fits w64 (natAbs x)) (sym (toZ-ofZ w64 (pos n) f)) (tt, omega (arith, f .sfits))
+
+-- what is then formed
+pub flipped-size : {z : ℤ} → SFits w64 z → ltZ (reread z) (pos 0) ≡ true → natAbs (reread (flip z)) + 1 ≡ natAbs z
+flipped-size {z = pos n} f h = absurd (omega (arith, ltb→lt n 0 (subst T (sym (plain f h)) tt)))
+flipped-size {z = negsuc k} f h = let e = ap natAbs (flip-back k (f .sfits)) in omega arith
+
+pub cast-size : {z : ℤ} → SFits w64 z → natAbs (reread z) ≡ natAbs z
+cast-size {z} f = ap natAbs (toZ-ofZ w64 z f)

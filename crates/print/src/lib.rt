@@ -1,4 +1,6 @@
 // The answers to the questions as lines of text on standard output. What is printed can't stand in a contract: programs are run and compared.
+ghost use mathlib.Core.Path.{_≡_};
+ghost use lib.IntN.{natAbs};
 use libc::STDOUT_FILENO;
 use scene::Refusal;
 
@@ -17,7 +19,9 @@ pub fn number(n: usize) {
 }
 
 // The size of a number. (-n alone would not fit for the lowest.)
-pub fn size(n: i64) -> u64 {
+pub fn size(n: i64) -> u64
+    ensures { λ r. ⌜ r ≡ natAbs n ⌝ }
+{
     if n < 0 {
         ((0 - (n + 1)) as u64) + 1
     } else {

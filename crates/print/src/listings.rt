@@ -8,14 +8,12 @@ use kernel::counts;
 use kernel::counts::Counted;
 use kernel::lists;
 use kernel::lists::Listed;
+use kernel::lists::MOST_PAIRS;
 use libc::STDOUT_FILENO;
-use scene::Scene;
 ghost use mathlib.Core.Path.{_≡_};
 ghost use Prim.Native.Nat.{min};
 
-// The longest listing, and how much of one is asked for at a time: a program that prints stays below 64 KiB.
-const MOST_PAIRS: usize = 2 * Scene::MOST_FACES * Scene::MOST_FACES;
-
+// How much of a listing is asked for at a time: a program that prints stays below 64 KiB.
 const PART: usize = MOST_PAIRS / 3;
 
 fn least(a: usize, b: usize) -> usize

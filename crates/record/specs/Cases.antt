@@ -1,14 +1,13 @@
 -- The cases of a record shown, each from the facts that lead there. Assumes nothing.
 use Prim.Native.Nat.{ℕ, _+_, _-_, _<_, _≤_}
-use mathlib.Core.Path.{_≡_, refl, sym, ap, _∙_}
+use mathlib.Core.Path.{_≡_, sym, ap, _∙_}
 use mathlib.Core.List.{List, []}
-use native.Mathlib.Omega.{arith}
 use lib.ListN.{length}
 use borrow.Author.Tests.{eq-eqb, ne-eqb, lt-ltb, le-ltb, le-leb, lt-leb, eqb-true, leb-true}
-use Rattle.scene.specs.Records.{verts, faces, lastRecord, lengthOf, pointStart, faceStart, endStart}
+use Rattle.scene.specs.Records.{verts, lastRecord, lengthOf, pointStart, faceStart, endStart}
 use Rattle.scene.specs.declared.Refusal.{Refusal}
 use Rattle.scene.specs.declared.Refusal.the-variants.{Lacking}
-use Rattle.judge.specs.Judge.{rule, andThen, judged, judgedAt, headerFault}
+use Rattle.judge.specs.Judge.{rule, judged, judgedAt, headerFault}
 use Rattle.judge.specs.Laws.{rule-ok, rule-rest, then-first, then-rest, then-accepted, then-refused}
 use Rattle.judge.specs.declared.Judged.{Judged}
 use Rattle.judge.specs.declared.Judged.the-variants.{Accepted, Refused}

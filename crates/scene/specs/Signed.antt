@@ -1,6 +1,6 @@
 -- Signed numbers read from bytes, in the machine: the two cases, and the negation of a small number. Assumes nothing.
-use Prim.Native.Nat.{ℕ, zero, suc, _+_, _*_, _-_, _<_, _≤_, _^_}
-use mathlib.Core.Path.{_≡_, refl, sym, ap, _∙_}
+use Prim.Native.Nat.{ℕ, zero, suc, _+_, _-_, _<_, _≤_, _^_}
+use mathlib.Core.Path.{_≡_, sym, ap, _∙_}
 use mathlib.Core.List.{List}
 use native.Mathlib.Omega.{arith}
 use lib.IntN.{ℤ, pos, negsuc, _-ℤ_, +ℤ-idl}
@@ -9,7 +9,7 @@ use borrow.Author.Tests.{lt-ltb, le-ltb}
 use mir.Syntax.{w64}
 use mir.Val.{toZ, ofZ, SFits}
 use mir.ValLaws.{toZ-pos, toZ-ofZ}
-use Rattle.scene.specs.Bytes.{byteAt, twoAt, signed}
+use Rattle.scene.specs.Bytes.{twoAt, signed}
 
 -- past the end two bytes are 0 too
 pub past : (s : List ℕ) (i : ℕ) → length s ≤ i → 0 ≡ twoAt s i

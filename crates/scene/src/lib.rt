@@ -49,7 +49,7 @@ impl Scene {
     pub const EN: usize = 69 + 78 * 256;
 }
 
-// Why a question is not answered: a case for each number of document 01, with its place where that is not always 0.
+// Why a question is not answered: a case for each number, with its place where that is not always 0.
 pub enum Refusal {
     Opening,
     Counts,

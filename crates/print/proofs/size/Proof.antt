@@ -1,6 +1,5 @@
--- `print::size` is safe: each number that is formed on the way fits.
-use Rattle.print.specs.Size.{flips, casts}
-use borrow.Author.Needs.{needs}
+-- Each number that is formed on the way fits, and the last is the size.
+use Rattle.print.specs.Size.{flips, casts, flipped-size, cast-size}
 use Rattle.print.proofs.size.Statement.{statement}
 use Rattle.print.proofs.size.Tie as tie
 
@@ -20,10 +19,10 @@ cast-result-2 : tie.Need-cast-result-2
 cast-result-2 c = casts (c .before .fits .n) (c .if1 .left)
 
 returns : tie.Need-returns
-returns c = search needs
+returns c = flipped-size (c .before .fits .n) (c .if1 .taken)
 
 returns-2 : tie.Need-returns-2
-returns-2 c = search needs
+returns-2 c = cast-size (c .before .fits .n)
 
 pub size-spec : {M : Type 1} → statement M
 size-spec =

@@ -1,7 +1,7 @@
 -- The first fault of the rest is the first of the whole.
 use native.Mathlib.Omega.{arith}
 use Rattle.judge.specs.Cases.{first-to}
-use Prim.Native.Nat.{_+_, _-_, _≤_}
+use Prim.Native.Nat.{_+_, _-_}
 use mathlib.Core.Path.{_≡_}
 use Rattle.judge.specs.Laws.{loops}
 use Rattle.judge.specs.Judge.{firstFault, unusedFault, unusedsFault}

@@ -16,19 +16,13 @@ abbrev μ-loop : tie.MeasureT-loop
 loop-holds : tie.Need-loop-holds Inv-loop μ-loop
 loop-holds c = (omega arith, c .before .pre .0, used-none _ _)
 
-add-corners-word : tie.Need-add-corners-word Inv-loop μ-loop
-add-corners-word c = search needs
-
-corners-word-requires : tie.Need-corners-word-requires Inv-loop μ-loop
-corners-word-requires c κs = (omega arith, c .before .before .before .pre .1 .1 _ (omega arith))
-
 add-turn-face : tie.Need-add-turn-face Inv-loop μ-loop
 add-turn-face c = search needs
 
 turn-face-requires : tie.Need-turn-face-requires Inv-loop μ-loop
 turn-face-requires c κs =
-    let l = c .before .before .before in
-    (l .loop .inv .1 .size, omega arith, l .before .before .pre .1 .1 _ (omega arith), c .before .corners-word .ensures)
+    let l = c .before .before in
+    (l .loop .inv .1 .size, omega arith, l .before .before .pre .1 .1 _ (omega arith))
 
 add-k : tie.Need-add-k Inv-loop μ-loop
 add-k c = search needs
@@ -38,8 +32,8 @@ loop-less c = search needs
 
 loop-again : tie.Need-loop-again Inv-loop μ-loop
 loop-again c =
-    let i = c .before .before .before .before .loop .inv in
-    (omega arith, words-more _ _ _ (i .1) (c .turn-face .ensures), used-more _ _ _ (i .2) (c .before .before .corners-word .ensures))
+    let i = c .before .before .before .loop .inv in
+    (omega arith, words-more _ _ _ (i .1) (c .turn-face .ensures .0), used-more _ _ _ (i .2) (c .turn-face .ensures .1))
 
 returns : tie.Need-returns Inv-loop μ-loop
 returns c =
@@ -54,8 +48,6 @@ words-of-spec =
     Inv-loop
     μ-loop
     loop-holds
-    add-corners-word
-    corners-word-requires
     add-turn-face
     turn-face-requires
     add-k

@@ -1,6 +1,6 @@
 -- Each turn counts one more pair of points, told by the lowest bit that is left.
 use Rattle.listing.specs.Laws.{count-all}
-use Prim.Native.Nat.{ℕ, _%_, _<_}
+use Prim.Native.Nat.{_%_, _<_}
 use mathlib.Core.Bool.{Bool}
 use lib.Dec.{eqb}
 use Rattle.scene.specs.Limits.{limits}

@@ -2,14 +2,14 @@
 use Prim.Native.Nat.{_<_}
 use Rattle.edges.specs.Edges.{width}
 use Rattle.listing.specs.First.{told}
-use Prim.Native.Nat.{_+_, _-_, _≤_}
+use Prim.Native.Nat.{_-_, _≤_}
 use mathlib.Core.Path.{_≡_}
 use borrow.Author.Needs.{needs}
 use native.Mathlib.Omega.{arith}
 use denote.Ref.{now}
 use mathlib.Core.List.{[]}
 use Rattle.listing.specs.Hits.{viewIn, upTo, pairsAt, vertexHits}
-use Rattle.listing.specs.Laws.{bitsLeft, left-all, left-test, left-rest}
+use Rattle.listing.specs.Laws.{bitsLeft, left-all, left-rest}
 use Rattle.listing.specs.First.{first-start, first-more, first-found, first-end}
 use Rattle.listing.proofs.find.find_vertex.Statement.{statement}
 use Rattle.listing.proofs.find.find_vertex.Tie as tie

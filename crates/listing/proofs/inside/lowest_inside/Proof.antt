@@ -1,5 +1,5 @@
 -- The lowest of the rest is the lowest of the whole.
-use Prim.Native.Nat.{_+_, _-_, _≤_, _<_}
+use Prim.Native.Nat.{_-_, _<_}
 use mathlib.Core.Path.{_≡_}
 use Rattle.laws.specs.Range.{lowestOf, loops}
 use Rattle.listing.specs.Hits.{viewIn, isInside, lowestInside}

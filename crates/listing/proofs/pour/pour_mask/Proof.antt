@@ -2,14 +2,13 @@
 use Rattle.listing.specs.Poured.{pours-told}
 use Rattle.listing.specs.Poured.{mask-reached}
 use Prim.Native.Nat.{_+_, _-_, _≤_}
-use mathlib.Core.Path.{_≡_}
 use borrow.Author.Needs.{needs}
 use native.Mathlib.Omega.{arith}
 use Rattle.laws.specs.Mask.{testBit}
 use Rattle.pierce.specs.Faces.{valueOf}
 use Rattle.listing.specs.Hits.{upTo}
 use Rattle.listing.specs.Pour.{Pours, maskHit}
-use Rattle.listing.specs.Poured.{pours-start, pours-next, pours-all, reached, pours-same}
+use Rattle.listing.specs.Poured.{pours-start, pours-next, pours-all}
 use Rattle.listing.proofs.pour.pour_mask.Statement.{statement}
 use Rattle.listing.proofs.pour.pour_mask.Tie as tie
 

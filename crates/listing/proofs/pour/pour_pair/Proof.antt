@@ -2,7 +2,7 @@
 use Rattle.listing.specs.Laws.{pair-apart, pair-none}
 use Rattle.listing.specs.Poured.{pours-edge}
 use borrow.Author.Tests.{not-true, not-false}
-use Rattle.listing.specs.Poured.{pours-nothing, pours-same}
+use Rattle.listing.specs.Poured.{pours-nothing}
 use borrow.Author.Needs.{needs}
 use Rattle.listing.proofs.pour.pour_pair.Statement.{statement}
 use Rattle.listing.proofs.pour.pour_pair.Tie as tie

@@ -1,17 +1,16 @@
 -- Each turn pours one more pair of points, told by the lowest bit that is left.
 use Rattle.listing.specs.Poured.{pairs-reached, pours-pair}
-use Prim.Native.Nat.{_+_, _-_, _≤_}
+use Prim.Native.Nat.{_-_, _≤_}
 use mathlib.Core.Path.{_≡_}
 use borrow.Author.Needs.{needs}
 use native.Mathlib.Omega.{arith}
 use denote.Ref.{now}
-use Prim.Native.Nat.{ℕ, _%_, _<_}
-use Rattle.scene.specs.Limits.{limits}
-use Rattle.edges.specs.Edges.{width, joined}
-use Rattle.listing.specs.Hits.{viewIn, upTo, pairHits, pairsAt, vertexHits}
+use Prim.Native.Nat.{_<_}
+use Rattle.edges.specs.Edges.{width}
+use Rattle.listing.specs.Hits.{viewIn, upTo, pairsAt, vertexHits}
 use Rattle.listing.specs.Pour.{Pours}
-use Rattle.listing.specs.Laws.{bitsLeft, left-all, left-test, left-rest, pair-most}
-use Rattle.listing.specs.Poured.{pours-start, pours-next, pours-all, pours-same, reached}
+use Rattle.listing.specs.Laws.{bitsLeft, left-all, left-rest}
+use Rattle.listing.specs.Poured.{pours-start, pours-next, pours-all}
 use Rattle.listing.proofs.pour.pour_vertex.Statement.{statement}
 use Rattle.listing.proofs.pour.pour_vertex.Tie as tie
 

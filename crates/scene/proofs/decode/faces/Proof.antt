@@ -5,7 +5,7 @@ use Rattle.scene.specs.Read.{face-none}
 use Prim.Native.Nat.{_+_, _*_, _-_, _≤_}
 use mathlib.Core.Path.{_≡_}
 use Rattle.laws.specs.Filled.{filled, filled-more}
-use Rattle.scene.specs.Limits.{limits, mostPoints}
+use Rattle.scene.specs.Limits.{limits}
 use Rattle.scene.specs.Tables.{tablesOf, face}
 use Rattle.scene.specs.Decode.{faceSet, faces-decoded}
 use denote.Ref.{now}

@@ -5,8 +5,6 @@ use lib.ListN.{List·getD-eq-default}
 use borrow.Author.Needs.{needs}
 use Rattle.scene.proofs.read.byte.Statement.{statement}
 use Rattle.scene.proofs.read.byte.Tie as tie
-use Rattle.scene.proofs.read.byte.Reads as reads
-use Rattle.scene.proofs.read.byte.Lts as lts
 
 shared-slice-read-result : tie.Need-shared-slice-read-result
 shared-slice-read-result c = search needs

@@ -5,9 +5,6 @@ use Rattle.scene.specs.Signed.{negated-fits, read-low, read-high}
 use borrow.Author.Needs.{needs}
 use Rattle.scene.proofs.read.coordinate.Statement.{statement}
 use Rattle.scene.proofs.read.coordinate.Tie as tie
-use Rattle.scene.proofs.read.coordinate.Reads as reads
-use Rattle.scene.proofs.read.coordinate.Lts as lts
-use Rattle.scene.proofs.read.two.Reads as two-reads
 
 two-requires : tie.Need-two-requires
 two-requires c κs = search needs

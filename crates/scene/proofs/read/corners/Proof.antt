@@ -6,10 +6,6 @@ use Rattle.scene.specs.Read.{face-zero, face-none, face-a, face-b}
 use borrow.Author.Needs.{needs}
 use Rattle.scene.proofs.read.corners.Statement.{statement}
 use Rattle.scene.proofs.read.corners.Tie as tie
-use Rattle.scene.proofs.read.corners.Reads as reads
-use Rattle.scene.proofs.read.corners.Lts as lts
-use Rattle.scene.proofs.read.byte.Reads as byte-reads
-use Rattle.scene.proofs.read.face_at.Reads as face-at-reads
 
 byte-requires : tie.Need-byte-requires
 byte-requires c κs = search needs

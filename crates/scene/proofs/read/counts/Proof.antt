@@ -1,9 +1,6 @@
 use borrow.Author.Needs.{needs}
 use Rattle.scene.proofs.read.counts.Statement.{statement}
 use Rattle.scene.proofs.read.counts.Tie as tie
-use Rattle.scene.proofs.read.counts.Reads as reads
-use Rattle.scene.proofs.read.counts.Lts as lts
-use Rattle.scene.proofs.read.byte.Reads as byte-reads
 
 byte-requires : tie.Need-byte-requires
 byte-requires c κs = search needs

@@ -3,9 +3,6 @@ use Rattle.scene.specs.Read.{face-read}
 use borrow.Author.Needs.{needs}
 use Rattle.scene.proofs.read.face_at.Statement.{statement}
 use Rattle.scene.proofs.read.face_at.Tie as tie
-use Rattle.scene.proofs.read.face_at.Reads as reads
-use Rattle.scene.proofs.read.face_at.Lts as lts
-use Rattle.scene.proofs.read.byte.Reads as byte-reads
 
 byte-requires : tie.Need-byte-requires
 byte-requires c κs = search needs

@@ -5,10 +5,6 @@ use Rattle.scene.specs.Read.{far-is, row-none, row-zero, row-is}
 use borrow.Author.Needs.{needs}
 use Rattle.scene.proofs.read.row.Statement.{statement}
 use Rattle.scene.proofs.read.row.Tie as tie
-use Rattle.scene.proofs.read.row.Reads as reads
-use Rattle.scene.proofs.read.row.Lts as lts
-use Rattle.scene.proofs.read.byte.Reads as byte-reads
-use Rattle.scene.proofs.read.row_at.Reads as row-at-reads
 
 byte-requires : tie.Need-byte-requires
 byte-requires c κs = search needs

@@ -2,10 +2,6 @@ use Rattle.laws.specs.Size.{called}
 use borrow.Author.Needs.{needs}
 use Rattle.scene.proofs.read.row_at.Statement.{statement}
 use Rattle.scene.proofs.read.row_at.Tie as tie
-use Rattle.scene.proofs.read.row_at.Reads as reads
-use Rattle.scene.proofs.read.row_at.Lts as lts
-use Rattle.scene.proofs.read.coordinate.Reads as coordinate-reads
-use Rattle.scene.proofs.read.weight.Reads as weight-reads
 
 mul-at : tie.Need-mul-at
 mul-at c = search needs

@@ -5,9 +5,6 @@ use Rattle.scene.specs.Signed.{past}
 use borrow.Author.Needs.{needs}
 use Rattle.scene.proofs.read.two.Statement.{statement}
 use Rattle.scene.proofs.read.two.Tie as tie
-use Rattle.scene.proofs.read.two.Reads as reads
-use Rattle.scene.proofs.read.two.Lts as lts
-use Rattle.scene.proofs.read.byte.Reads as byte-reads
 
 byte-requires : tie.Need-byte-requires
 byte-requires c κs = search needs

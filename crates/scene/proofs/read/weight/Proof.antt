@@ -5,9 +5,6 @@ use Rattle.scene.specs.Signed.{negated-fits, read-low, read-high}
 use borrow.Author.Needs.{needs}
 use Rattle.scene.proofs.read.weight.Statement.{statement}
 use Rattle.scene.proofs.read.weight.Tie as tie
-use Rattle.scene.proofs.read.weight.Reads as reads
-use Rattle.scene.proofs.read.weight.Lts as lts
-use Rattle.scene.proofs.read.byte.Reads as byte-reads
 
 byte-requires : tie.Need-byte-requires
 byte-requires c κs = search needs
