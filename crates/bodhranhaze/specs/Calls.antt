@@ -4,15 +4,13 @@ use mathlib.Core.List.{List}
 use Prim.Native.Nat.{ℕ}
 use lib.ListN.{length}
 use Rattle.scene.specs.Refusal.{numberOf, placeOf}
+use Rattle.scene.specs.View.{viewOf}
+use Rattle.scene.specs.declared.Refusal.{Refusal}
 use Rattle.judge.specs.Judge.{judged}
-use Rattle.judge.specs.Laws.{then-first}
 use Rattle.judge.specs.declared.Judged.{Judged}
 use Rattle.judge.specs.declared.Judged.the-variants.{Accepted, Refused}
-use Rattle.listing.specs.Pour.{allIn}
-use Rattle.kernel.specs.Scene.{listingOf}
-use Rattle.kernel.specs.Answers.{answered, listFault}
-use Rattle.kernel.specs.Inside as kernel
-use Rattle.kernel.specs.Inside.{insideFault, insideIn}
+use Rattle.kernel.specs.Answers as kernel
+use Rattle.kernel.specs.Answers.{answered, listingIn, insideFault, insideIn, enclosingIn, listFault, listedIn, heldIn}
 use Rattle.kernel.specs.declared.lists.Listed.{Listed}
 use Rattle.kernel.specs.declared.lists.Listed.the-variants as listed
 use Rattle.kernel.specs.declared.inside.Enclosing.{Enclosing}
@@ -28,16 +26,16 @@ refusalPlace (Refused r) = placeOf r
 
 -- the number of pierced pairs
 unfoldable pub pairsOf : List ℕ → ℕ
-pairsOf s = answered (λ _. 0) (judged s) (length (listingOf s))
+pairsOf s = answered (λ _. 0) (judged s) (length (listingIn (viewOf s)))
 
 -- the number of vertices of solid k that the other one encloses
 unfoldable pub insideOf : List ℕ → ℕ → ℕ
-insideOf s k = answered (λ _. 0) (insideFault s k) (insideIn s k)
+insideOf s k = answered (λ _. 0) (judged s) (answered (λ _. 0) (insideFault k) (insideIn (viewOf s) k))
 
 -- the number of pairs; d, what the lent list held, is kept where the scene is refused or there is no room, and else d′ has the listing in front
 pub record IsListing (s d d′ : List ℕ) (r : ℕ) : Type 0 where
   pub answer : r ≡ pairsOf s
-  pub held : d′ ≡ answered (λ _. d) (listFault s d) (allIn (listingOf s) d)
+  pub held : d′ ≡ answered (λ _. d) (judged s) (heldIn (viewOf s) d)
 
 -- ---- from the kernel's answers
 
@@ -53,27 +51,31 @@ abbrev pub enclosed : Enclosing → ℕ
 enclosed (enclosing.Count n) = n
 enclosed (enclosing.Refused r) = 0
 
-pub pairs-are : (s : List ℕ) {o x : Listed} {n : ℕ} → o ≡ answered listed.Refused (judged s) (listed.Count (length (listingOf s))) → o ≡ x → n ≡ counted x → n ≡ pairsOf s
-unfolding answered pairsOf
-pairs-are s e q p = by-case counted e q p ∙ go (judged s)
-  where
-    go : (j : Judged) → counted (answered listed.Refused j (listed.Count (length (listingOf s)))) ≡ answered (λ _. 0) j (length (listingOf s))
-    go Accepted = refl
-    go (Refused r) = refl
+-- the number of an answer that says nothing where it is refused
+number-of : {A : Type 0} (f : A → ℕ) (refuse : Refusal → A) → ((r : Refusal) → f (refuse r) ≡ 0) → (j : Judged) (x : A) →
+    f (answered refuse j x) ≡ answered (λ _. 0) j (f x)
+unfolding answered
+number-of f refuse h Accepted x = refl
+number-of f refuse h (Refused r) x = h r
+
+pub pairs-are : (s : List ℕ) {o x : Listed} {n : ℕ} → o ≡ answered listed.Refused (judged s) (listed.Count (length (listingIn (viewOf s)))) → o ≡ x → n ≡ counted x →
+    n ≡ pairsOf s
+unfolding pairsOf
+pairs-are s e q p = by-case counted e q p ∙ number-of counted listed.Refused (λ r. refl) (judged s) (listed.Count (length (listingIn (viewOf s))))
 
 pub inside-is : (s : List ℕ) (k : ℕ) {o x : Enclosing} {n : ℕ} → o ≡ kernel.insideOf s k → o ≡ x → n ≡ enclosed x → n ≡ insideOf s k
-unfolding answered insideOf kernel.insideOf
-inside-is s k e q p = by-case enclosed e q p ∙ go (insideFault s k)
-  where
-    go : (j : Judged) → enclosed (answered enclosing.Refused j (enclosing.Count (insideIn s k))) ≡ answered (λ _. 0) j (insideIn s k)
-    go Accepted = refl
-    go (Refused r) = refl
+unfolding insideOf kernel.insideOf enclosingIn
+inside-is s k e q p =
+    by-case enclosed e q p ∙ number-of enclosed enclosing.Refused (λ r. refl) (judged s) (enclosingIn (viewOf s) k)
+    ∙ ap (answered (λ _. 0) (judged s)) (number-of enclosed enclosing.Refused (λ r. refl) (insideFault k) (enclosing.Count (insideIn (viewOf s) k)))
 
 -- a listing that was not refused is of an accepted scene
-pub listed-are : (s d : List ℕ) {o : Listed} {n : ℕ} → o ≡ answered listed.Refused (listFault s d) (listed.Count (length (listingOf s))) → o ≡ listed.Count n → n ≡ pairsOf s
-unfolding answered pairsOf listFault
-listed-are s d {n} e q = go (listFault s d) refl (sym q ∙ e)
+pub listed-are : (s d : List ℕ) {o : Listed} {n : ℕ} → o ≡ answered listed.Refused (judged s) (listedIn (viewOf s) d) → o ≡ listed.Count n → n ≡ pairsOf s
+unfolding answered pairsOf listedIn
+listed-are s d {n} e q = go (judged s) (listFault (viewOf s) d) (sym q ∙ e)
   where
-    go : (j : Judged) → j ≡ listFault s d → listed.Count n ≡ answered listed.Refused j (listed.Count (length (listingOf s))) → n ≡ answered (λ _. 0) (judged s) (length (listingOf s))
-    go Accepted e p = ap counted p ∙ ap (λ (j : Judged). answered (λ _. 0) j (length (listingOf s))) (sym (then-first _ _ (sym e)))
-    go (Refused r) e p = cc
+    go : (j k : Judged) → listed.Count n ≡ answered listed.Refused j (answered listed.Refused k (listed.Count (length (listingIn (viewOf s))))) →
+        n ≡ answered (λ _. 0) j (length (listingIn (viewOf s)))
+    go Accepted Accepted p = ap counted p
+    go Accepted (Refused r) p = cc
+    go (Refused r) k p = cc

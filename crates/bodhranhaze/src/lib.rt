@@ -10,6 +10,8 @@ use kernel::inside::Enclosing;
 use kernel::lists::Listed;
 use kernel::verdict::Verdict;
 
+mod refusals;
+
 // The number of the scene's refusal, 0 for an accepted scene.
 #[no_mangle]
 pub extern "C" fn bodhranhaze_refusal(s: &[u8]) -> usize

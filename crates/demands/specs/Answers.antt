@@ -11,20 +11,21 @@ use Rattle.laws.specs.Lists.{Some}
 use Rattle.scene.specs.Limits.{limits}
 use Rattle.scene.specs.Refusal.{numberOf, placeOf}
 use Rattle.scene.specs.declared.Refusal.{Refusal}
-use Rattle.scene.specs.declared.Refusal.the-variants.{Room, Lacking, Same}
+use Rattle.scene.specs.declared.Refusal.the-variants.{Room, Lacking, Same, Buffer}
 use Rattle.judge.specs.declared.Judged.the-variants.{Refused}
 use Rattle.rules.specs.Rules.{Between, FileOk}
 use Rattle.rules.specs.Grounds.{Grounds}
 use Rattle.record.specs.Shown.{refusal, shown}
-use Rattle.kernel.specs.Scene.{listingOf}
-use Rattle.kernel.specs.Answers.{signOf, piercesOf, maskedOf, refused, enclosedOf, countedOf, verdictOf, IsListed, IsPart}
+use Rattle.scene.specs.View.{viewOf}
+use Rattle.kernel.specs.Answers.{signOf, piercesOf, maskedOf, refused, enclosedOf, countedOf, verdictOf, IsListed, IsPart, listingIn, insideOf}
 use Rattle.kernel.specs.declared.points.Signed.the-variants as sign
 use Rattle.kernel.specs.declared.points.Answer.the-variants as answer
 use Rattle.kernel.specs.declared.counts.Counted.the-variants as counted
+use Rattle.kernel.specs.declared.inside.Enclosing.the-variants as enclosing
 use Rattle.kernel.specs.declared.verdict.Verdict.the-variants as verdict
 use Rattle.kernel.specs.declared.lists.Listed.{Listed}
 use Rattle.kernel.specs.declared.lists.Listed.the-variants as listed
-use Rattle.demands.specs.Words.{Vertex, RecordNumber, FourPoints, TwoAlike, EdgeAndFace, AlikeOrCorner, EdgeAndSolid, AlikeOrVertex}
+use Rattle.demands.specs.Words.{Vertex, RecordNumber, FourPoints, TwoAlike, EdgeAndFace, AlikeOrCorner, EdgeAndSolid, AlikeOrVertex, SolidNumber}
 
 -- the places of 11 and 12 are 0, that of 10 is the count
 pub record Places : Type 0 where
@@ -43,20 +44,22 @@ abbrev pub OfScene : ℕ → Type 0
 OfScene n = Between 1 9 n ⊎ (n ≡ 14)
 
 -- a question with numbers that the scene has (Has) or lacks, and with points that must differ and are the same (Alike) or not: 1 to 9 and 14 exactly where the
--- scene is refused so; 10 never; and, of a scene that keeps the rules, 11 where it lacks a number, and 12 where it has them all and points are the same
+-- scene is refused so; 10 and 13 never; and, of a scene that keeps the rules, 11 where it lacks a number, and 12 where it has them all and points are the same
 pub record Refusals (s : List ℕ) (Refuses : Refusal → Type 0) (Has Alike : Type 0) : Type 0 where
   pub scene : (r : Refusal) → OfScene (numberOf r) → Refuses r ↔ Grounds limits s r
   pub room : (n : ℕ) → ¬ Refuses (Room n)
+  pub buffer : (n : ℕ) → ¬ Refuses (Buffer n)
   pub lacking : Refuses Lacking ↔ (FileOk limits s × ¬ Has)
   pub same : Refuses Same ↔ (FileOk limits s × Has × Alike)
 
 -- the listing, with the lent list d, afterwards d′, and the answer x: 10 of a scene that keeps the rules where d has fewer than 3 × count places; never
--- 11 or 12; a refusal of any number leaves every lent place as it was
+-- 11 to 13; a refusal of any number leaves every lent place as it was
 pub record ListingRefusals (s d d′ : List ℕ) (x : Listed) : Type 0 where
   pub scene : (r : Refusal) → OfScene (numberOf r) → (x ≡ listed.Refused r) ↔ Grounds limits s r
-  pub room : (n : ℕ) → (x ≡ listed.Refused (Room n)) ↔ (FileOk limits s × (n ≡ length (listingOf s)) × (length d < 3 * n))
+  pub room : (n : ℕ) → (x ≡ listed.Refused (Room n)) ↔ (FileOk limits s × (n ≡ length (listingIn (viewOf s))) × (length d < 3 * n))
   pub lacking : ¬ (x ≡ listed.Refused Lacking)
   pub same : ¬ (x ≡ listed.Refused Same)
+  pub buffer : (n : ℕ) → ¬ (x ≡ listed.Refused (Buffer n))
   pub kept : (r : Refusal) → x ≡ listed.Refused r → d′ ≡ d
 
 pub record Answers (s : List ℕ) : Type 0 where
@@ -76,6 +79,8 @@ pub record Answers (s : List ℕ) : Type 0 where
   pub shown-none : (k : ℕ) (r : Refusal) → refusal s k ≡ Refused r → shown s k ≡ []
   pub verdict : Refusals s (λ r. verdictOf s ≡ verdict.Refused r) Always Never
   pub counts : Refusals s (λ r. countedOf s ≡ counted.Refused r) Always Never
+  -- a solid
+  pub inside : (k : ℕ) → Refusals s (λ r. insideOf s k ≡ enclosing.Refused r) (SolidNumber k) Never
   pub listing : (d d′ : List ℕ) (x : Listed) → IsListed s d d′ x → ListingRefusals s d d′ x
   -- the listing from one of its pairs on, as far as there is room
   pub part : (from : ℕ) (d d′ : List ℕ) (x : Listed) → IsPart s from d d′ x → Refusals s (λ r. x ≡ listed.Refused r) Always Never
@@ -93,5 +98,6 @@ pub record Numbers (s : List ℕ) : Type 0 where
   pub record-shown : (k : ℕ) (r : Refusal) → refusal s k ≡ Refused r → By (11 ∷ []) r
   pub verdict : (r : Refusal) → verdictOf s ≡ verdict.Refused r → By [] r
   pub counts : (r : Refusal) → countedOf s ≡ counted.Refused r → By [] r
+  pub inside : (k : ℕ) (r : Refusal) → insideOf s k ≡ enclosing.Refused r → By (11 ∷ []) r
   pub listing : (d d′ : List ℕ) (x : Listed) → IsListed s d d′ x → (r : Refusal) → x ≡ listed.Refused r → By (10 ∷ []) r
   pub part : (from : ℕ) (d d′ : List ℕ) (x : Listed) → IsPart s from d d′ x → (r : Refusal) → x ≡ listed.Refused r → By [] r

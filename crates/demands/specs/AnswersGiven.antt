@@ -7,10 +7,11 @@ use Rattle.scene.specs.Refusal.{numberOf}
 use Rattle.scene.specs.declared.Refusal.{Refusal}
 use Rattle.judge.specs.declared.Judged.the-variants.{Refused}
 use Rattle.record.specs.Shown.{refusal}
-use Rattle.kernel.specs.Answers.{signOf, piercesOf, maskedOf, refused, enclosedOf, countedOf, verdictOf, IsListed, IsPart}
+use Rattle.kernel.specs.Answers.{signOf, piercesOf, maskedOf, refused, enclosedOf, countedOf, verdictOf, IsListed, IsPart, insideOf}
 use Rattle.kernel.specs.declared.points.Signed.the-variants as sign
 use Rattle.kernel.specs.declared.points.Answer.the-variants as answer
 use Rattle.kernel.specs.declared.counts.Counted.the-variants as counted
+use Rattle.kernel.specs.declared.inside.Enclosing.the-variants as enclosing
 use Rattle.kernel.specs.declared.verdict.Verdict.the-variants as verdict
 use Rattle.kernel.specs.declared.lists.Listed.{Listed}
 use Rattle.kernel.specs.declared.lists.Listed.the-variants as listed
@@ -45,6 +46,9 @@ ByVerdict r = (s : List ℕ) × (verdictOf s ≡ verdict.Refused r)
 abbrev pub ByCounts : Refusal → Type 0
 ByCounts r = (s : List ℕ) × (countedOf s ≡ counted.Refused r)
 
+abbrev pub ByInside : Refusal → Type 0
+ByInside r = (s : List ℕ) × (k : ℕ) × (insideOf s k ≡ enclosing.Refused r)
+
 abbrev pub ByListing : Refusal → Type 0
 ByListing r = (s : List ℕ) × (d : List ℕ) × (d′ : List ℕ) × (x : Listed) × IsListed s d d′ x × (x ≡ listed.Refused r)
 
@@ -59,5 +63,6 @@ pub record AllGiven : Type 0 where
   pub record-shown : Each (Given ByRecord) (ofScene ++ 11 ∷ [])
   pub verdict : Each (Given ByVerdict) ofScene
   pub counts : Each (Given ByCounts) ofScene
+  pub inside : Each (Given ByInside) (ofScene ++ 11 ∷ [])
   pub listing : Each (Given ByListing) (ofScene ++ 10 ∷ [])
   pub part : Each (Given ByPart) ofScene

@@ -8,13 +8,13 @@ use native.Mathlib.Omega.{arith}
 use lib.ListN.{length, set}
 use Rattle.laws.specs.Range.{firstOf, over, anyOf, countOf, lowestOf}
 use Rattle.laws.specs.Lists.{Each, Some, each-append}
-use Rattle.scene.specs.Limits.{limits}
+use Rattle.scene.specs.Limits.{limits, within}
 use Rattle.scene.specs.Bytes.{twoAt, coordinateAt, weightAt}
 use Rattle.scene.specs.Refusal.{numberOf}
 use Rattle.scene.specs.Tables.{cornerAt, row, face}
 use Rattle.scene.specs.declared.Refusal.{Refusal}
 use Rattle.scene.specs.declared.Refusal.the-variants.{Opening, Counts, Length, Mark, Coordinate, Weight, Corner, Unused, Edge, Room, Lacking, Same, Nowhere}
-use Rattle.judge.specs.Judge.{rule, andThen, within, opens, countsOk, headerFault, coordinateOk, weightOk, nowhere, somewhereOk, pointFault, areCorners, vertsAt, cornersOk, faceFault, endFault, recordFault, recordsFault, isCorner, isEdge, isUsed, unusedFault, unusedsFault, edgeOk, sidesOk, closedAt, edgeFault, edgesFault, judgedAt, judged}
+use Rattle.judge.specs.Judge.{rule, andThen, opens, countsOk, headerFault, coordinateOk, weightOk, nowhere, somewhereOk, pointFault, areCorners, vertsAt, cornersOk, faceFault, endFault, recordFault, recordsFault, isCorner, isEdge, isUsed, unusedFault, unusedsFault, edgeOk, sidesOk, closedAt, edgeFault, edgesFault, judgedAt, judged}
 use Rattle.judge.specs.declared.Judged.the-variants.{Accepted, Refused}
 use Rattle.rules.specs.Rules.{FileOk}
 use Rattle.rules.specs.Grounds.{Grounds}
@@ -22,13 +22,13 @@ use Rattle.rules.specs.Accepted.{accepted}
 use Rattle.rules.specs.Refused as table
 use Rattle.orient.specs.Terms.{terms, orientation, positiveAt}
 use Rattle.pierce.specs.Formula.{canHelp, helper, counts, sidesCount, formula, pierces}
-use Rattle.listing.specs.Pour.{allIn, partIn}
-use Rattle.kernel.specs.Scene.{listingOf}
-use Rattle.kernel.specs.Answers.{answered, listFault, IsListed, IsPart}
+use Rattle.listing.specs.Pour.{partIn}
+use Rattle.scene.specs.View.{viewOf}
+use Rattle.kernel.specs.Answers.{answered, IsListed, IsPart, listingIn, listedIn, heldIn}
 use Rattle.kernel.specs.declared.lists.Listed.{Listed}
 use Rattle.kernel.specs.declared.lists.Listed.the-variants as listed
 use Rattle.demands.specs.Words.{Pierces, CornerOf}
-use Rattle.demands.specs.AnswersGiven.{Given, ofScene, BySign, ByPierces, ByMask, ByEnclosed, ByRecord, ByVerdict, ByCounts, ByListing, ByPart, AllGiven}
+use Rattle.demands.specs.AnswersGiven.{Given, ofScene, BySign, ByPierces, ByMask, ByEnclosed, ByRecord, ByVerdict, ByCounts, ByListing, ByPart, AllGiven, ByInside}
 use Rattle.demands.specs.AnswersProof.{answers}
 use Rattle.demands.specs.Answers.{OfScene}
 use Rattle.demands.specs.ExactPairs.{members}
@@ -140,26 +140,26 @@ some-length : {A : Type 0} (P : A → Type 0) (l : List A) → Some P l → 0 < 
 some-length P [] h = absurd h
 some-length P (x ∷ l) h = omega arith
 
-not-empty : 0 < length (listingOf base)
+not-empty : 0 < length (listingIn (viewOf base))
 not-empty =
-    some-length _ (listingOf base)
+    some-length _ (listingIn (viewOf base))
     (members base base-accepted (record { low = 4; high = 5; face = 1 }) .1
     (inr (record { lower-first = omega arith; on = (3, (omega arith, omega arith), on-4, on-5) }, (omega arith, omega arith), through)))
 
 abbrev listedOf : (s d : List ℕ) → Listed
-listedOf s d = answered listed.Refused (listFault s d) (listed.Count (length (listingOf s)))
+listedOf s d = answered listed.Refused (judged s) (listedIn (viewOf s) d)
 
 abbrev heldOf : (s d : List ℕ) → List ℕ
-heldOf s d = answered (λ _. d) (listFault s d) (allIn (listingOf s) d)
+heldOf s d = answered (λ _. d) (judged s) (heldIn (viewOf s) d)
 
 is-listed : (s d : List ℕ) → IsListed s d (heldOf s d) (listedOf s d)
 is-listed s d = record { answer = refl; held = refl }
 
 abbrev partOf : List ℕ → Listed
-partOf s = answered listed.Refused (judged s) (listed.Count (length (listingOf s)))
+partOf s = answered listed.Refused (judged s) (listed.Count (length (listingIn (viewOf s))))
 
 abbrev partHeld : List ℕ → List ℕ
-partHeld s = answered (λ _. []) (judged s) (partIn (listingOf s) 0 [])
+partHeld s = answered (λ _. []) (judged s) (partIn (listingIn (viewOf s)) 0 [])
 
 is-part : (s : List ℕ) → IsPart s 0 [] (partHeld s) (partOf s)
 is-part s = record { answer = refl; held = refl }
@@ -192,11 +192,14 @@ all-given =
           ((Lacking, refl, (base, 13, answers base .record-shown 13 .lacking .1 (keeps, λ h. omega (arith, h)))), tt);
       verdict = all-of-scene ByVerdict (λ r s h g. (s, answers s .verdict .scene r h .1 g));
       counts = all-of-scene ByCounts (λ r s h g. (s, answers s .counts .scene r h .1 g));
+      inside =
+          each-append (Given ByInside) ofScene (11 ∷ []) (all-of-scene ByInside (λ r s h g. (s, 0, answers s .inside 0 .scene r h .1 g)))
+          ((Lacking, refl, (base, 3, answers base .inside 3 .lacking .1 (keeps, λ h. omega (arith, h .1)))), tt);
       listing =
           each-append (Given ByListing) ofScene (10 ∷ []) (all-of-scene ByListing (λ r s h g.
           (s, [], heldOf s [], listedOf s [], is-listed s [], answers s .listing [] _ _ (is-listed s []) .scene r h .1 g))) (
             (
-              Room (length (listingOf base)),
+              Room (length (listingIn (viewOf base))),
               refl,
               (
                 base,
@@ -204,7 +207,7 @@ all-given =
                 heldOf base [],
                 listedOf base [],
                 is-listed base [],
-                answers base .listing [] _ _ (is-listed base []) .room (length (listingOf base)) .1 (keeps, refl, omega (arith, not-empty)),
+                answers base .listing [] _ _ (is-listed base []) .room (length (listingIn (viewOf base))) .1 (keeps, refl, omega (arith, not-empty)),
               ),
             ),
             tt,

@@ -9,12 +9,12 @@ use lib.Dec.{leb}
 use lib.ListN.{length}
 use borrow.Author.Tests.{lt-leb, leb-false}
 use Rattle.laws.specs.Decides.{leb-iff}
-use Rattle.scene.specs.Limits.{limits}
+use Rattle.scene.specs.Limits.{limits, within}
 use Rattle.scene.specs.Records.{vertsA, verts, lastRecord}
 use Rattle.scene.specs.Tables.{tablesOf, row, face}
 use Rattle.scene.specs.declared.Refusal.{Refusal}
-use Rattle.scene.specs.declared.Refusal.the-variants.{Opening, Counts, Length, Mark, Coordinate, Weight, Corner as BadCorner, Unused, Edge, Room, Lacking, Same, Nowhere}
-use Rattle.judge.specs.Judge.{rule, andThen, within, judged}
+use Rattle.scene.specs.declared.Refusal.the-variants.{Opening, Counts, Length, Mark, Coordinate, Weight, Corner as BadCorner, Unused, Edge, Room, Lacking, Same, Buffer, Nowhere}
+use Rattle.judge.specs.Judge.{rule, andThen, judged}
 use Rattle.judge.specs.declared.Judged.{Judged}
 use Rattle.judge.specs.declared.Judged.the-variants.{Accepted, Refused}
 use Rattle.judge.specs.Tests.{within-iff, then-refused}
@@ -29,17 +29,19 @@ use Rattle.listing.specs.Pour.{allIn}
 use Rattle.listing.specs.First.{firstOf}
 use Rattle.listing.specs.declared.find.Found.{Found}
 use Rattle.listing.specs.declared.find.Found.the-variants.{Nothing, Pair}
-use Rattle.kernel.specs.Scene.{viewOf, solidA, solidB, listingOf}
-use Rattle.kernel.specs.Answers.{answered, signFault, signOf, piercesFault, piercesOf, yesNo, maskFault, maskedOf, refused, enclosedFault, isEnclosed, enclosedOf, countedOf, crossOr, enclosing, verdictIn, verdictOf, listFault, IsListed, IsPart, isVertex}
+use Rattle.scene.specs.View.{viewOf, solidA, solidB, solid}
+use Rattle.kernel.specs.Laws.{answered-then}
+use Rattle.kernel.specs.Answers.{answered, enclosedIn, maskedIn, piercesIn, signIn, signFault, signOf, piercesFault, piercesOf, yesNo, maskFault, maskedOf, refused, enclosedFault, isEnclosed, enclosedOf, countedOf, crossOr, enclosureIn, verdictIn, verdictOf, listFault, listedIn, heldIn, IsListed, IsPart, isVertex, listingIn, seen, insideFault, enclosingIn, insideOf, isSolid}
 use Rattle.kernel.specs.declared.points.Answer.the-variants as answer
 use Rattle.kernel.specs.declared.points.Signed.the-variants as sign
 use Rattle.kernel.specs.declared.counts.Counted.the-variants as counted
+use Rattle.kernel.specs.declared.inside.Enclosing.the-variants as enclosing
 use Rattle.kernel.specs.declared.verdict.Verdict.the-variants as verdict
 use Rattle.kernel.specs.declared.lists.Listed.{Listed}
 use Rattle.kernel.specs.declared.lists.Listed.the-variants as listed
-use Rattle.demands.specs.Words.{Vertex, RecordNumber, FourPoints, TwoAlike, EdgeAndFace, AlikeOrCorner, EdgeAndSolid, AlikeOrVertex}
+use Rattle.demands.specs.Words.{Vertex, RecordNumber, FourPoints, TwoAlike, EdgeAndFace, AlikeOrCorner, EdgeAndSolid, AlikeOrVertex, SolidNumber}
 use Rattle.demands.specs.Answers.{Places, Refusals, ListingRefusals, Never, Always, Answers, By, Numbers}
-use Rattle.demands.specs.AnswersTests.{scene-turn, asked, plain, told, nonsense, answered-iff, points-iff, edge-iff, mask-iff, alike-points, alike-corner, alike-vertex}
+use Rattle.demands.specs.AnswersTests.{scene-turn, asked, plain, told, nonsense, answered-iff, twice-iff, points-iff, edge-iff, mask-iff, alike-points, alike-corner, alike-vertex}
 
 -- ---- an answer is no refusal
 
@@ -47,9 +49,9 @@ no-refusal : (b : Bool) (r : Refusal) → ¬ (yesNo b ≡ answer.Refused r)
 no-refusal true r e = nonsense (cc)
 no-refusal false r e = nonsense (cc)
 
-no-verdict : (s : List ℕ) (r : Refusal) → ¬ (verdictIn s ≡ verdict.Refused r)
-unfolding verdictIn enclosing
-no-verdict s = go _ _ (firstOf (listingOf s)) (leb (lowestInside (viewOf s) (solidA s)) (vertsA s)) (leb (lowestInside (viewOf s) (solidB s)) (verts s))
+no-verdict : (s : List ℕ) (r : Refusal) → ¬ (verdictIn (viewOf s) ≡ verdict.Refused r)
+unfolding verdictIn enclosureIn solid
+no-verdict s = go _ _ (firstOf (listingIn (viewOf s))) (leb (lowestInside (seen (viewOf s)) (solidA (viewOf s))) (vertsA s)) (leb (lowestInside (seen (viewOf s)) (solidB (viewOf s))) (verts s))
   where
     go : (p q : ℕ) (f : Found) (a b : Bool) (r : Refusal) → ¬ (crossOr f (cond a (verdict.AInB p) (cond b (verdict.BInA q) verdict.Apart)) ≡ verdict.Refused r)
     go p q (Pair u v f) a b r e = nonsense (cc)
@@ -64,22 +66,22 @@ no-alike = (true≢false, absurd)
 
 module _ (s : List ℕ) where
   of-sign : (a b c d : ℕ) → Refusals s (λ r. signOf s a b c d ≡ sign.Refused r) (FourPoints s a b c d) (TwoAlike a b c d)
-  unfolding signOf signFault
-  of-sign a b c d = told s (answered-iff sign.Refused (λ q r e. cc) _ (λ r e. nonsense (cc)) (signFault s a b c d)) (asked s _ _ (points-iff s a b c d) (λ h. alike-points s a b c d))
+  unfolding signOf signIn signFault
+  of-sign a b c d = told s (twice-iff sign.Refused (λ q r e. cc) _ (λ r e. nonsense (cc)) (judged s) (signFault (viewOf s) a b c d)) (asked s _ _ (points-iff s a b c d) (λ h. alike-points s a b c d))
 
   of-pierces : (u v f : ℕ) → Refusals s (λ r. piercesOf s u v f ≡ answer.Refused r) (EdgeAndFace s u v f) (AlikeOrCorner s u v f)
-  unfolding piercesOf piercesFault
+  unfolding piercesOf piercesIn piercesFault
   of-pierces u v f = told s
-      (answered-iff answer.Refused (λ q r e. cc) _ (no-refusal (pierced (verts s + 1) (row (tablesOf s)) u v (face (tablesOf s) f))) (piercesFault s u v f))
+      (twice-iff answer.Refused (λ q r e. cc) _ (no-refusal (pierced (verts s + 1) (row (tablesOf s)) u v (face (tablesOf s) f))) (judged s) (piercesFault (viewOf s) u v f))
       (asked s _ _ (edge-iff s u v f) (λ h. alike-corner s u v f))
 
   of-mask : (u v k : ℕ) → Refusals s (λ r. maskedOf s u v k ≡ refused r) (EdgeAndSolid s u v k) (AlikeOrVertex s u v k)
-  unfolding maskedOf maskFault
-  of-mask u v k = told s (answered-iff refused (λ q r e. cc) _ (λ r e. nonsense (cc)) (maskFault s u v k)) (asked s _ _ (mask-iff s u v k) (alike-vertex s u v k))
+  unfolding maskedOf maskedIn maskFault
+  of-mask u v k = told s (twice-iff refused (λ q r e. cc) _ (λ r e. nonsense (cc)) (judged s) (maskFault (viewOf s) u v k)) (asked s _ _ (mask-iff s u v k) (alike-vertex s u v k))
 
   of-enclosed : (i : ℕ) → Refusals s (λ r. enclosedOf s i ≡ answer.Refused r) (Vertex s i) Never
-  unfolding enclosedOf enclosedFault isVertex rule
-  of-enclosed i = told s (answered-iff answer.Refused (λ q r e. cc) _ (no-refusal (isEnclosed s i)) (enclosedFault s i))
+  unfolding enclosedOf enclosedIn enclosedFault isVertex rule
+  of-enclosed i = told s (twice-iff answer.Refused (λ q r e. cc) _ (no-refusal (isEnclosed (viewOf s) i)) (judged s) (enclosedFault (viewOf s) i))
       (asked s (within 1 (verts s) i) true (within-iff 1 (verts s) i) (λ h. no-alike))
 
   of-record : (k : ℕ) → Refusals s (λ r. refusal s k ≡ Refused r) (RecordNumber s k) Never
@@ -98,11 +100,16 @@ module _ (s : List ℕ) where
   unfolding countedOf
   of-counts = told s (answered-iff counted.Refused (λ q r e. cc) _ (λ r e. nonsense (cc)) (judged s)) (plain s)
 
+  of-inside : (k : ℕ) → Refusals s (λ r. insideOf s k ≡ enclosing.Refused r) (SolidNumber k) Never
+  unfolding insideOf enclosingIn insideFault isSolid rule
+  of-inside k = told s (twice-iff enclosing.Refused (λ q r e. cc) _ (λ r e. nonsense (cc)) (judged s) (insideFault k))
+      (asked s (within 1 2 k) true (within-iff 1 2 k) (λ h. no-alike))
+
   -- ---- the listing
 
   module _ (d : List ℕ) where
     abbrev count : ℕ
-    count = length (listingOf s)
+    count = length (listingIn (viewOf s))
 
     abbrev fits : Judged
     fits = rule (leb (3 * count) (length d)) (Room count) Accepted
@@ -118,7 +125,7 @@ module _ (s : List ℕ) where
         )
 
     of-listing : (d′ : List ℕ) (x : Listed) → IsListed s d d′ x → ListingRefusals s d d′ x
-    unfolding listFault answered
+    unfolding listedIn heldIn listFault answered
     of-listing d′ x h =
         record {
           scene = λ r l. Iff·trans (at r) (Iff·trans (then-here (judged s) fits r 11 (gives-wider (suc (turnOf r)) 11 (omega (arith, scene-turn r l)) (omega arith) fits-gives)) (table.refused limits s r));
@@ -127,21 +134,22 @@ module _ (s : List ℕ) where
               (Iff·trans (Iff·and (accepted limits s) (room-iff n)) (λ k. let l = k .1 .1 in (k .0, k .1 .0, omega arith), λ k. let l = k .2 in (k .0, (k .1, omega arith)))));
           lacking = λ e. never-by Lacking (omega arith) (at Lacking .0 e);
           same = λ e. never-by Same (omega arith) (at Same .0 e);
-          kept = λ r e. h .held ∙ kept-by (listFault s d) r (at r .0 e) (allIn (listingOf s) d);
+          buffer = λ n e. never-by (Buffer n) (omega arith) (at (Buffer n) .0 e);
+          kept = λ r e. h .held ∙ kept-by (at r .0 e) (allIn (listingIn (viewOf s)) d);
         }
       where
-        at : (r : Refusal) → (x ≡ listed.Refused r) ↔ (listFault s d ≡ Refused r)
-        at r = rw (h .answer) (answered-iff listed.Refused (λ q r e. cc) (listed.Count count) (λ r e. nonsense (cc)) (listFault s d) r)
+        at : (r : Refusal) → (x ≡ listed.Refused r) ↔ (andThen (judged s) fits ≡ Refused r)
+        at r = rw (h .answer) (twice-iff listed.Refused (λ q r e. cc) (listed.Count count) (λ r e. nonsense (cc)) (judged s) fits r)
 
         never-by : (r : Refusal) → 11 < turnOf r → ¬ (andThen (judged s) fits ≡ Refused r)
         never-by r l e = ⊎-elim (λ k. omega (arith, refused-by limits s r k)) (λ k. omega (arith, fits-gives r (k .1))) (then-refused (judged s) fits r .0 e)
 
-        kept-by : (j : Judged) (r : Refusal) → j ≡ Refused r → (l : List ℕ) → answered (λ _. d) j l ≡ d
-        kept-by j r e l = rw e
+        kept-by : {r : Refusal} → andThen (judged s) fits ≡ Refused r → (l : List ℕ) → answered (λ _. d) (judged s) (answered (λ _. d) fits l) ≡ d
+        kept-by e l = answered-then (λ _. d) (judged s) fits l ∙ rw e
 
   module _ (from : ℕ) (d d′ : List ℕ) (x : Listed) (h : IsPart s from d d′ x) where
     part-at : (r : Refusal) → (x ≡ listed.Refused r) ↔ (judged s ≡ Refused r)
-    part-at r = rw (h .answer) (answered-iff listed.Refused (λ q r e. cc) (listed.Count (length (listingOf s))) (λ r e. nonsense (cc)) (judged s) r)
+    part-at r = rw (h .answer) (answered-iff listed.Refused (λ q r e. cc) (listed.Count (length (listingIn (viewOf s)))) (λ r e. nonsense (cc)) (judged s) r)
 
     of-part : Refusals s (λ r. x ≡ listed.Refused r) Always Never
     of-part = told s part-at (plain s)
@@ -161,6 +169,7 @@ answers s =
       shown-none = none-shown s;
       verdict = of-verdict s;
       counts = of-counts s;
+      inside = of-inside s;
       listing = of-listing s;
       part = of-part s;
       part-kept = part-kept s;
@@ -168,30 +177,31 @@ answers s =
 
 -- ---- the numbers
 
-by : (own : List ℕ) (R : Refusal → Type 0) → ((n : ℕ) → R (Room n) → By own (Room n)) → (R Lacking → By own Lacking) → (R Same → By own Same) → (r : Refusal) → R r → By own r
-by own R room lacking same Opening e = inl (inl (omega arith))
-by own R room lacking same Counts e = inl (inl (omega arith))
-by own R room lacking same Length e = inl (inl (omega arith))
-by own R room lacking same (Mark k) e = inl (inl (omega arith))
-by own R room lacking same (Coordinate k) e = inl (inl (omega arith))
-by own R room lacking same (Weight k) e = inl (inl (omega arith))
-by own R room lacking same (BadCorner k) e = inl (inl (omega arith))
-by own R room lacking same (Unused k) e = inl (inl (omega arith))
-by own R room lacking same (Edge k) e = inl (inl (omega arith))
-by own R room lacking same (Nowhere k) e = inl (inr refl)
-by own R room lacking same (Room n) e = room n e
-by own R room lacking same Lacking e = lacking e
-by own R room lacking same Same e = same e
+by : (own : List ℕ) (R : Refusal → Type 0) → ((n : ℕ) → ¬ R (Buffer n)) → ((n : ℕ) → R (Room n) → By own (Room n)) → (R Lacking → By own Lacking) → (R Same → By own Same) → (r : Refusal) → R r → By own r
+by own R buffer room lacking same Opening e = inl (inl (omega arith))
+by own R buffer room lacking same Counts e = inl (inl (omega arith))
+by own R buffer room lacking same Length e = inl (inl (omega arith))
+by own R buffer room lacking same (Mark k) e = inl (inl (omega arith))
+by own R buffer room lacking same (Coordinate k) e = inl (inl (omega arith))
+by own R buffer room lacking same (Weight k) e = inl (inl (omega arith))
+by own R buffer room lacking same (BadCorner k) e = inl (inl (omega arith))
+by own R buffer room lacking same (Unused k) e = inl (inl (omega arith))
+by own R buffer room lacking same (Edge k) e = inl (inl (omega arith))
+by own R buffer room lacking same (Nowhere k) e = inl (inr refl)
+by own R buffer room lacking same (Room n) e = room n e
+by own R buffer room lacking same Lacking e = lacking e
+by own R buffer room lacking same Same e = same e
+by own R buffer room lacking same (Buffer n) e = absurd (buffer n e)
 
 module _ {s : List ℕ} {R : Refusal → Type 0} {Has Alike : Type 0} (t : Refusals s R Has Alike) where
   by-both : (r : Refusal) → R r → By (11 ∷ 12 ∷ []) r
-  by-both = by (11 ∷ 12 ∷ []) R (λ n e. absurd (t .room n e)) (λ e. inr (inl refl)) (λ e. inr (inr (inl refl)))
+  by-both = by (11 ∷ 12 ∷ []) R (t .buffer) (λ n e. absurd (t .room n e)) (λ e. inr (inl refl)) (λ e. inr (inr (inl refl)))
 
   by-lacking : ¬ Alike → (r : Refusal) → R r → By (11 ∷ []) r
-  by-lacking n = by (11 ∷ []) R (λ n e. absurd (t .room n e)) (λ e. inr (inl refl)) (λ e. absurd (n (t .same .0 e .2)))
+  by-lacking n = by (11 ∷ []) R (t .buffer) (λ n e. absurd (t .room n e)) (λ e. inr (inl refl)) (λ e. absurd (n (t .same .0 e .2)))
 
   by-scene : Has → ¬ Alike → (r : Refusal) → R r → By [] r
-  by-scene h n = by [] R (λ n e. absurd (t .room n e)) (λ e. absurd (t .lacking .0 e .1 h)) (λ e. absurd (n (t .same .0 e .2)))
+  by-scene h n = by [] R (t .buffer) (λ n e. absurd (t .room n e)) (λ e. absurd (t .lacking .0 e .1 h)) (λ e. absurd (n (t .same .0 e .2)))
 
 pub numbers : (s : List ℕ) → Numbers s
 numbers s =
@@ -203,9 +213,10 @@ numbers s =
       record-shown = λ k. by-lacking (of-record s k) (λ e. e);
       verdict = by-scene (of-verdict s) tt (λ e. e);
       counts = by-scene (of-counts s) tt (λ e. e);
+      inside = λ k. by-lacking (of-inside s k) (λ e. e);
       listing = λ d d′ x h.
           let t = of-listing s d d′ x h in
-          by (10 ∷ []) (λ r. x ≡ listed.Refused r) (λ n e. inr (inl refl)) (λ e. absurd (t .lacking e)) (λ e. absurd (t .same e));
+          by (10 ∷ []) (λ r. x ≡ listed.Refused r) (t .buffer) (λ n e. inr (inl refl)) (λ e. absurd (t .lacking e)) (λ e. absurd (t .same e));
       part = λ from d d′ x h. by-scene (of-part s from d d′ x h) tt (λ e. e);
     }
 

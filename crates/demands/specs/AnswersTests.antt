@@ -2,22 +2,22 @@
 -- Assumes nothing.
 use mathlib.Core.Path.{_≡_, refl, sym, ap, _∙_}
 use mathlib.Core.Logic.{_⊎_, inl, inr, ⊎-elim, _↔_, Iff·rfl, Iff·trans, Iff·and}
-use mathlib.Core.Bool.{Bool, true, false, not, cond, _&&_, true≢false}
+use mathlib.Core.Bool.{Bool, true, false, not, _&&_, true≢false}
 use mathlib.Core.List.{List}
-use Prim.Native.Nat.{ℕ, suc, _+_, _≤_}
+use Prim.Native.Nat.{ℕ, suc, _≤_}
 use native.Mathlib.Omega.{arith}
-use lib.Dec.{eqb, leb}
-use borrow.Author.Tests.{eqb-true, eq-eqb, not-false}
-use Rattle.laws.specs.Decides.{eqb-iff, leb-iff, and-iff, or-iff, fails-iff}
+use lib.Dec.{eqb}
+use borrow.Author.Tests.{not-false}
+use Rattle.laws.specs.Decides.{eqb-iff, and-iff, or-iff, fails-iff}
 use Rattle.scene.specs.Limits.{limits}
-use Rattle.scene.specs.Records.{vertsA, verts}
+use Rattle.scene.specs.View.{viewOf}
 use Rattle.scene.specs.Tables.{tablesOf, face}
 use Rattle.scene.specs.Faces.{Corner}
 use Rattle.scene.specs.Refusal.{numberOf}
 use Rattle.scene.specs.declared.Face.{Face}
 use Rattle.scene.specs.declared.Refusal.{Refusal}
-use Rattle.scene.specs.declared.Refusal.the-variants.{Opening, Counts, Length, Mark, Coordinate, Weight, Corner as BadCorner, Unused, Edge, Room, Lacking, Same, Nowhere}
-use Rattle.judge.specs.Judge.{rule, andThen, within, judged}
+use Rattle.scene.specs.declared.Refusal.the-variants.{Opening, Counts, Length, Mark, Coordinate, Weight, Corner as BadCorner, Unused, Edge, Room, Lacking, Same, Buffer, Nowhere}
+use Rattle.judge.specs.Judge.{rule, andThen, judged}
 use Rattle.judge.specs.declared.Judged.{Judged}
 use Rattle.judge.specs.declared.Judged.the-variants.{Accepted, Refused}
 use Rattle.rules.specs.Rules.{FileOk}
@@ -27,8 +27,10 @@ use Rattle.rules.specs.Parts.{refused-by}
 use Rattle.rules.specs.Accepted.{accepted}
 use Rattle.rules.specs.Refused as table
 use Rattle.edges.specs.Edges.{isCorner}
-use Rattle.kernel.specs.Answers.{answered, isPoint, isFace, other, differ, arePoints, clear, edgeAndFace, isVertexOf, maskAsked, maskOutside, refused, isSolid}
+use Rattle.kernel.specs.Laws.{answered-then}
+use Rattle.kernel.specs.Answers.{answered, isPoint, isFace, other, differ, arePoints, clear, edgeAndFace, isVertexOf, edgeAndSolid, outside, refused, isSolid}
 use Rattle.demands.specs.Words.{SolidNumber, VertexOf, FourPoints, TwoAlike, EdgeAndFace, AlikeOrCorner, EdgeAndSolid, AlikeOrVertex}
+use Rattle.demands.specs.Solids.{vertex-of}
 use Rattle.demands.specs.Answers.{OfScene, Refusals, Never, Always}
 
 -- a scene's own refusals come first
@@ -46,6 +48,7 @@ scene-turn (Nowhere p) h = omega arith
 scene-turn (Room p) h = absurd (⊎-elim (λ k. omega arith) (λ k. omega arith) h)
 scene-turn Lacking h = absurd (⊎-elim (λ k. omega arith) (λ k. omega arith) h)
 scene-turn Same h = absurd (⊎-elim (λ k. omega arith) (λ k. omega arith) h)
+scene-turn (Buffer p) h = absurd (⊎-elim (λ k. omega arith) (λ k. omega arith) h)
 
 -- ---- a test that fails
 
@@ -84,6 +87,7 @@ module _ (s : List ℕ) where
         record {
           scene = λ r h. Iff·trans (then-here (judged s) own r 13 (gives-wider (suc (turnOf r)) 13 (omega (arith, scene-turn r h)) (omega arith) own-gives)) (table.refused limits s r);
           room = λ n e. ⊎-elim (λ k. omega (arith, refused-by limits s (Room n) k)) (λ k. omega (arith, own-gives (Room n) (k .1))) (then-refused (judged s) own (Room n) .0 e);
+          buffer = λ n e. ⊎-elim (λ k. omega (arith, refused-by limits s (Buffer n) k)) (λ k. omega (arith, own-gives (Buffer n) (k .1))) (then-refused (judged s) own (Buffer n) .0 e);
           lacking =
               Iff·trans (then-next (judged s) own Lacking 1 10 (refused-by limits s) (omega arith))
               (Iff·and (accepted limits s)
@@ -114,6 +118,7 @@ module _ (s : List ℕ) where
       record {
         scene = λ r h. table.refused limits s r;
         room = λ n e. omega (arith, refused-by limits s (Room n) e);
+        buffer = λ n e. omega (arith, refused-by limits s (Buffer n) e);
         lacking = (λ e. absurd (omega (arith, refused-by limits s Lacking e)), λ h. absurd (h .1 tt));
         same = (λ e. absurd (omega (arith, refused-by limits s Same e)), λ h. absurd (h .2));
       }
@@ -124,6 +129,7 @@ module _ (s : List ℕ) where
       record {
         scene = λ r h. Iff·trans (e r) (t .scene r h);
         room = λ n x. t .room n (e (Room n) .0 x);
+        buffer = λ n x. t .buffer n (e (Buffer n) .0 x);
         lacking = Iff·trans (e Lacking) (t .lacking);
         same = Iff·trans (e Same) (t .same);
       }
@@ -144,6 +150,15 @@ unfolding answered
 answered-ok refuse v n Accepted x = (λ e. (refl, e), λ h. h .1)
 answered-ok refuse v n (Refused r) x = (λ e. absurd (n r e), λ h. absurd (never (sym (h .0))))
 
+-- the same of the judge's refusal, else the question's own
+pub twice-iff : {X : Type 0} (refuse : Refusal → X) → ((q r : Refusal) → refuse q ≡ refuse r → q ≡ r) → (x : X) → ((r : Refusal) → ¬ (x ≡ refuse r)) →
+    (j k : Judged) (r : Refusal) → (answered refuse j (answered refuse k x) ≡ refuse r) ↔ (andThen j k ≡ Refused r)
+twice-iff refuse one x n j k r = rw (answered-then refuse j k x) (answered-iff refuse one x n (andThen j k) r)
+
+pub twice-ok : {X : Type 0} (refuse : Refusal → X) (v : X) → ((r : Refusal) → ¬ (refuse r ≡ v)) → (j k : Judged) (x : X) →
+    (answered refuse j (answered refuse k x) ≡ v) ↔ ((andThen j k ≡ Accepted) × (x ≡ v))
+twice-ok refuse v n j k x = rw (answered-then refuse j k x) (answered-ok refuse v n (andThen j k) x)
+
 -- ---- what each question asks of its numbers
 
 pub corner-iff : (i : ℕ) (f : Face) → (isCorner i f ≡ true) ↔ Corner i f
@@ -151,32 +166,24 @@ unfolding isCorner
 corner-iff i f = or-iff _ _ (eqb-iff (f .p) i) (or-iff _ _ (eqb-iff (f .q) i) (eqb-iff (f .r) i))
 
 module _ (s : List ℕ) where
-  pub points-iff : (a b c d : ℕ) → (arePoints s a b c d ≡ true) ↔ FourPoints s a b c d
+  pub points-iff : (a b c d : ℕ) → (arePoints (viewOf s) a b c d ≡ true) ↔ FourPoints s a b c d
   unfolding arePoints isPoint
   points-iff a b c d = (
     λ e. let h = simp (and-iff, within-iff) at e in (h .0, h .1 .0, h .1 .1 .0, h .1 .1 .1),
     λ h. simp (and-iff, within-iff) (h .0, (h .1, (h .2, h .3))),
   )
 
-  pub edge-iff : (u v f : ℕ) → (edgeAndFace s u v f ≡ true) ↔ EdgeAndFace s u v f
+  pub edge-iff : (u v f : ℕ) → (edgeAndFace (viewOf s) u v f ≡ true) ↔ EdgeAndFace s u v f
   unfolding edgeAndFace isPoint isFace
   edge-iff u v f = (λ e. let h = simp (and-iff, within-iff) at e in (h .0, h .1 .0, h .1 .1), λ h. simp (and-iff, within-iff) (h .0, (h .1, h .2)))
 
-  pub mask-iff : (u v k : ℕ) → (maskAsked s u v k ≡ true) ↔ EdgeAndSolid s u v k
-  unfolding maskAsked isPoint isSolid
+  pub mask-iff : (u v k : ℕ) → (edgeAndSolid (viewOf s) u v k ≡ true) ↔ EdgeAndSolid s u v k
+  unfolding edgeAndSolid isPoint isSolid
   mask-iff u v k = (λ e. let h = simp (and-iff, within-iff) at e in (h .0, h .1 .0, h .1 .1), λ h. simp (and-iff, within-iff) (h .0, (h .1, h .2)))
 
-  vertex-iff : (k i : ℕ) → SolidNumber k → 1 ≤ i → (isVertexOf s k i ≡ true) ↔ VertexOf s k i
+  vertex-iff : (k i : ℕ) → SolidNumber k → (isVertexOf (viewOf s) k i ≡ true) ↔ VertexOf s k i
   unfolding isVertexOf
-  vertex-iff k i h from = go (eqb k 1) refl
-    where
-      go : (b : Bool) → eqb k 1 ≡ b → (cond b (leb i (vertsA s)) (within (vertsA s + 1) (verts s) i) ≡ true) ↔ VertexOf s k i
-      go true e =
-          let one : k ≡ 1 = eqb-true k 1 e in
-          (λ t. inl (one, (from, leb-iff i (vertsA s) .0 t)), ⊎-elim (λ x. leb-iff i (vertsA s) .1 (x .1 .1)) (λ x. absurd (omega (arith, x .0))))
-      go false e =
-          let two : ¬ (k ≡ 1) = λ x. true≢false (sym (eq-eqb k 1 x) ∙ e) in
-          (λ t. inr (omega arith, within-iff (vertsA s + 1) (verts s) i .0 t), ⊎-elim (λ x. absurd (two (x .0))) (λ x. within-iff (vertsA s + 1) (verts s) i .1 (x .1)))
+  vertex-iff k i h = Iff·trans (within-iff _ _ i) (λ x. vertex-of s k h i .0 (omega arith), λ x. let y = vertex-of s k h i .1 x in omega arith)
 
   pub alike-points : (a b c d : ℕ) → (differ a b c d ≡ false) ↔ TwoAlike a b c d
   unfolding differ
@@ -188,7 +195,7 @@ module _ (s : List ℕ) where
   unfolding clear
   alike-corner u v f = either-fails _ _ (same-fails u v) (either-fails _ _ (not-fails _ (corner-iff u _)) (not-fails _ (corner-iff v _)))
 
-  pub alike-vertex : (u v k : ℕ) → EdgeAndSolid s u v k → (maskOutside s u v k ≡ false) ↔ AlikeOrVertex s u v k
-  unfolding maskOutside
+  pub alike-vertex : (u v k : ℕ) → EdgeAndSolid s u v k → (outside (viewOf s) u v k ≡ false) ↔ AlikeOrVertex s u v k
+  unfolding outside
   alike-vertex u v k h =
-      either-fails _ _ (same-fails u v) (either-fails _ _ (not-fails _ (vertex-iff k u (h .2) (h .0 .0))) (not-fails _ (vertex-iff k v (h .2) (h .1 .0))))
+      either-fails _ _ (same-fails u v) (either-fails _ _ (not-fails _ (vertex-iff k u (h .2))) (not-fails _ (vertex-iff k v (h .2))))

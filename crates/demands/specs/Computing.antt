@@ -6,7 +6,8 @@ use Prim.Native.Nat.{ℕ}
 use Rattle.laws.specs.Range.{over, firstOf, anyOf, countOf, lowestOf}
 use Rattle.scene.specs.Bytes.{twoAt, coordinateAt, weightAt}
 use Rattle.scene.specs.Tables.{cornerAt, row, face, tablesOf}
-use Rattle.judge.specs.Judge.{rule, andThen, within, opens, countsOk, headerFault, coordinateOk, weightOk, nowhere, somewhereOk, pointFault, areCorners, vertsAt, cornersOk, faceFault, endFault, recordFault, recordsFault, isCorner, isEdge, isUsed, unusedFault, unusedsFault, edgeOk, sidesOk, closedAt, edgeFault, edgesFault, judgedAt, judged}
+use Rattle.judge.specs.Judge.{rule, andThen, opens, countsOk, headerFault, coordinateOk, weightOk, nowhere, somewhereOk, pointFault, areCorners, vertsAt, cornersOk, faceFault, endFault, recordFault, recordsFault, isCorner, isEdge, isUsed, unusedFault, unusedsFault, edgeOk, sidesOk, closedAt, edgeFault, edgesFault, judgedAt, judged}
+use Rattle.scene.specs.Limits.{within}
 use Rattle.judge.specs.declared.Judged.{Judged}
 use Rattle.orient.specs.Terms.{terms, orientation, positiveAt}
 use Rattle.pierce.specs.Formula.{canHelp, helper, counts, sidesCount, formula, pierces, pierced}

@@ -16,16 +16,19 @@ use Rattle.scene.specs.Tables.{tablesOf, row}
 use Rattle.judge.specs.Judge.{judged}
 use Rattle.judge.specs.declared.Judged.the-variants.{Accepted}
 use Rattle.rules.specs.Rules.{FileOk}
+use Rattle.rules.specs.Files.{FileOf}
+use Rattle.rules.specs.Written.{Bytes}
 use Rattle.orient.specs.Terms.{positiveAt, termsAt}
 use Rattle.orient.specs.declared.Terms.{Terms}
 use Rattle.listing.specs.Hits.{Hit}
-use Rattle.listing.specs.Pour.{three, flat}
-use Rattle.kernel.specs.Scene.{listingOf}
-use Rattle.kernel.specs.Answers.{signOf, piercesOf, verdictOf, countedOf, maskedOf, faces-are, enclosedOf, IsListed}
+use Rattle.listing.specs.Pour.{three, flat, partIn}
+use Rattle.scene.specs.View.{viewOf}
+use Rattle.kernel.specs.Answers.{signOf, piercesOf, verdictOf, countedOf, maskedOf, faces-are, enclosedOf, IsListed, listingIn, insideOf, IsPart}
 use Rattle.kernel.specs.declared.points.Signed.the-variants as sign
 use Rattle.kernel.specs.declared.points.Answer.the-variants as answer
 use Rattle.kernel.specs.declared.counts.Counts.{Counts}
 use Rattle.kernel.specs.declared.counts.Counted.the-variants as counted
+use Rattle.kernel.specs.declared.inside.Enclosing.the-variants as enclosing
 use Rattle.kernel.specs.declared.verdict.Verdict.the-variants as verdict
 use Rattle.kernel.specs.declared.lists.Listed.{Listed}
 use Rattle.kernel.specs.declared.lists.Listed.the-variants as listed
@@ -69,14 +72,19 @@ module _ (s : List ℕ) where
   Before h k = Less (solidOf (h .low) ∷ three h) (solidOf (k .low) ∷ three k)
 
   pub record ListingIs : Type 0 where
-    pub rising : Rising Before (listingOf s)
-    pub members : (h : Hit) → Some (λ k. k ≡ h) (listingOf s) ↔ PiercedPair h
-    pub once : (h : Hit) → PiercedPair h → Number (λ k. k ≡ h) (listingOf s) 1
+    pub rising : Rising Before (listingIn (viewOf s))
+    pub members : (h : Hit) → Some (λ k. k ≡ h) (listingIn (viewOf s)) ↔ PiercedPair h
+    pub once : (h : Hit) → PiercedPair h → Number (λ k. k ≡ h) (listingIn (viewOf s)) 1
 
   -- what the lent list d holds afterwards (d′): "Places beyond 3 × count keep their contents"
   pub record ListedIs (d d′ : List ℕ) (x : Listed) : Type 0 where
-    pub count : (n : ℕ) → (x ≡ listed.Count n) ↔ (FileOk limits s × (n ≡ length (listingOf s)) × (3 * n ≤ length d))
-    pub held : (n : ℕ) → x ≡ listed.Count n → d′ ≡ flat (listingOf s) ++ drop (3 * n) d
+    pub count : (n : ℕ) → (x ≡ listed.Count n) ↔ (FileOk limits s × (n ≡ length (listingIn (viewOf s))) × (3 * n ≤ length d))
+    pub held : (n : ℕ) → x ≡ listed.Count n → d′ ≡ flat (listingIn (viewOf s)) ++ drop (3 * n) d
+
+  -- a part of it, from the pair numbered `from` on, from 0, as far as the lent list has room
+  pub record PartIs (from : ℕ) (d d′ : List ℕ) (x : Listed) : Type 0 where
+    pub count : (n : ℕ) → (x ≡ listed.Count n) ↔ (FileOk limits s × (n ≡ length (listingIn (viewOf s))))
+    pub held : (n : ℕ) → x ≡ listed.Count n → d′ ≡ partIn (listingIn (viewOf s)) from d
 
   -- ---- "The verdict: the first pierced pair in listing order; if none, the lowest vertex of A enclosed by B; if none, the lowest vertex of B enclosed by A;
   -- else apart"
@@ -126,9 +134,14 @@ module _ (s : List ℕ) where
   -- ---- "vertices of A enclosed by B, then of B by A", "the listing's count"
 
   pub record CountsAre (c : Counts) : Type 0 where
-    pub pairs : c .pairs ≡ length (listingOf s)
+    pub pairs : c .pairs ≡ length (listingIn (viewOf s))
     pub a-in-b : Number (Enclosed s) (numbered 1 (vertsA s)) (c .«a_in_b»)
     pub b-in-a : Number (Enclosed s) (numbered (vertsA s + 1) (vertsB s)) (c .«b_in_a»)
+
+  -- one of the two
+  pub record InsideIs (n : ℕ) : Type 0 where
+    pub of-a : (insideOf s 1 ≡ enclosing.Count n) ↔ (FileOk limits s × Number (Enclosed s) (numbered 1 (vertsA s)) n)
+    pub of-b : (insideOf s 2 ≡ enclosing.Count n) ↔ (FileOk limits s × Number (Enclosed s) (numbered (vertsA s + 1) (vertsB s)) n)
 
   -- ---- "The answer is the four terms and the sign of the first that is not zero"; piercing for u, v and a face
 
@@ -146,6 +159,8 @@ module _ (s : List ℕ) where
 
 pub record Exact (s : List ℕ) : Type 0 where
   pub accepted : (judged s ≡ Accepted) ↔ FileOk limits s
+  -- and exactly when it is the file of tables that keep the rules
+  pub files : Bytes s → (judged s ≡ Accepted) ↔ FileOf limits s
   pub sign : (a b c d : ℕ) (t : Terms) (positive : Bool) → (signOf s a b c d ≡ sign.Sign t positive) ↔ (FileOk limits s × SignIs s a b c d t positive)
   pub pierces : (u v f : ℕ) → PiercesIs s u v f
   pub masks : (u v mask ones : ℕ) → MasksAre s u v mask ones
@@ -153,4 +168,6 @@ pub record Exact (s : List ℕ) : Type 0 where
   pub verdict : VerdictIs s
   pub listing : FileOk limits s → ListingIs s
   pub listed : (d d′ : List ℕ) (x : Listed) → IsListed s d d′ x → ListedIs s d d′ x
+  pub part : (from : ℕ) (d d′ : List ℕ) (x : Listed) → IsPart s from d d′ x → PartIs s from d d′ x
+  pub inside : (n : ℕ) → InsideIs s n
   pub counts : (c : Counts) → (countedOf s ≡ counted.Counts c) ↔ (FileOk limits s × CountsAre s c)

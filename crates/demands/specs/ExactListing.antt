@@ -9,9 +9,9 @@ use lib.Dec.{ltb}
 use Rattle.laws.specs.Lists.{Each, each-map}
 use Rattle.scene.specs.Faces.{Vertex}
 use Rattle.edges.specs.Edges.{joined}
-use Rattle.edges.specs.declared.Solid.{Solid}
+use Rattle.scene.specs.declared.Solid.{Solid}
 use Rattle.pierce.specs.Formula.{pierced}
-use Rattle.listing.specs.Hits.{View, Hit, faceHits, edgeHits, pairHits, pairsAt, vertexHits, solidHits}
+use Rattle.listing.specs.Hits.{Seen, Hit, faceHits, edgeHits, pairHits, pairsAt, vertexHits, solidHits}
 use Rattle.listing.specs.Pour.{three}
 use Rattle.demands.specs.Exact.{Less, Rising}
 use Rattle.demands.specs.ExactRuns.{each-upTo, each-only, rising-only, rising-upTo}
@@ -34,7 +34,7 @@ less-back (a ∷ l) (b ∷ m) (inr h) (inr k) = less-back l m (h .1) (k .1)
 
 -- ---- the hits of one solid's edges
 
-module _ (v : View) (k : Solid) where
+module _ (v : Seen) (k : Solid) where
   -- by lower point, higher point, face
   abbrev pub Lower : Hit → Hit → Type 0
   Lower x y = Less (three x) (three y)

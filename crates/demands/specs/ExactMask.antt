@@ -17,6 +17,7 @@ use Rattle.scene.specs.Records.{vertsA, facesA, facesB}
 use Rattle.scene.specs.Tables.{tablesOf, row, face}
 use Rattle.pierce.specs.Formula.{pierced}
 use Rattle.pierce.specs.Faces.{maskAgainst, isOdd}
+use Rattle.scene.specs.View.{solid}
 use Rattle.kernel.specs.Answers.{maskIn, isEnclosed, otherSolid}
 use Rattle.demands.specs.Words.{VertexOfA, VertexOfB, farPoint, Pierces, Enclosed}
 use Rattle.demands.specs.Exact.{numbered, MaskIs, Odd}
@@ -103,9 +104,9 @@ module _ (s : List ℕ) (u v : ℕ) where
 
 module _ (s : List ℕ) (i : ℕ) where
   pub enclosed-a : VertexOfA s i → Enclosed s i ↔ Odd (Pierces s i (farPoint s)) (numbered (facesA s + 1) (facesB s))
-  unfolding isEnclosed otherSolid maskIn
+  unfolding isEnclosed otherSolid maskIn solid
   enclosed-a h = rw (le-leb i (vertsA s) (h .1)) (odd-iff s i (farPoint s) (facesA s) (facesB s))
 
   pub enclosed-b : VertexOfB s i → Enclosed s i ↔ Odd (Pierces s i (farPoint s)) (numbered 1 (facesA s))
-  unfolding isEnclosed otherSolid maskIn
+  unfolding isEnclosed otherSolid maskIn solid
   enclosed-b h = rw (lt-leb i (vertsA s) (omega arith)) (odd-iff s i (farPoint s) 0 (facesA s))

@@ -18,11 +18,12 @@ use Rattle.judge.specs.Judge.{judged}
 use Rattle.judge.specs.declared.Judged.the-variants.{Accepted}
 use Rattle.rules.specs.Given.{face-of-a, face-of-b}
 use Rattle.edges.specs.Edges.{hasBoth, joined, Corners}
-use Rattle.edges.specs.declared.Solid.{Solid}
+use Rattle.scene.specs.declared.Solid.{Solid}
 use Rattle.pierce.specs.Formula.{pierced}
-use Rattle.listing.specs.Hits.{View, Hit, faceHits, edgeHits, pairHits, pairsAt, vertexHits, solidHits}
+use Rattle.listing.specs.Hits.{Seen, Hit, faceHits, edgeHits, pairHits, pairsAt, vertexHits, solidHits}
 use Rattle.listing.specs.Pour.{three}
-use Rattle.kernel.specs.Scene.{viewOf, solidA, solidB, listingOf}
+use Rattle.scene.specs.View.{viewOf, solidA, solidB, solid}
+use Rattle.kernel.specs.Answers.{listingIn, seen}
 use Rattle.demands.specs.Words.{FaceOfA, FaceOfB, EdgeOfA, EdgeOfB, Pierces}
 use Rattle.demands.specs.Exact.{Rising, PiercedPair, solidOf, Before, ListingIs}
 use Rattle.demands.specs.ExactRuns.{some-append, some-upTo, some-only, some-run, rising-append, rising-map, rising-once}
@@ -37,7 +38,7 @@ corner-vertex f h (inr (inr e)) = subst (Vertex _ _) e (h .r)
 
 -- ---- the hits of one solid's edges
 
-module _ (v : View) (k : Solid) where
+module _ (v : Seen) (k : Solid) where
   -- u and w are corners of one face of the solid
   abbrev Joined : (u w : ℕ) → Type 0
   Joined u w = (f : ℕ) × ((k .first + 1 ≤ f) × (f < k .first + 1 + k .count)) × Both u w (v .face f)
@@ -121,14 +122,14 @@ module _ (v : View) (k : Solid) where
 -- ---- of a scene
 
 module _ (s : List ℕ) where
-  corners-a : judged s ≡ Accepted → Corners (face (tablesOf s)) (solidA s)
+  corners-a : judged s ≡ Accepted → Corners (face (tablesOf s)) (solidA (viewOf s))
   corners-a ok f a b = let e : 0 + vertsA s ≡ vertsA s = omega arith in rw e (face-of-a limits s ok f (omega arith) (omega arith))
 
-  corners-b : judged s ≡ Accepted → Corners (face (tablesOf s)) (solidB s)
+  corners-b : judged s ≡ Accepted → Corners (face (tablesOf s)) (solidB (viewOf s))
   corners-b ok f a b = face-of-b limits s ok f a b
 
   module _ (h : Hit) where
-    hit-of-a : IsHit (viewOf s) (solidA s) h ↔ (EdgeOfA s (h .low) (h .high) × FaceOfB s (h .face) × Pierces s (h .low) (h .high) (h .face))
+    hit-of-a : IsHit (seen (viewOf s)) (solidA (viewOf s)) h ↔ (EdgeOfA s (h .low) (h .high) × FaceOfB s (h .face) × Pierces s (h .low) (h .high) (h .face))
     hit-of-a = (
       λ p.
           let o = p .on in
@@ -145,7 +146,7 @@ module _ (s : List ℕ) where
       },
     )
 
-    hit-of-b : IsHit (viewOf s) (solidB s) h ↔ (EdgeOfB s (h .low) (h .high) × FaceOfA s (h .face) × Pierces s (h .low) (h .high) (h .face))
+    hit-of-b : IsHit (seen (viewOf s)) (solidB (viewOf s)) h ↔ (EdgeOfB s (h .low) (h .high) × FaceOfA s (h .face) × Pierces s (h .low) (h .high) (h .face))
     hit-of-b = (
       λ p.
           let o = p .on in
@@ -163,12 +164,12 @@ module _ (s : List ℕ) where
     )
 
   module _ (ok : judged s ≡ Accepted) where
-    pub members : (h : Hit) → Some (λ x. x ≡ h) (listingOf s) ↔ PiercedPair s h
-    unfolding listingOf
+    pub members : (h : Hit) → Some (λ x. x ≡ h) (listingIn (viewOf s)) ↔ PiercedPair s h
+    unfolding listingIn solid
     members h =
-        let a = Iff·trans (hit-iff (viewOf s) (solidA s) h (corners-a ok)) (hit-of-a h) in
-        let b = Iff·trans (hit-iff (viewOf s) (solidB s) h (corners-b ok)) (hit-of-b h) in
-        Iff·trans (some-append (λ x. x ≡ h) (solidHits (viewOf s) (solidA s)) (solidHits (viewOf s) (solidB s)))
+        let a = Iff·trans (hit-iff (seen (viewOf s)) (solidA (viewOf s)) h (corners-a ok)) (hit-of-a h) in
+        let b = Iff·trans (hit-iff (seen (viewOf s)) (solidB (viewOf s)) h (corners-b ok)) (hit-of-b h) in
+        Iff·trans (some-append (λ x. x ≡ h) (solidHits (seen (viewOf s)) (solidA (viewOf s))) (solidHits (seen (viewOf s)) (solidB (viewOf s))))
         (⊎-elim (λ p. inl (a .0 p)) (λ p. inr (b .0 p)), ⊎-elim (λ p. inl (a .1 p)) (λ p. inr (b .1 p)))
 
   -- ---- it rises
@@ -180,32 +181,32 @@ module _ (s : List ℕ) where
   solid-b i h = rw (lt-leb i (vertsA s) (omega arith))
 
   abbrev of-a : List Hit
-  of-a = solidHits (viewOf s) (solidA s)
+  of-a = solidHits (seen (viewOf s)) (solidA (viewOf s))
 
   abbrev of-b : List Hit
-  of-b = solidHits (viewOf s) (solidB s)
+  of-b = solidHits (seen (viewOf s)) (solidB (viewOf s))
 
   rises-a : Rising (Before s) of-a
   rises-a =
-      rising-map (Lower (viewOf s) (solidA s)) (Before s) _ (λ x y p q o. inr (solid-a (x .low) p ∙ sym (solid-a (y .low) q), o)) of-a
-      (solid-each (viewOf s) (solidA s)) (solid-rises (viewOf s) (solidA s))
+      rising-map (Lower (seen (viewOf s)) (solidA (viewOf s))) (Before s) _ (λ x y p q o. inr (solid-a (x .low) p ∙ sym (solid-a (y .low) q), o)) of-a
+      (solid-each (seen (viewOf s)) (solidA (viewOf s))) (solid-rises (seen (viewOf s)) (solidA (viewOf s)))
 
   rises-b : Rising (Before s) of-b
   rises-b =
-      rising-map (Lower (viewOf s) (solidB s)) (Before s) _ (λ x y p q o. inr (solid-b (x .low) p ∙ sym (solid-b (y .low) q), o)) of-b
-      (solid-each (viewOf s) (solidB s)) (solid-rises (viewOf s) (solidB s))
+      rising-map (Lower (seen (viewOf s)) (solidB (viewOf s))) (Before s) _ (λ x y p q o. inr (solid-b (x .low) p ∙ sym (solid-b (y .low) q), o)) of-b
+      (solid-each (seen (viewOf s)) (solidB (viewOf s))) (solid-rises (seen (viewOf s)) (solidB (viewOf s)))
 
-  pub rises : Rising (Before s) (listingOf s)
-  unfolding listingOf
+  pub rises : Rising (Before s) (listingIn (viewOf s))
+  unfolding listingIn solid
   rises =
       rising-append (Before s) of-a of-b rises-a rises-b
-      (each-map (λ x p. each-map (λ y q. inl (omega (arith, solid-a (x .low) p, solid-b (y .low) q))) of-b (solid-each (viewOf s) (solidB s))) of-a
-      (solid-each (viewOf s) (solidA s)))
+      (each-map (λ x p. each-map (λ y q. inl (omega (arith, solid-a (x .low) p, solid-b (y .low) q))) of-b (solid-each (seen (viewOf s)) (solidB (viewOf s)))) of-a
+      (solid-each (seen (viewOf s)) (solidA (viewOf s))))
 
   pub listing-is : judged s ≡ Accepted → ListingIs s
   listing-is ok =
       record {
         rising = rises;
         members = members ok;
-        once = λ h p. rising-once (Before s) (λ x. less-never (solidOf s (x .low) ∷ three x)) (listingOf s) rises h (members ok h .1 p);
+        once = λ h p. rising-once (Before s) (λ x. less-never (solidOf s (x .low) ∷ three x)) (listingIn (viewOf s)) rises h (members ok h .1 p);
       }

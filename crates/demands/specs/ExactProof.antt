@@ -11,34 +11,39 @@ use Rattle.laws.specs.Decides.{leb-iff}
 use Rattle.laws.specs.Even.{count}
 use Rattle.laws.specs.Range.{countOf, more}
 use Rattle.laws.specs.Lists.{Each, Number, run-each, count-run, number-iff, number-once}
-use Rattle.scene.specs.Limits.{limits}
+use Rattle.scene.specs.Limits.{limits, within}
 use Rattle.scene.specs.Records.{vertsA, vertsB, facesA, facesB, verts}
 use Rattle.scene.specs.Tables.{tablesOf, row, face}
 use Rattle.scene.specs.declared.Refusal.{Refusal}
-use Rattle.judge.specs.Judge.{judged}
+use Rattle.judge.specs.Judge.{judged, andThen, rule}
+use Rattle.judge.specs.declared.Judged.{Judged}
 use Rattle.judge.specs.declared.Judged.the-variants.{Accepted, Refused}
 use Rattle.rules.specs.Rules.{FileOk}
 use Rattle.judge.specs.Tests.{within-iff, rule-iff, then-iff}
 use Rattle.rules.specs.Accepted as rules
+use Rattle.rules.specs.Bridge.{limits-fit}
+use Rattle.rules.specs.Files.{accepted-files}
 use Rattle.orient.specs.Terms.{positiveAt, termsAt}
 use Rattle.orient.specs.declared.Terms.{Terms}
 use Rattle.pierce.specs.Formula.{pierced}
 use Rattle.listing.specs.Hits.{isInside, insideCount}
-use Rattle.listing.specs.Pour.{allIn}
-use Rattle.kernel.specs.Scene.{viewOf, solidA, solidB, listingOf}
-use Rattle.kernel.specs.Answers.{answered, signFault, signOf, yesNo, piercesFault, piercesOf, maskIn, maskFault, maskedOf, refused, faces-are, isEnclosed, enclosedFault, enclosedOf, countsIn, countedOf, verdictIn, verdictOf, listFault, IsListed, isVertex}
+use Rattle.listing.specs.Pour.{allIn, partIn}
+use Rattle.scene.specs.View.{viewOf, solidA, solidB, solid}
+use Rattle.kernel.specs.Laws.{answered-then}
+use Rattle.kernel.specs.Answers.{answered, enclosedIn, maskedIn, piercesIn, signIn, signFault, signOf, yesNo, piercesFault, piercesOf, maskIn, maskFault, maskedOf, refused, faces-are, isEnclosed, enclosedFault, enclosedOf, countsIn, countedOf, verdictIn, verdictOf, listFault, listedIn, heldIn, IsListed, isVertex, listingIn, seen, insideIn, insideFault, enclosingIn, insideOf, isSolid, IsPart}
 use Rattle.kernel.specs.declared.points.Signed.the-variants as sign
 use Rattle.kernel.specs.declared.points.Answer.{Answer}
 use Rattle.kernel.specs.declared.points.Answer.the-variants as answer
 use Rattle.kernel.specs.declared.counts.Counts.{Counts}
 use Rattle.kernel.specs.declared.counts.Counted.the-variants as counted
 use Rattle.kernel.specs.declared.verdict.Verdict.{Verdict}
+use Rattle.kernel.specs.declared.inside.Enclosing.the-variants as enclosing
 use Rattle.kernel.specs.declared.verdict.Verdict.the-variants as verdict
 use Rattle.kernel.specs.declared.lists.Listed.{Listed}
 use Rattle.kernel.specs.declared.lists.Listed.the-variants as listed
 use Rattle.demands.specs.Words.{Vertex, Enclosed, EdgeAndFace, AlikeOrCorner, EdgeAndSolid, AlikeOrVertex}
-use Rattle.demands.specs.Exact.{VerdictIs, ListedIs, numbered, MaskIs, MasksAre, EnclosedIs, CountsAre, SignIs, PiercesIs, Exact}
-use Rattle.demands.specs.AnswersTests.{asked-ok, nonsense, answered-ok, points-iff, edge-iff, mask-iff, alike-points, alike-corner, alike-vertex}
+use Rattle.demands.specs.Exact.{VerdictIs, ListedIs, numbered, MaskIs, MasksAre, EnclosedIs, CountsAre, SignIs, PiercesIs, Exact, PartIs, InsideIs}
+use Rattle.demands.specs.AnswersTests.{asked-ok, nonsense, answered-ok, twice-ok, points-iff, edge-iff, mask-iff, alike-points, alike-corner, alike-vertex}
 use Rattle.demands.specs.ExactMask.{mask, mask-is, mask-once, enclosed-a, enclosed-b}
 use Rattle.demands.specs.ExactPairs.{listing-is}
 use Rattle.demands.specs.ExactVerdict.{inside-a, inside-b, Says, verdict-iff}
@@ -56,7 +61,7 @@ module _ (s : List ℕ) where
   said : (v : Verdict) → ((r : Refusal) → ¬ (verdict.Refused r ≡ v)) → (verdictOf s ≡ v) ↔ (FileOk limits s × Says s v)
   unfolding verdictOf
   said v n =
-      Iff·trans (answered-ok verdict.Refused v n (judged s) (verdictIn s)) (
+      Iff·trans (answered-ok verdict.Refused v n (judged s) (verdictIn (viewOf s))) (
         λ h. (accepted .0 (h .0), verdict-iff s (h .0) v .0 (h .1)),
         λ h. let ok = accepted .1 (h .0) in (ok, verdict-iff s ok v .1 (h .1)),
       )
@@ -73,38 +78,57 @@ module _ (s : List ℕ) where
   -- ---- the lent list
 
   module _ (d d′ : List ℕ) (x : Listed) (h : IsListed s d d′ x) where
-    fits : (n : ℕ) → (x ≡ listed.Count n) ↔ ((listFault s d ≡ Accepted) × (listed.Count (length (listingOf s)) ≡ listed.Count n))
-    fits n = rw (h .answer) (answered-ok listed.Refused (listed.Count n) (λ r e. nonsense (cc)) (listFault s d) (listed.Count (length (listingOf s))))
+    abbrev fault : Judged
+    fault = andThen (judged s) (listFault (viewOf s) d)
 
-    fault-none : (listFault s d ≡ Accepted) ↔ (FileOk limits s × (3 * length (listingOf s) ≤ length d))
+    fits : (n : ℕ) → (x ≡ listed.Count n) ↔ ((fault ≡ Accepted) × (listed.Count (length (listingIn (viewOf s))) ≡ listed.Count n))
+    unfolding listedIn
+    fits n =
+        rw (h .answer)
+        (twice-ok listed.Refused (listed.Count n) (λ r e. nonsense (cc)) (judged s) (listFault (viewOf s) d) (listed.Count (length (listingIn (viewOf s)))))
+
+    fault-none : (fault ≡ Accepted) ↔ (FileOk limits s × (3 * length (listingIn (viewOf s)) ≤ length d))
     unfolding listFault
     fault-none =
         Iff·trans (then-iff _ _) (Iff·and accepted (Iff·trans (rule-iff _ _ _) (λ k. leb-iff _ _ .0 (k .0), λ k. (leb-iff _ _ .1 k, refl))))
 
     listed-is : ListedIs s d d′ x
-    unfolding allIn answered
+    unfolding allIn answered heldIn
     listed-is =
         record {
           count = λ n. Iff·trans (fits n) (
-            λ k. let e : n ≡ length (listingOf s) = same (k .1) in let f = fault-none .0 (k .0) in (f .0, e, rw e (f .1)),
+            λ k. let e : n ≡ length (listingIn (viewOf s)) = same (k .1) in let f = fault-none .0 (k .0) in (f .0, e, rw e (f .1)),
             λ k. let e = k .1 in (fault-none .1 (k .0, rw e at (k .2)), ap listed.Count (sym e)),
           );
-          held = λ n e. let k = fits n .0 e in let l : n ≡ length (listingOf s) = same (k .1) in h .held ∙ rw (k .0, l);
+          held = λ n e. let k = fits n .0 e in let l : n ≡ length (listingIn (viewOf s)) = same (k .1) in
+              h .held ∙ answered-then (λ _. d) (judged s) (listFault (viewOf s) d) (allIn (listingIn (viewOf s)) d) ∙ rw (k .0, l);
         }
       where
         same : {m n : ℕ} → listed.Count m ≡ listed.Count n → n ≡ m
         same e = cc
 
+  module _ (from : ℕ) (d d′ : List ℕ) (x : Listed) (h : IsPart s from d d′ x) where
+    part-told : (n : ℕ) → (x ≡ listed.Count n) ↔ ((judged s ≡ Accepted) × (listed.Count (length (listingIn (viewOf s))) ≡ listed.Count n))
+    part-told n = rw (h .answer) (answered-ok listed.Refused (listed.Count n) (λ r e. nonsense (cc)) (judged s) (listed.Count (length (listingIn (viewOf s)))))
+
+    part-is : PartIs s from d d′ x
+    unfolding answered
+    part-is =
+        record {
+          count = λ n. Iff·trans (part-told n) (Iff·and accepted (λ e. cc, λ e. ap listed.Count (sym e)));
+          held = λ n e. let k = part-told n .0 e .0 in h .held ∙ rw k;
+        }
+
   -- ---- masks
 
-  masked : (u v k behind n : ℕ) → maskIn s u v k ≡ mask s u v behind n → (m o : ℕ) →
+  masked : (u v k behind n : ℕ) → maskIn (viewOf s) u v k ≡ mask s u v behind n → (m o : ℕ) →
       (maskedOf s u v k ≡ faces-are m o) ↔ (FileOk limits s × EdgeAndSolid s u v k × ¬ AlikeOrVertex s u v k × MaskIs s u v behind n m o)
-  unfolding maskedOf maskFault
+  unfolding maskedOf maskedIn maskFault
   masked u v k behind n e m o =
-      Iff·trans (answered-ok refused (faces-are m o) (λ r e. nonsense (cc)) (maskFault s u v k) (faces-are (maskIn s u v k) (ones (maskIn s u v k))))
+      Iff·trans (twice-ok refused (faces-are m o) (λ r e. nonsense (cc)) (judged s) (maskFault (viewOf s) u v k) (faces-are (maskIn (viewOf s) u v k) (ones (maskIn (viewOf s) u v k))))
       (Iff·trans (Iff·and (asked-ok s _ _ (mask-iff s u v k) (alike-vertex s u v k)) same) (λ h. (h .0 .0, h .0 .1, h .0 .2, h .1), λ h. ((h .0, h .1, h .2), h .3)))
     where
-      same : (faces-are (maskIn s u v k) (ones (maskIn s u v k)) ≡ faces-are m o) ↔ MaskIs s u v behind n m o
+      same : (faces-are (maskIn (viewOf s) u v k) (ones (maskIn (viewOf s) u v k)) ≡ faces-are m o) ↔ MaskIs s u v behind n m o
       same = (
         λ g.
             let a : mask s u v behind n ≡ m = cc in
@@ -112,21 +136,21 @@ module _ (s : List ℕ) where
             subst (MaskIs s u v behind n m) b (subst (λ (m : ℕ). MaskIs s u v behind n m (ones (mask s u v behind n))) a (mask-is s u v behind n)),
         λ h.
             let p = mask-once s u v behind n m o h in
-            let a : maskIn s u v k ≡ m = e ∙ sym (p .0) in
-            let b : ones (maskIn s u v k) ≡ o = ap ones e ∙ sym (p .1) in
-            ap (λ (m : ℕ). faces-are m (ones (maskIn s u v k))) a ∙ ap (faces-are m) b,
+            let a : maskIn (viewOf s) u v k ≡ m = e ∙ sym (p .0) in
+            let b : ones (maskIn (viewOf s) u v k) ≡ o = ap ones e ∙ sym (p .1) in
+            ap (λ (m : ℕ). faces-are m (ones (maskIn (viewOf s) u v k))) a ∙ ap (faces-are m) b,
       )
 
   masks-are : (u v m o : ℕ) → MasksAre s u v m o
-  unfolding maskIn
+  unfolding maskIn solid
   masks-are u v m o = record { of-a = masked u v 1 0 (facesA s) refl m o; of-b = masked u v 2 (facesA s) (facesB s) refl m o }
 
   -- ---- the sign, piercing and enclosure
 
   sign-is : (a b c d : ℕ) (t : Terms) (p : Bool) → (signOf s a b c d ≡ sign.Sign t p) ↔ (FileOk limits s × SignIs s a b c d t p)
-  unfolding signOf signFault
+  unfolding signOf signIn signFault
   sign-is a b c d t p =
-      Iff·trans (answered-ok sign.Refused (sign.Sign t p) (λ r e. nonsense (cc)) (signFault s a b c d) (sign.Sign (termsAt (row (tablesOf s)) a b c d) (positiveAt (row (tablesOf s)) a b c d)))
+      Iff·trans (twice-ok sign.Refused (sign.Sign t p) (λ r e. nonsense (cc)) (judged s) (signFault (viewOf s) a b c d) (sign.Sign (termsAt (row (tablesOf s)) a b c d) (positiveAt (row (tablesOf s)) a b c d)))
       (Iff·trans (Iff·and (asked-ok s _ _ (points-iff s a b c d) (λ h. alike-points s a b c d)) Iff·rfl) (
         λ h. let e = h .1 in (h .0 .0, record { points = h .0 .1; different = h .0 .2; terms = cc; sign = cc }),
         λ h. let r = h .1 in ((h .0, r .points, r .different), ap (λ (t : Terms). sign.Sign t (positiveAt (row (tablesOf s)) a b c d)) (sym (r .terms)) ∙ ap (sign.Sign t) (sym (r .sign))),
@@ -141,7 +165,7 @@ module _ (s : List ℕ) where
   no-iff false = (λ e. false≢true, λ e. refl)
 
   pierces-is : (u v f : ℕ) → PiercesIs s u v f
-  unfolding piercesOf piercesFault
+  unfolding piercesOf piercesIn piercesFault
   pierces-is u v f = record { yes = by answer.Yes (λ r e. nonsense (cc)) (yes-iff test); no = by answer.No (λ r e. nonsense (cc)) (no-iff test) }
     where
       test : Bool
@@ -150,52 +174,62 @@ module _ (s : List ℕ) where
       by : {X : Type 0} (x : Answer) → ((r : Refusal) → ¬ (answer.Refused r ≡ x)) → (yesNo test ≡ x) ↔ X →
           (piercesOf s u v f ≡ x) ↔ (FileOk limits s × EdgeAndFace s u v f × ¬ AlikeOrCorner s u v f × X)
       by x n e =
-          Iff·trans (answered-ok answer.Refused x n (piercesFault s u v f) (yesNo test))
+          Iff·trans (twice-ok answer.Refused x n (judged s) (piercesFault (viewOf s) u v f) (yesNo test))
           (Iff·trans (Iff·and (asked-ok s _ _ (edge-iff s u v f) (λ h. alike-corner s u v f)) e) (λ h. (h .0 .0, h .0 .1, h .0 .2, h .1), λ h. ((h .0, h .1, h .2), h .3)))
 
   enclosed-is : EnclosedIs s
-  unfolding enclosedOf enclosedFault isVertex
+  unfolding enclosedOf enclosedIn enclosedFault isVertex
   enclosed-is =
       record {
         of-a = λ i. enclosed-a s i;
         of-b = λ i. enclosed-b s i;
-        yes = λ i. by i answer.Yes (λ r e. nonsense (cc)) (yes-iff (isEnclosed s i));
-        no = λ i. by i answer.No (λ r e. nonsense (cc)) (no-iff (isEnclosed s i));
+        yes = λ i. by i answer.Yes (λ r e. nonsense (cc)) (yes-iff (isEnclosed (viewOf s) i));
+        no = λ i. by i answer.No (λ r e. nonsense (cc)) (no-iff (isEnclosed (viewOf s) i));
       }
     where
-      by : {X : Type 0} (i : ℕ) (x : Answer) → ((r : Refusal) → ¬ (answer.Refused r ≡ x)) → (yesNo (isEnclosed s i) ≡ x) ↔ X → (enclosedOf s i ≡ x) ↔ (FileOk limits s × Vertex s i × X)
+      by : {X : Type 0} (i : ℕ) (x : Answer) → ((r : Refusal) → ¬ (answer.Refused r ≡ x)) → (yesNo (isEnclosed (viewOf s) i) ≡ x) ↔ X → (enclosedOf s i ≡ x) ↔ (FileOk limits s × Vertex s i × X)
       by i x n e =
-          Iff·trans (answered-ok answer.Refused x n (enclosedFault s i) (yesNo (isEnclosed s i)))
+          Iff·trans (twice-ok answer.Refused x n (judged s) (enclosedFault (viewOf s) i) (yesNo (isEnclosed (viewOf s) i)))
           (Iff·trans (Iff·and (Iff·trans (then-iff _ _) (Iff·and accepted (Iff·trans (rule-iff _ _ _) (λ h. within-iff 1 (verts s) i .0 (h .0), λ h. (within-iff 1 (verts s) i .1 h, refl))))) e)
           (λ h. (h .0 .0, h .0 .1, h .1), λ h. ((h .0, h .1), h .2)))
 
   -- ---- counts
 
-  inside-number : (p : ℕ → Bool) (a n : ℕ) → ((i : ℕ) → a ≤ i → i < a + n → p i ≡ isEnclosed s i) → Number (Enclosed s) (numbered a n) (countOf p a (a + n))
+  inside-number : (p : ℕ → Bool) (a n : ℕ) → ((i : ℕ) → a ≤ i → i < a + n → p i ≡ isEnclosed (viewOf s) i) → Number (Enclosed s) (numbered a n) (countOf p a (a + n))
   inside-number p a n h =
-      number-iff (Enclosed s) (isEnclosed s) (λ i. Iff·rfl) (numbered a n) (countOf p a (a + n)) .0
-      (sym (count-run (λ i. i) p p a (a + n) n (omega arith) (λ i. refl) ∙ count-same p (isEnclosed s) (numbered a n) (run-each (λ i. p i ≡ isEnclosed s i) (λ i. i) a n h)))
+      number-iff (Enclosed s) (isEnclosed (viewOf s)) (λ i. Iff·rfl) (numbered a n) (countOf p a (a + n)) .0
+      (sym (count-run (λ i. i) p p a (a + n) n (omega arith) (λ i. refl) ∙ count-same p (isEnclosed (viewOf s)) (numbered a n) (run-each (λ i. p i ≡ isEnclosed (viewOf s) i) (λ i. i) a n h)))
 
-  number-a : Number (Enclosed s) (numbered 1 (vertsA s)) (insideCount (viewOf s) (solidA s))
+  number-a : Number (Enclosed s) (numbered 1 (vertsA s)) (insideCount (seen (viewOf s)) (solidA (viewOf s)))
   unfolding insideCount
-  number-a = inside-number (isInside (viewOf s) (solidA s)) 1 (vertsA s) (λ i a b. inside-a s i (omega arith))
+  number-a = inside-number (isInside (seen (viewOf s)) (solidA (viewOf s))) 1 (vertsA s) (λ i a b. inside-a s i (omega arith))
 
-  number-b : Number (Enclosed s) (numbered (vertsA s + 1) (vertsB s)) (insideCount (viewOf s) (solidB s))
+  number-b : Number (Enclosed s) (numbered (vertsA s + 1) (vertsB s)) (insideCount (seen (viewOf s)) (solidB (viewOf s)))
   unfolding insideCount
-  number-b = inside-number (isInside (viewOf s) (solidB s)) (vertsA s + 1) (vertsB s) (λ i a b. inside-b s i (omega arith))
+  number-b = inside-number (isInside (seen (viewOf s)) (solidB (viewOf s))) (vertsA s + 1) (vertsB s) (λ i a b. inside-b s i (omega arith))
 
   counts-are : (c : Counts) → (countedOf s ≡ counted.Counts c) ↔ (FileOk limits s × CountsAre s c)
-  unfolding countedOf countsIn
+  unfolding countedOf countsIn insideIn solid
   counts-are c =
-      Iff·trans (answered-ok counted.Refused (counted.Counts c) (λ r e. nonsense (cc)) (judged s) (counted.Counts (countsIn s))) (Iff·and accepted (
-        λ e. let d : countsIn s ≡ c = cc in subst (CountsAre s) d (record { pairs = refl; a-in-b = number-a; b-in-a = number-b }),
+      Iff·trans (answered-ok counted.Refused (counted.Counts c) (λ r e. nonsense (cc)) (judged s) (counted.Counts (countsIn (viewOf s)))) (Iff·and accepted (
+        λ e. let d : countsIn (viewOf s) ≡ c = cc in subst (CountsAre s) d (record { pairs = refl; a-in-b = number-a; b-in-a = number-b }),
         λ h.
             let p = h .pairs in
             let a = number-once (h .a-in-b) number-a in
             let b = number-once (h .b-in-a) number-b in
-            let same : countsIn s ≡ c = λ i. record { pairs = sym p i; «a_in_b» = sym a i; «b_in_a» = sym b i } in
+            let same : countsIn (viewOf s) ≡ c = λ i. record { pairs = sym p i; «a_in_b» = sym a i; «b_in_a» = sym b i } in
             ap counted.Counts same,
       ))
+
+  inside-is : (n : ℕ) → InsideIs s n
+  unfolding insideOf enclosingIn insideFault isSolid within rule answered insideIn solid
+  inside-is n =
+      record {
+        of-a = Iff·trans (answered-ok enclosing.Refused (enclosing.Count n) (λ r e. nonsense (cc)) (judged s) _)
+            (Iff·and accepted (λ e. let d : _ ≡ n = cc in subst (Number (Enclosed s) (numbered 1 (vertsA s))) d number-a, λ h. ap enclosing.Count (number-once number-a h)));
+        of-b = Iff·trans (answered-ok enclosing.Refused (enclosing.Count n) (λ r e. nonsense (cc)) (judged s) _)
+            (Iff·and accepted (λ e. let d : _ ≡ n = cc in subst (Number (Enclosed s) (numbered (vertsA s + 1) (vertsB s))) d number-b, λ h. ap enclosing.Count (number-once number-b h)));
+      }
 
 -- ---- the demand
 
@@ -203,6 +237,7 @@ pub exact : (s : List ℕ) → Exact s
 exact s =
     record {
       accepted = accepted s;
+      files = accepted-files limits limits-fit s;
       sign = sign-is s;
       pierces = pierces-is s;
       masks = masks-are s;
@@ -210,5 +245,7 @@ exact s =
       verdict = verdict-is s;
       listing = λ ok. listing-is s (accepted s .1 ok);
       listed = listed-is s;
+      part = part-is s;
+      inside = inside-is s;
       counts = counts-are s;
     }

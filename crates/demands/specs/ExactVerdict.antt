@@ -14,14 +14,14 @@ use Rattle.laws.specs.Lists.{Some}
 use Rattle.scene.specs.Records.{vertsA, vertsB, verts}
 use Rattle.judge.specs.Judge.{judged}
 use Rattle.judge.specs.declared.Judged.the-variants.{Accepted, Refused}
-use Rattle.edges.specs.declared.Solid.{Solid}
+use Rattle.scene.specs.declared.Solid.{Solid}
 use Rattle.pierce.specs.Faces.{enclosed}
 use Rattle.listing.specs.Hits.{Hit, isInside, lowestInside}
 use Rattle.listing.specs.First.{firstOf}
 use Rattle.listing.specs.Pour.{three}
 use Rattle.listing.specs.declared.find.Found.the-variants.{Nothing, Pair}
-use Rattle.kernel.specs.Scene.{viewOf, solidA, solidB, listingOf}
-use Rattle.kernel.specs.Answers.{maskIn, isEnclosed, enclosing, verdictIn, otherSolid}
+use Rattle.scene.specs.View.{viewOf, solidA, solidB, solid}
+use Rattle.kernel.specs.Answers.{maskIn, isEnclosed, enclosureIn, verdictIn, otherSolid, listingIn, seen}
 use Rattle.kernel.specs.declared.verdict.Verdict.{Verdict}
 use Rattle.kernel.specs.declared.verdict.Verdict.the-variants as verdict
 use Rattle.demands.specs.Words.{VertexOfA, VertexOfB, Enclosed}
@@ -92,23 +92,23 @@ module _ (s : List ℕ) where
   -- ---- the lowest enclosed vertex of a solid k, whose vertices are Of
 
   module _ (k : Solid) (Of : ℕ → Type 0) (to : (i : ℕ) → Of i → (k .low + 1 ≤ i) × (i < k .low + 1 + k .verts))
-      (from : (i : ℕ) → k .low + 1 ≤ i → i < k .low + 1 + k .verts → Of i) (inside : (i : ℕ) → Of i → isInside (viewOf s) k i ≡ isEnclosed s i) where
+      (from : (i : ℕ) → k .low + 1 ≤ i → i < k .low + 1 + k .verts → Of i) (inside : (i : ℕ) → Of i → isInside (seen (viewOf s)) k i ≡ isEnclosed (viewOf s) i) where
     abbrev lowest : ℕ
-    lowest = lowestInside (viewOf s) k
+    lowest = lowestInside (seen (viewOf s)) k
 
-    lowest-inside : Lowest (isInside (viewOf s) k) (k .low + 1) (k .verts) lowest
+    lowest-inside : Lowest (isInside (seen (viewOf s)) k) (k .low + 1) (k .verts) lowest
     unfolding lowestInside lowestOf over
     lowest-inside =
         let e : k .low + 1 + k .verts - (k .low + 1) ≡ k .verts = omega arith in
-        rw e (lowest-of (isInside (viewOf s) k) (k .verts) (k .low + 1) (k .low + 1 + k .verts) refl)
+        rw e (lowest-of (isInside (seen (viewOf s)) k) (k .verts) (k .low + 1) (k .low + 1 + k .verts) refl)
 
     lowest-or-none : LowestEnclosed s Of lowest ⊎ ((lowest ≡ k .low + 1 + k .verts) × NoneEnclosed s Of)
     lowest-or-none = go lowest-inside
       where
-        off : {i : ℕ} → isInside (viewOf s) k i ≡ false → Of i → ¬ Enclosed s i
+        off : {i : ℕ} → isInside (seen (viewOf s)) k i ≡ false → Of i → ¬ Enclosed s i
         off e o t = true≢false (sym t ∙ sym (inside _ o) ∙ e)
 
-        go : {l : ℕ} → Lowest (isInside (viewOf s) k) (k .low + 1) (k .verts) l → LowestEnclosed s Of l ⊎ ((l ≡ k .low + 1 + k .verts) × NoneEnclosed s Of)
+        go : {l : ℕ} → Lowest (isInside (seen (viewOf s)) k) (k .low + 1) (k .verts) l → LowestEnclosed s Of l ⊎ ((l ≡ k .low + 1 + k .verts) × NoneEnclosed s Of)
         go {l} (found f) =
             let o = from l (f .from) (f .below) in
             inl (record { of = o; enclosed = sym (inside l o) ∙ f .passes; none-lower = λ i h b. off (f .none i (to i h .0) b) h })
@@ -128,12 +128,12 @@ module _ (s : List ℕ) where
 
   -- ---- of A and of B
 
-  pub inside-a : (i : ℕ) → VertexOfA s i → isInside (viewOf s) (solidA s) i ≡ isEnclosed s i
-  unfolding isInside isEnclosed otherSolid maskIn
+  pub inside-a : (i : ℕ) → VertexOfA s i → isInside (seen (viewOf s)) (solidA (viewOf s)) i ≡ isEnclosed (viewOf s) i
+  unfolding isInside isEnclosed otherSolid maskIn solid
   inside-a i h = rw (le-leb i (vertsA s) (h .1))
 
-  pub inside-b : (i : ℕ) → VertexOfB s i → isInside (viewOf s) (solidB s) i ≡ isEnclosed s i
-  unfolding isInside isEnclosed otherSolid maskIn
+  pub inside-b : (i : ℕ) → VertexOfB s i → isInside (seen (viewOf s)) (solidB (viewOf s)) i ≡ isEnclosed (viewOf s) i
+  unfolding isInside isEnclosed otherSolid maskIn solid
   inside-b i h = rw (lt-leb i (vertsA s) (omega arith))
 
   to-a : (i : ℕ) → VertexOfA s i → (0 + 1 ≤ i) × (i < 0 + 1 + vertsA s)
@@ -148,21 +148,21 @@ module _ (s : List ℕ) where
   from-b : (i : ℕ) → vertsA s + 1 ≤ i → i < vertsA s + 1 + vertsB s → VertexOfB s i
   from-b i a b = omega arith
 
-  in-a : (p : ℕ) → LowestEnclosed s (VertexOfA s) p → enclosing s ≡ verdict.AInB p
-  unfolding enclosing
-  in-a p h = rw (lowest-is (solidA s) (VertexOfA s) to-a from-a inside-a p h, le-leb p (vertsA s) (h .of .1))
+  in-a : (p : ℕ) → LowestEnclosed s (VertexOfA s) p → enclosureIn (viewOf s) ≡ verdict.AInB p
+  unfolding enclosureIn solid
+  in-a p h = rw (lowest-is (solidA (viewOf s)) (VertexOfA s) to-a from-a inside-a p h, le-leb p (vertsA s) (h .of .1))
 
   module _ (none-a : NoneEnclosed s (VertexOfA s)) where
-    not-a : leb (lowestInside (viewOf s) (solidA s)) (vertsA s) ≡ false
-    not-a = lt-leb (lowestInside (viewOf s) (solidA s)) (vertsA s) (omega (arith, lowest-none (solidA s) (VertexOfA s) to-a from-a inside-a none-a))
+    not-a : leb (lowestInside (seen (viewOf s)) (solidA (viewOf s))) (vertsA s) ≡ false
+    not-a = lt-leb (lowestInside (seen (viewOf s)) (solidA (viewOf s))) (vertsA s) (omega (arith, lowest-none (solidA (viewOf s)) (VertexOfA s) to-a from-a inside-a none-a))
 
-    in-b : (p : ℕ) → LowestEnclosed s (VertexOfB s) p → enclosing s ≡ verdict.BInA p
-    unfolding enclosing
-    in-b p h = rw (not-a, lowest-is (solidB s) (VertexOfB s) to-b from-b inside-b p h, le-leb p (verts s) (h .of .1))
+    in-b : (p : ℕ) → LowestEnclosed s (VertexOfB s) p → enclosureIn (viewOf s) ≡ verdict.BInA p
+    unfolding enclosureIn solid
+    in-b p h = rw (not-a, lowest-is (solidB (viewOf s)) (VertexOfB s) to-b from-b inside-b p h, le-leb p (verts s) (h .of .1))
 
-    in-neither : NoneEnclosed s (VertexOfB s) → enclosing s ≡ verdict.Apart
-    unfolding enclosing
-    in-neither n = rw (not-a, lt-leb (lowestInside (viewOf s) (solidB s)) (verts s) (omega (arith, lowest-none (solidB s) (VertexOfB s) to-b from-b inside-b n)))
+    in-neither : NoneEnclosed s (VertexOfB s) → enclosureIn (viewOf s) ≡ verdict.Apart
+    unfolding enclosureIn solid
+    in-neither n = rw (not-a, lt-leb (lowestInside (seen (viewOf s)) (solidB (viewOf s))) (verts s) (omega (arith, lowest-none (solidB (viewOf s)) (VertexOfB s) to-b from-b inside-b n)))
 
   -- ---- the verdict
 
@@ -174,31 +174,31 @@ module _ (s : List ℕ) where
   Says verdict.Apart = NonePierced s × NoneEnclosed s (VertexOfA s) × NoneEnclosed s (VertexOfB s)
 
   module _ (ok : judged s ≡ Accepted) where
-    lists : Lists (listingOf s)
+    lists : Lists (listingIn (viewOf s))
     lists = (rises s, members s ok)
 
     -- what a verdict says holds of that verdict alone
-    given : (v : Verdict) → Says v → verdictIn s ≡ v
+    given : (v : Verdict) → Says v → verdictIn (viewOf s) ≡ v
     unfolding verdictIn
     given (verdict.Refused r) h = absurd h
-    given (verdict.Cross u v f) h = rw (first-pair (listingOf s) lists _ h)
-    given (verdict.AInB p) h = rw (none-first (listingOf s) lists (h .0)) (in-a p (h .1))
-    given (verdict.BInA p) h = rw (none-first (listingOf s) lists (h .0)) (in-b (h .1) p (h .2))
-    given verdict.Apart h = rw (none-first (listingOf s) lists (h .0)) (in-neither (h .1) (h .2))
+    given (verdict.Cross u v f) h = rw (first-pair (listingIn (viewOf s)) lists _ h)
+    given (verdict.AInB p) h = rw (none-first (listingIn (viewOf s)) lists (h .0)) (in-a p (h .1))
+    given (verdict.BInA p) h = rw (none-first (listingIn (viewOf s)) lists (h .0)) (in-b (h .1) p (h .2))
+    given verdict.Apart h = rw (none-first (listingIn (viewOf s)) lists (h .0)) (in-neither (h .1) (h .2))
 
     -- and one of them holds
-    says : Says (verdictIn s)
-    says = ⊎-elim (λ p. holds (verdict.Cross _ _ _) (p .1)) none-cross (pair-or-none (listingOf s) lists)
+    says : Says (verdictIn (viewOf s))
+    says = ⊎-elim (λ p. holds (verdict.Cross _ _ _) (p .1)) none-cross (pair-or-none (listingIn (viewOf s)) lists)
       where
-        holds : (v : Verdict) → Says v → Says (verdictIn s)
+        holds : (v : Verdict) → Says v → Says (verdictIn (viewOf s))
         holds v h = subst Says (sym (given v h)) h
 
-        none-in-a : NonePierced s → NoneEnclosed s (VertexOfA s) → Says (verdictIn s)
-        none-in-a n a = ⊎-elim (λ b. holds (verdict.BInA _) (n, a, b)) (λ b. holds verdict.Apart (n, a, b .1)) (lowest-or-none (solidB s) (VertexOfB s) to-b from-b inside-b)
+        none-in-a : NonePierced s → NoneEnclosed s (VertexOfA s) → Says (verdictIn (viewOf s))
+        none-in-a n a = ⊎-elim (λ b. holds (verdict.BInA _) (n, a, b)) (λ b. holds verdict.Apart (n, a, b .1)) (lowest-or-none (solidB (viewOf s)) (VertexOfB s) to-b from-b inside-b)
 
-        none-cross : NonePierced s → Says (verdictIn s)
+        none-cross : NonePierced s → Says (verdictIn (viewOf s))
         none-cross n =
-            ⊎-elim (λ a. holds (verdict.AInB _) (n, a)) (λ a. none-in-a n (a .1)) (lowest-or-none (solidA s) (VertexOfA s) to-a from-a inside-a)
+            ⊎-elim (λ a. holds (verdict.AInB _) (n, a)) (λ a. none-in-a n (a .1)) (lowest-or-none (solidA (viewOf s)) (VertexOfA s) to-a from-a inside-a)
 
-    pub verdict-iff : (v : Verdict) → (verdictIn s ≡ v) ↔ Says v
+    pub verdict-iff : (v : Verdict) → (verdictIn (viewOf s) ≡ v) ↔ Says v
     verdict-iff v = (λ e. subst Says e says, given v)

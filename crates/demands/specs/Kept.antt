@@ -2,67 +2,41 @@
 use mathlib.Core.Path.{_≡_}
 use mathlib.Core.List.{List}
 use Prim.Native.Nat.{ℕ, _+_, _*_, _≤_, _<_}
-use lib.Count.{ones}
-use lib.Dec.{leb}
 use lib.IntN.{ℤ, pos, _+ℤ_, _-ℤ_, _*ℤ_}
 use lib.ListN.{length}
 use Rattle.laws.specs.Lists.{Number}
 use Rattle.scene.specs.Limits.{limits, limitsBefore}
 use Rattle.scene.specs.Records.{facesA, verts, faces, lastRecord}
-use Rattle.scene.specs.Tables.{rowAt, faceAt, tablesOf, row, face}
+use Rattle.scene.specs.Tables.{rowAt, faceAt, tablesOf, row}
+use Rattle.scene.specs.View.{viewOf}
 use Rattle.scene.specs.Faces.{Both, Sides}
-use Rattle.scene.specs.declared.Refusal.the-variants.{Counts, Room, Lacking, Same}
-use Rattle.judge.specs.Judge.{rule, judgedAt, judged}
-use Rattle.judge.specs.declared.Judged.{Judged}
+use Rattle.scene.specs.declared.Refusal.the-variants.{Counts}
+use Rattle.judge.specs.Judge.{judgedAt, judged}
 use Rattle.judge.specs.declared.Judged.the-variants.{Accepted, Refused}
 use Rattle.rules.specs.Rules.{CountsOk, HeaderOk, MarkOk, CoordinatesOk, WeightIn, CornersOk, RecordsOk, AllUsed, SidesOk}
 use Rattle.laws.specs.Sign.{sign, _or_}
 use Rattle.orient.specs.Terms.{Numbered, Powers, powers, isPlus, positiveAt, termsAt}
-use Rattle.pierce.specs.Formula.{pierced}
-use Rattle.listing.specs.Pour.{allIn, partIn}
-use Rattle.kernel.specs.Scene.{listingOf}
-use Rattle.kernel.specs.Answers.{answered, arePoints, differ, signOf, yesNo, edgeAndFace, clear, piercesOf, maskAsked, maskOutside, maskIn, refused, faces-are, maskedOf, isVertex, isEnclosed, enclosedOf, countsIn, countedOf, verdictIn, verdictOf, IsListed, IsPart}
-use Rattle.kernel.specs.declared.points.Signed.the-variants as sign
-use Rattle.kernel.specs.declared.points.Answer.the-variants as answer
+use Rattle.listing.specs.Pour.{partIn}
+use Rattle.kernel.specs.Answers.{signIn, signOf, piercesIn, piercesOf, maskedIn, maskedOf, enclosedIn, enclosedOf, countsIn, countedOf, enclosingIn, insideOf, verdictIn, verdictOf, listingIn, listedIn, heldIn, IsListed, IsPart}
 use Rattle.kernel.specs.declared.counts.Counted.the-variants as counted
 use Rattle.kernel.specs.declared.lists.Listed.{Listed}
 use Rattle.kernel.specs.declared.lists.Listed.the-variants as listed
 use Rattle.demands.specs.Words.{FourPoints}
 
--- ---- the answers about a scene that is accepted: nothing on the right of an equation asks the judge, so they are the same whatever rules accepted it
+-- ---- the answers about a scene that is accepted: those of what its bytes denote, whatever rules accepted it
 
 module _ (s : List ℕ) where
-  abbrev signAsked : (a b c d : ℕ) → Judged
-  signAsked a b c d = rule (arePoints s a b c d) Lacking (rule (differ a b c d) Same Accepted)
-
-  abbrev piercesAsked : (u v f : ℕ) → Judged
-  piercesAsked u v f = rule (edgeAndFace s u v f) Lacking (rule (clear u v (face (tablesOf s) f)) Same Accepted)
-
-  abbrev maskRules : (u v k : ℕ) → Judged
-  maskRules u v k = rule (maskAsked s u v k) Lacking (rule (maskOutside s u v k) Same Accepted)
-
-  abbrev roomFor : List ℕ → Judged
-  roomFor d = rule (leb (3 * length (listingOf s)) (length d)) (Room (length (listingOf s))) Accepted
-
-  pub record ListedStill (d d′ : List ℕ) (r : Listed) : Type 0 where
-    pub answer : r ≡ answered listed.Refused (roomFor d) (listed.Count (length (listingOf s)))
-    pub held : d′ ≡ answered (λ _. d) (roomFor d) (allIn (listingOf s) d)
-
-  pub record PartStill (from : ℕ) (d d′ : List ℕ) (r : Listed) : Type 0 where
-    pub answer : r ≡ listed.Count (length (listingOf s))
-    pub held : d′ ≡ partIn (listingOf s) from d
-
   pub record Answers : Type 0 where
-    pub sign : (a b c d : ℕ) →
-        signOf s a b c d ≡ answered sign.Refused (signAsked a b c d) (sign.Sign (termsAt (row (tablesOf s)) a b c d) (positiveAt (row (tablesOf s)) a b c d))
-    pub pierces : (u v f : ℕ) →
-        piercesOf s u v f ≡ answered answer.Refused (piercesAsked u v f) (yesNo (pierced (verts s + 1) (row (tablesOf s)) u v (face (tablesOf s) f)))
-    pub mask : (u v k : ℕ) → maskedOf s u v k ≡ answered refused (maskRules u v k) (faces-are (maskIn s u v k) (ones (maskIn s u v k)))
-    pub enclosed : (i : ℕ) → enclosedOf s i ≡ answered answer.Refused (rule (isVertex s i) Lacking Accepted) (yesNo (isEnclosed s i))
-    pub counts : countedOf s ≡ counted.Counts (countsIn s)
-    pub verdict : verdictOf s ≡ verdictIn s
-    pub listing : (d d′ : List ℕ) (r : Listed) → IsListed s d d′ r → ListedStill d d′ r
-    pub part : (from : ℕ) (d d′ : List ℕ) (r : Listed) → IsPart s from d d′ r → PartStill from d d′ r
+    pub sign : (a b c d : ℕ) → signOf s a b c d ≡ signIn (viewOf s) a b c d
+    pub pierces : (u v f : ℕ) → piercesOf s u v f ≡ piercesIn (viewOf s) u v f
+    pub mask : (u v k : ℕ) → maskedOf s u v k ≡ maskedIn (viewOf s) u v k
+    pub enclosed : (i : ℕ) → enclosedOf s i ≡ enclosedIn (viewOf s) i
+    pub counts : countedOf s ≡ counted.Counts (countsIn (viewOf s))
+    pub inside : (k : ℕ) → insideOf s k ≡ enclosingIn (viewOf s) k
+    pub verdict : verdictOf s ≡ verdictIn (viewOf s)
+    pub listing : (d d′ : List ℕ) (r : Listed) → IsListed s d d′ r → (r ≡ listedIn (viewOf s) d) × (d′ ≡ heldIn (viewOf s) d)
+    pub part : (from : ℕ) (d d′ : List ℕ) (r : Listed) → IsPart s from d d′ r →
+        (r ≡ listed.Count (length (listingIn (viewOf s)))) × (d′ ≡ partIn (listingIn (viewOf s)) from d)
 
   pub record Still : Type 0 where
     pub accepted : judged s ≡ Accepted

@@ -26,36 +26,33 @@ use Rattle.judge.specs.declared.Judged.{Judged}
 use Rattle.judge.specs.declared.Judged.the-variants.{Accepted, Refused}
 use Rattle.rules.specs.Rules.{CountsOk, FileOk}
 use Rattle.rules.specs.Accepted.{opens-iff, counts-iff, accepted}
-use Rattle.kernel.specs.Answers.{answered, signFault, signOf, piercesFault, piercesOf, maskFault, maskedOf, refused, enclosedFault, enclosedOf, countedOf, verdictOf, listFault}
+use Rattle.kernel.specs.Answers.{answered, signOf, piercesOf, maskedOf, refused, enclosedOf, countedOf, insideOf, verdictOf}
 use Rattle.kernel.specs.declared.points.Signed.the-variants as sign
 use Rattle.kernel.specs.declared.points.Answer.the-variants as answer
 use Rattle.kernel.specs.declared.counts.Counted.the-variants as counted
+use Rattle.kernel.specs.declared.inside.Enclosing.the-variants as enclosing
 use Rattle.kernel.specs.declared.verdict.Verdict.the-variants as verdict
 use Rattle.kernel.specs.declared.lists.Listed.the-variants as listed
 use Rattle.demands.specs.Kept.{Answers, Still, SharedEdges, LargerModels, RulesOfWeights, byWeight, termsByWeight, SameTerms, FarAtInfinity}
 
 -- the scene's judgement comes first, and says nothing
-module _ {X : Type 0} (refuse : Refusal → X) {j : Judged} (e : j ≡ Accepted) where
-  passed : (rest : Judged) (x : X) → answered refuse (andThen j rest) x ≡ answered refuse rest x
-  unfolding andThen
-  passed rest x = ap (λ (j : Judged). answered refuse (andThen j rest) x) e
-
-  taken : (x : X) → answered refuse j x ≡ x
-  unfolding answered
-  taken x = ap (λ (j : Judged). answered refuse j x) e
+taken : {X : Type 0} (refuse : Refusal → X) {j : Judged} → j ≡ Accepted → (x : X) → answered refuse j x ≡ x
+unfolding answered
+taken refuse e x = ap (λ (j : Judged). answered refuse j x) e
 
 pub answers-of : (s : List ℕ) → judged s ≡ Accepted → Answers s
-unfolding signOf signFault piercesOf piercesFault maskedOf maskFault enclosedOf enclosedFault countedOf verdictOf listFault
+unfolding signOf piercesOf maskedOf enclosedOf countedOf insideOf verdictOf
 answers-of s e =
     record {
-      sign = λ a b c d. passed sign.Refused e _ _;
-      pierces = λ u v f. passed answer.Refused e _ _;
-      mask = λ u v k. passed refused e _ _;
-      enclosed = λ i. passed answer.Refused e _ _;
+      sign = λ a b c d. taken sign.Refused e _;
+      pierces = λ u v f. taken answer.Refused e _;
+      mask = λ u v k. taken refused e _;
+      enclosed = λ i. taken answer.Refused e _;
       counts = taken counted.Refused e _;
+      inside = λ k. taken enclosing.Refused e _;
       verdict = taken verdict.Refused e _;
-      listing = λ d d′ r h. record { answer = h .answer ∙ passed listed.Refused e _ _; held = h .held ∙ passed (λ _. d) e _ _ };
-      part = λ from d d′ r h. record { answer = h .answer ∙ taken listed.Refused e _; held = h .held ∙ taken (λ _. d) e _ };
+      listing = λ d d′ r h. (h .answer ∙ taken listed.Refused e _, h .held ∙ taken (λ _. d) e _);
+      part = λ from d d′ r h. (h .answer ∙ taken listed.Refused e _, h .held ∙ taken (λ _. d) e _);
     }
 
 still : (s : List ℕ) → FileOk limits s → Still s

@@ -1,9 +1,14 @@
 pub mod Words
+pub mod Solids
 pub mod Answers
 pub mod AnswersGiven
 pub mod Exact
 pub mod Parity
+pub mod Sign
+pub mod Symmetry
+pub mod Shown
 pub mod Once
+pub mod Contracts
 pub mod Scenes
 pub mod Computing
 pub mod Marked
@@ -21,6 +26,9 @@ pub mod ExactVerdict
 pub mod ExactMask
 pub mod ExactProof
 pub mod ParityProof
+pub mod SignProof
+pub mod SymmetryProof
+pub mod ShownProof
 pub mod OnceProof
 pub mod MarkedProof
 pub mod WitnessesProof

@@ -2,12 +2,12 @@
 use mathlib.Core.Path.{refl}
 use Rattle.orient.specs.Terms.{termsAt}
 use Rattle.edges.specs.Edges.{isCorner}
-use Rattle.kernel.specs.Answers.{answered, isPoint, isFace, differ, arePoints, signFault, signOf, clear, edgeAndFace, piercesFault, piercesOf}
+use Rattle.kernel.specs.Answers.{answered, isPoint, isFace, differ, arePoints, signFault, signOf, clear, edgeAndFace, piercesFault, piercesOf, signIn, piercesIn}
 use Rattle.demands.specs.Computing.{judging, piercing}
 use Rattle.demands.specs.Marked.{Marked}
 
 pub marked : Marked
-unfolding judging piercing termsAt isCorner answered isPoint isFace differ arePoints signFault signOf clear edgeAndFace piercesFault piercesOf
+unfolding judging piercing termsAt isCorner answered isPoint isFace differ arePoints signFault signOf signIn clear edgeAndFace piercesFault piercesOf piercesIn
 marked =
     record {
       s1 = record { accepted = refl; leads = refl; sign = refl };

@@ -10,10 +10,12 @@ use lib.IntN.{ℤ}
 use lib.ListN.{length}
 use Rattle.laws.specs.Unique.{Once}
 use Rattle.laws.specs.Mask.{testBit}
+use Rattle.scene.specs.Limits.{within}
 use Rattle.scene.specs.Refusal.{numberOf, placeOf}
 use Rattle.scene.specs.Bytes.{byteAt, twoAt}
 use Rattle.scene.specs.Records.{countsOf}
 use Rattle.scene.specs.Tables.{tablesOf, row, face}
+use Rattle.scene.specs.View.{viewOf, verts, points, faces, solid}
 use Rattle.scene.specs.Arrays.{rowIn, faceIn}
 use Rattle.scene.specs.declared.Refusal.{Refusal}
 use Rattle.scene.specs.declared.Scene.{Scene}
@@ -24,18 +26,13 @@ use Rattle.judge.specs.declared.Judged.{Judged}
 use Rattle.record.specs.Shown.{refusal, shown}
 use Rattle.orient.specs.Terms.{positiveAt, termsAt}
 use Rattle.orient.specs.declared.Terms.{Terms}
-use Rattle.edges.specs.Edges.{isCorner, neighbours}
-use Rattle.edges.specs.declared.Solid.{Solid}
+use Rattle.edges.specs.Edges.{isCorner}
+use Rattle.scene.specs.declared.Solid.{Solid}
 use Rattle.pierce.specs.Formula.{pierced}
 use Rattle.pierce.specs.Faces.{maskAgainst, enclosed, valueOf, isOdd, hasFace, firstFace}
 use Rattle.pierce.specs.declared.faces.Mask.{Mask}
-use Rattle.listing.specs.Hits.{viewIn, solidHits, insideCount, lowestInside}
-use Rattle.listing.specs.First.{firstOf}
-use Rattle.listing.specs.Pour.{Pours}
-use Rattle.listing.specs.declared.find.Found.{Found}
-use Rattle.kernel.specs.Inside.{insideOf}
 use Rattle.kernel.specs.declared.inside.Enclosing.{Enclosing}
-use Rattle.kernel.specs.Answers.{isPoint, isSolid, signOf, piercesOf, saidMask, maskedOf, enclosedOf, countedOf, verdictOf, IsListed, IsPart}
+use Rattle.kernel.specs.Answers.{isPoint, signOf, piercesOf, saidMask, maskedOf, enclosedOf, countedOf, verdictOf, IsListed, IsPart, insideOf}
 use Rattle.kernel.specs.declared.points.Signed.{Signed}
 use Rattle.kernel.specs.declared.points.Answer.{Answer}
 use Rattle.kernel.specs.declared.masks.Masked.{Masked}
@@ -65,6 +62,11 @@ pub record SceneOnce : Type 0 where
   pub read-byte : (i : ℕ) → Once (λ (s : List ℕ) (r : ℕ). (r ≡ byteAt s i) × (r < 256))
   pub read-two : (i : ℕ) → Once (λ (s : List ℕ) (r : ℕ). (r ≡ twoAt s i) × (r < 65536))
   pub read-counts : Once (λ (s : List ℕ) (r : Scene). r ≡ countsOf s)
+  pub read-vertices : Once (λ (s : List ℕ) (r : ℕ). (r ≡ verts (viewOf s)) × (r < 511))
+  pub read-points : Once (λ (s : List ℕ) (r : ℕ). (r ≡ points (viewOf s)) × (r < 512))
+  pub read-faces : Once (λ (s : List ℕ) (r : ℕ). (r ≡ faces (viewOf s)) × (r < 511))
+  pub read-solid : (k : ℕ) → Once (λ (s : List ℕ) (r : Solid). r ≡ solid (viewOf s) k)
+  pub is-within : (low high : ℕ) → Once (λ (n : ℕ) (r : Bool). r ≡ within low high n)
   pub read-row : (i : ℕ) → Once (λ (s : List ℕ) (r : Row). r ≡ row (tablesOf s) i)
   pub read-corners : (k : ℕ) → Once (λ (s : List ℕ) (r : Face). r ≡ face (tablesOf s) k)
   pub decode-rows : OnceOfLength (λ (s : List ℕ) (r : List ℤ). rowIn r ≡ row (tablesOf s))
@@ -84,7 +86,6 @@ pub record OrientOnce : Type 0 where
 
 pub record EdgesOnce : Type 0 where
   pub is-corner : (i : ℕ) → Once (λ (f : Face) (r : Bool). r ≡ isCorner i f)
-  pub neighbours-of : (k : Solid) (u : ℕ) → Once (λ (corners : List ℕ) (r : ℕ). r ≡ neighbours (faceIn corners) k u)
 
 -- `pierce`, `plain` and `engine`, by either engine
 pub record PierceOnce : Type 0 where
@@ -98,18 +99,8 @@ pub record PierceOnce : Type 0 where
   pub has : (k : ℕ) → Once (λ (m : Mask) (r : Bool). r ≡ testBit (valueOf m) k)
   pub first-face : Once (λ (m : Mask) (r : ℕ). r ≡ firstFace (valueOf m))
 
--- what is left: the lent list's later contents, and the answer
-pub record ListingOnce : Type 0 where
-  pub count-solid : (corners : List ℕ) (n : ℕ) (k : Solid) → Once (λ (rows : List ℤ) (r : ℕ). r ≡ length (solidHits (viewIn n rows corners) k))
-  pub find-solid : (corners : List ℕ) (n : ℕ) (k : Solid) → Once (λ (rows : List ℤ) (r : Found). r ≡ firstOf (solidHits (viewIn n rows corners) k))
-  pub count-inside : (corners : List ℕ) (n : ℕ) (k : Solid) → Once (λ (rows : List ℤ) (r : ℕ). r ≡ insideCount (viewIn n rows corners) k)
-  pub lowest-inside : (corners : List ℕ) (n : ℕ) (k : Solid) → Once (λ (rows : List ℤ) (r : ℕ). r ≡ lowestInside (viewIn n rows corners) k)
-  pub pour-solid : (rows : List ℤ) (corners : List ℕ) (n : ℕ) (k : Solid) (from seen : ℕ) →
-      Once (λ (out : List ℕ) (left : List ℕ × ℕ). Pours (solidHits (viewIn n rows corners) k) from seen out (left .0) (left .1))
-
 pub record KernelOnce : Type 0 where
-  pub is-point : (i : ℕ) → Once (λ (s : List ℕ) (r : Bool). r ≡ isPoint s i)
-  pub is-solid : Once (λ (k : ℕ) (r : Bool). r ≡ isSolid k)
+  pub is-point : (i : ℕ) → Once (λ (s : List ℕ) (r : Bool). r ≡ isPoint (viewOf s) i)
   pub sign : (a b c d : ℕ) → Once (λ (s : List ℕ) (r : Signed). r ≡ signOf s a b c d)
   pub pierces : (u v f : ℕ) → Once (λ (s : List ℕ) (r : Answer). r ≡ piercesOf s u v f)
   pub mask : (u v k : ℕ) → OnceOfWords WordsSaid (λ (s : List ℕ) (r : Masked). saidMask r ≡ maskedOf s u v k)
@@ -127,5 +118,4 @@ pub record NoSecondAnswer : Type 0 where
   pub of-orient : OrientOnce
   pub of-edges : EdgesOnce
   pub of-pierce : PierceOnce
-  pub of-listing : ListingOnce
   pub of-kernel : KernelOnce

@@ -17,7 +17,7 @@ use Rattle.pierce.specs.declared.faces.Mask.{Mask}
 use Rattle.kernel.specs.Answers.{saidMask}
 use Rattle.kernel.specs.declared.masks.Masked.{Masked}
 use Rattle.kernel.specs.declared.masks.Masked.the-variants.{Refused, Faces}
-use Rattle.demands.specs.Once.{Words, WordsSaid, SceneOnce, JudgeOnce, RecordOnce, OrientOnce, EdgesOnce, PierceOnce, ListingOnce, KernelOnce, NoSecondAnswer}
+use Rattle.demands.specs.Once.{Words, WordsSaid, SceneOnce, JudgeOnce, RecordOnce, OrientOnce, EdgesOnce, PierceOnce, KernelOnce, NoSecondAnswer}
 
 -- ---- a mask is its number
 
@@ -69,6 +69,11 @@ of-scene =
       read-byte = λ i s b c p q. p .0 ∙ sym (q .0);
       read-two = λ i s b c p q. p .0 ∙ sym (q .0);
       read-counts = once _;
+      read-vertices = λ s b c p q. p .0 ∙ sym (q .0);
+      read-points = λ s b c p q. p .0 ∙ sym (q .0);
+      read-faces = λ s b c p q. p .0 ∙ sym (q .0);
+      read-solid = λ k. once _;
+      is-within = λ low high. once _;
       read-row = λ i. once _;
       read-corners = λ k. once _;
       decode-rows = λ s b c l p q. same-rows b c l (p ∙ sym q);
@@ -86,7 +91,7 @@ of-orient : OrientOnce
 of-orient = record { positive-at = λ a b c d. once _; terms-at = λ a b c d. once _ }
 
 of-edges : EdgesOnce
-of-edges = record { is-corner = λ i. once _; neighbours-of = λ k u. once _ }
+of-edges = record { is-corner = λ i. once _ }
 
 of-pierce : PierceOnce
 of-pierce =
@@ -101,21 +106,10 @@ of-pierce =
       first-face = once _;
     }
 
-of-listing : ListingOnce
-of-listing =
-    record {
-      count-solid = λ corners n k. once _;
-      find-solid = λ corners n k. once _;
-      count-inside = λ corners n k. once _;
-      lowest-inside = λ corners n k. once _;
-      pour-solid = λ rows corners n k from seen out b c p q i. ((p .held ∙ sym (q .held)) i, (p .count ∙ sym (q .count)) i);
-    }
-
 of-kernel : KernelOnce
 of-kernel =
     record {
       is-point = λ i. once _;
-      is-solid = once _;
       sign = λ a b c d. once _;
       pierces = λ u v f. once _;
       mask = λ u v k s b c x y p q. same-said b c x y (p ∙ sym q);
@@ -136,6 +130,5 @@ no-second-answer =
       of-orient = of-orient;
       of-edges = of-edges;
       of-pierce = of-pierce;
-      of-listing = of-listing;
       of-kernel = of-kernel;
     }

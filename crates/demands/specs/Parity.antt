@@ -7,6 +7,7 @@ use mathlib.Core.List.{List}
 use Prim.Native.Nat.{ℕ, _+_, _%_}
 use lib.Count.{ones}
 use Rattle.laws.specs.Bools.{_⊕_}
+use Rattle.scene.specs.View.{viewOf}
 use Rattle.judge.specs.Judge.{judged}
 use Rattle.judge.specs.declared.Judged.the-variants.{Accepted}
 use Rattle.pierce.specs.Faces.{isOdd}
@@ -31,12 +32,12 @@ Always X = (s : List ℕ) → judged s ≡ Accepted → (k : ℕ) → SolidNumbe
 
 -- demand 3
 abbrev pub Parity : Type 0
-Parity = Always (λ s k u v w. (ones (maskIn s u v k) + ones (maskIn s v w k) + ones (maskIn s w u k)) % 2 ≡ 0)
+Parity = Always (λ s k u v w. (ones (maskIn (viewOf s) u v k) + ones (maskIn (viewOf s) v w k) + ones (maskIn (viewOf s) w u k)) % 2 ≡ 0)
 
 -- the route
 abbrev pub Route : Type 0
-Route = Always (λ s k u v w. isOdd (maskIn s u v k) ≡ isOdd (maskIn s u w k) ⊕ isOdd (maskIn s v w k))
+Route = Always (λ s k u v w. isOdd (maskIn (viewOf s) u v k) ≡ isOdd (maskIn (viewOf s) u w k) ⊕ isOdd (maskIn (viewOf s) v w k))
 
 -- these masks are what the question answers
 abbrev pub Asked : Type 0
-Asked = Always (λ s k u v w. maskedOf s u v k ≡ faces-are (maskIn s u v k) (ones (maskIn s u v k)))
+Asked = Always (λ s k u v w. maskedOf s u v k ≡ faces-are (maskIn (viewOf s) u v k) (ones (maskIn (viewOf s) u v k)))

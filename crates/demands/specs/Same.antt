@@ -1,27 +1,30 @@
 -- What is answered of a scene depends on its rows by the signs of four different points alone. Assumes nothing.
-use mathlib.Core.Path.{_≡_, refl, ap}
-use mathlib.Core.Logic.{_≢_}
+use mathlib.Core.Path.{_≡_, refl, ap, ap₂}
 use mathlib.Core.Bool.{Bool, true, false, cond, _&&_}
-use mathlib.Core.List.{List, []}
+use mathlib.Core.List.{List, [], _++_}
 use Prim.Native.Nat.{ℕ, _+_, _≤_, _<_}
 use native.Mathlib.Omega.{arith}
-use lib.Dec.{ltb}
+use lib.Dec.{ltb, leb}
 use borrow.Author.Tests.{ltb-true}
 use Rattle.laws.specs.Range.{count-same, lowest-same}
 use Rattle.laws.specs.Mask.{mask-same}
-use Rattle.scene.specs.Faces.{Vertex, FaceOf}
+use Rattle.scene.specs.View.{View, verts, points, solid}
 use Rattle.scene.specs.declared.Row.{Row}
 use Rattle.scene.specs.declared.Face.{Face}
+use Rattle.scene.specs.declared.Solid.{Solid}
 use Rattle.orient.specs.Signs.{Upto, Four, Six, ne-sym}
 use Rattle.orient.specs.Terms.{positiveAt}
 use Rattle.edges.specs.Edges.{joined}
-use Rattle.edges.specs.declared.Solid.{Solid}
 use Rattle.pierce.specs.Formula.{helper, sidesCount, formula, pierces, pierced}
 use Rattle.pierce.specs.Helper.{helper-found}
-use Rattle.pierce.specs.Beside.{Beside, beside}
+use Rattle.pierce.specs.Beside.{Beside, BesideAll}
 use Rattle.pierce.specs.Faces.{maskAgainst, isOdd}
-use Rattle.listing.specs.Hits.{View, Hit, upTo, faceHits, edgeHits, pairHits, pairsAt, vertexHits, solidHits, isInside, insideCount, lowestInside}
+use Rattle.listing.specs.Hits.{Seen, Hit, faceHits, edgeHits, pairHits, pairsAt, vertexHits, solidHits, isInside, insideCount, lowestInside, Own, Sound}
+use Rattle.listing.specs.First.{firstOf}
 use Rattle.listing.specs.Laws.{upTo-same}
+use Rattle.kernel.specs.Answers.{seen, maskIn, listingIn, insideIn, crossOr, enclosureIn, verdictIn}
+use Rattle.kernel.specs.declared.verdict.Verdict.{Verdict}
+use Rattle.kernel.specs.declared.verdict.Verdict.the-variants.{AInB, BInA, Apart}
 
 -- ---- piercing
 
@@ -43,72 +46,88 @@ module _ (n : ℕ) (s t : ℕ → ℕ → ℕ → ℕ → Bool) (same : (a b c d
   unfolding pierces
   pierces-same l u v f d = formula-same u v (helper n u v f) (f .p) (f .q) (f .r) (helper-found n u v f l d)
 
--- ---- a solid whose vertices are the points above low, up to high, of n; a point that is none of them
+-- ---- rows that have the same signs
 
-pub record Clear (n low high i : ℕ) : Type 0 where
-  pub point : Upto n i
-  pub out : Vertex low high i → ⊥
+abbrev pub SameSigns : ℕ → (row row′ : ℕ → Row) → Type 0
+SameSigns n row row′ = (a b c d : ℕ) → Four (Upto n) a b c d → positiveAt row a b c d ≡ positiveAt row′ a b c d
 
-five : {n low high u v : ℕ} → high ≤ n → Clear n low high u → Clear n low high v → u ≢ v → (f : Face) → FaceOf low high f → Beside n u v f
-five l cu cv d = beside l (cu .point) (cv .point) d (cu .out) (cv .out)
+module _ (n : ℕ) (row row′ : ℕ → Row) (same : SameSigns n row row′) (enough : 6 ≤ n) where
+  pub pierced-same : (u v : ℕ) (f : Face) → Beside n u v f → pierced n row u v f ≡ pierced n row′ u v f
+  pierced-same = pierces-same n (positiveAt row) (positiveAt row′) same enough
 
--- ---- a scene seen with two kinds of rows that have the same signs
+  pub masks-same : (face : ℕ → Face) (u v first count : ℕ) → BesideAll n u v face first count →
+      maskAgainst n row face u v first count ≡ maskAgainst n row′ face u v first count
+  masks-same face u v first count h =
+      mask-same (λ i. pierced n row u v (face (first + 1 + i))) (λ i. pierced n row′ u v (face (first + 1 + i))) count
+      (λ i b. pierced-same u v (face (first + 1 + i)) (h i b))
 
-module _ (n : ℕ) (row row′ : ℕ → Row) (face : ℕ → Face) (enough : 6 ≤ n)
-    (same : (a b c d : ℕ) → Four (Upto n) a b c d → positiveAt row a b c d ≡ positiveAt row′ a b c d) (low high : ℕ) (inside : high ≤ n) where
-  pierced-same : (u v : ℕ) → Clear n low high u → Clear n low high v → u ≢ v → (f : Face) → FaceOf low high f → pierced n row u v f ≡ pierced n row′ u v f
-  pierced-same u v cu cv d f h = pierces-same n (positiveAt row) (positiveAt row′) same enough u v f (five inside cu cv d f h)
+-- ---- a solid, seen with two kinds of rows
 
-  module _ (first count : ℕ) (faces : (i : ℕ) → i < count → FaceOf low high (face (first + 1 + i))) (u v : ℕ) (cu : Clear n low high u) (cv : Clear n low high v) (d : u ≢ v) where
-    pub masks-same : maskAgainst n row face u v first count ≡ maskAgainst n row′ face u v first count
-    masks-same =
-        mask-same (λ i. pierced n row u v (face (first + 1 + i))) (λ i. pierced n row′ u v (face (first + 1 + i))) count
-        (λ i b. pierced-same u v cu cv d (face (first + 1 + i)) (faces i b))
+module _ (s : Seen) (k : Solid) (ok : Sound s k) (row′ : ℕ → Row) (same : SameSigns (s .points) (s .row) row′) where
+  abbrev t : Seen
+  t = record { points = s .points; row = row′; face = s .face }
 
-  -- the vertices of k are none of the other solid's
-  module _ (k : Solid) (faces : (i : ℕ) → i < k .others → FaceOf low high (face (k .other + 1 + i)))
-      (own : (i : ℕ) → k .low < i → i ≤ k .low + k .verts → Clear n low high i) (far : Clear n low high n) (last : k .low + k .verts < n) where
-    abbrev o : View
-    o = record { points = n; row = row; face = face }
+  edge-same : (u v : ℕ) → BesideAll (s .points) u v (s .face) (k .other) (k .others) → edgeHits s k u v ≡ edgeHits t k u v
+  unfolding edgeHits faceHits
+  edge-same u v h =
+      upTo-same (faceHits s k u v) (faceHits t k u v) (k .others)
+      (λ i b. rw (pierced-same (s .points) (s .row) row′ same (ok .points .0) u v (s .face (k .other + 1 + i)) (h i b)))
 
-    abbrev o′ : View
-    o′ = record { points = n; row = row′; face = face }
+  pair-same : (u v : ℕ) (both : Bool) → Own s k u → Own s k v → pairHits s k u v both ≡ pairHits t k u v both
+  unfolding pairHits
+  pair-same u v both hu hv = go (ltb u v) refl
+    where
+      go : (b : Bool) → ltb u v ≡ b → cond (b && both) (edgeHits s k u v) [] ≡ cond (b && both) (edgeHits t k u v) []
+      go false e = refl
+      go true e = ap (λ (hits : List Hit). cond both hits []) (edge-same u v (ok .edges u v hu hv (ltb-true u v e)))
 
-    face-same : (u v i : ℕ) → Clear n low high u → Clear n low high v → u ≢ v → i < k .others → faceHits o k u v i ≡ faceHits o′ k u v i
-    unfolding faceHits
-    face-same u v i cu cv d b = rw (pierced-same u v cu cv d (face (k .other + 1 + i)) (faces i b))
+  vertex-same : (u : ℕ) → Own s k u → vertexHits s k u ≡ vertexHits t k u
+  unfolding vertexHits
+  vertex-same u hu =
+      upTo-same (pairsAt s k u) (pairsAt t k u) (k .verts)
+      (λ m b. pair-same u (k .low + 1 + m) (joined (s .face) k u (k .low + 1 + m)) hu (omega arith))
 
-    pair-same : (u v : ℕ) (both : Bool) → Clear n low high u → Clear n low high v → pairHits o k u v both ≡ pairHits o′ k u v both
-    unfolding pairHits edgeHits
-    pair-same u v both cu cv = go (ltb u v) refl
-      where
-        go : (b : Bool) → ltb u v ≡ b → cond (b && both) (upTo (faceHits o k u v) (k .others)) [] ≡ cond (b && both) (upTo (faceHits o′ k u v) (k .others)) []
-        go false e = refl
-        go true e =
-            let l : u < v = ltb-true u v e in
-            ap (λ (hits : List Hit). cond both hits [])
-            (upTo-same (faceHits o k u v) (faceHits o′ k u v) (k .others) (λ i b. face-same u v i cu cv (omega arith) b))
+  pub hits-same : solidHits s k ≡ solidHits t k
+  unfolding solidHits
+  hits-same =
+      upTo-same (λ i. vertexHits s k (k .low + 1 + i)) (λ i. vertexHits t k (k .low + 1 + i)) (k .verts)
+      (λ i b. vertex-same (k .low + 1 + i) (omega arith))
 
-    vertex-same : (u : ℕ) → Clear n low high u → vertexHits o k u ≡ vertexHits o′ k u
-    unfolding vertexHits
-    vertex-same u cu =
-        upTo-same (pairsAt o k u) (pairsAt o′ k u) (k .verts)
-        (λ m b. pair-same u (k .low + 1 + m) (joined face k u (k .low + 1 + m)) cu (own (k .low + 1 + m) (omega arith) (omega arith)))
+  inside-same : (u : ℕ) → k .low + 1 ≤ u → u < k .low + 1 + k .verts → isInside s k u ≡ isInside t k u
+  unfolding isInside
+  inside-same u l m =
+      ap isOdd (masks-same (s .points) (s .row) row′ same (ok .points .0) (s .face) u (s .points) (k .other) (k .others) (ok .outward u (omega arith)))
 
-    pub hits-same : solidHits o k ≡ solidHits o′ k
-    unfolding solidHits
-    hits-same =
-        upTo-same (λ i. vertexHits o k (k .low + 1 + i)) (λ i. vertexHits o′ k (k .low + 1 + i)) (k .verts)
-        (λ i b. vertex-same (k .low + 1 + i) (own (k .low + 1 + i) (omega arith) (omega arith)))
+  pub counts-same : insideCount s k ≡ insideCount t k
+  unfolding insideCount
+  counts-same = count-same (isInside s k) (isInside t k) (k .low + 1) (k .low + 1 + k .verts) inside-same
 
-    inside-same : (u : ℕ) → k .low + 1 ≤ u → u < k .low + 1 + k .verts → isInside o k u ≡ isInside o′ k u
-    unfolding isInside
-    inside-same u l m = ap isOdd (masks-same (k .other) (k .others) faces u n (own u (omega arith) (omega arith)) far (omega arith))
+  pub lowests-same : lowestInside s k ≡ lowestInside t k
+  unfolding lowestInside
+  lowests-same = lowest-same (isInside s k) (isInside t k) (k .low + 1) (k .low + 1 + k .verts) inside-same
 
-    pub counts-same : insideCount o k ≡ insideCount o′ k
-    unfolding insideCount
-    counts-same = count-same (isInside o k) (isInside o′ k) (k .low + 1) (k .low + 1 + k .verts) inside-same
+-- ---- a scene
 
-    pub lowests-same : lowestInside o k ≡ lowestInside o′ k
-    unfolding lowestInside
-    lowests-same = lowest-same (isInside o k) (isInside o′ k) (k .low + 1) (k .low + 1 + k .verts) inside-same
+abbrev pub withRows : View → (ℕ → Row) → View
+withRows v row′ = record { vertsA = v .vertsA; facesA = v .facesA; vertsB = v .vertsB; facesB = v .facesB; row = row′; face = v .face }
+
+module _ (v : View) (ok : (k : ℕ) → Sound (seen v) (solid v k)) (row′ : ℕ → Row) (same : SameSigns (points v) (v .row) row′) where
+  pub mask-same-rows : (u w k : ℕ) → BesideAll (points v) u w (v .face) (solid v k .first) (solid v k .count) → maskIn v u w k ≡ maskIn (withRows v row′) u w k
+  unfolding maskIn solid
+  mask-same-rows u w k h = masks-same (points v) (v .row) row′ same (ok 1 .points .0) (v .face) u w (solid v k .first) (solid v k .count) h
+
+  pub inside-same-rows : (k : ℕ) → insideIn v k ≡ insideIn (withRows v row′) k
+  unfolding insideIn solid
+  inside-same-rows k = counts-same (seen v) (solid v k) (ok k) row′ same
+
+  pub listing-same-rows : listingIn v ≡ listingIn (withRows v row′)
+  unfolding listingIn solid
+  listing-same-rows =
+      ap₂ _++_ (hits-same (seen v) (solid v 1) (ok 1) row′ same) (hits-same (seen v) (solid v 2) (ok 2) row′ same)
+
+  pub verdict-same-rows : verdictIn v ≡ verdictIn (withRows v row′)
+  unfolding verdictIn enclosureIn solid
+  verdict-same-rows =
+      ap₂ (λ (l : List Hit) (rest : Verdict). crossOr (firstOf l) rest) listing-same-rows
+      (ap₂ (λ (p q : ℕ). cond (leb p (v .vertsA)) (AInB p) (cond (leb q (verts v)) (BInA q) Apart))
+      (lowests-same (seen v) (solid v 1) (ok 1) row′ same) (lowests-same (seen v) (solid v 2) (ok 2) row′ same))

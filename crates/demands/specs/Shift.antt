@@ -3,14 +3,11 @@
 -- vertices, listing and verdict as the scene does. Assumes nothing.
 use mathlib.Core.Path.{_≡_}
 use mathlib.Core.Logic.{_≢_}
-use mathlib.Core.Bool.{cond}
-use mathlib.Core.List.{List, _++_}
-use Prim.Native.Nat.{ℕ, _+_, _<_}
-use lib.Dec.{eqb, leb}
+use mathlib.Core.List.{List}
+use Prim.Native.Nat.{ℕ, _<_}
 use lib.IntN.{ℤ, pos, _+ℤ_, _*ℤ_}
 use Rattle.laws.specs.Sign.{sign}
-use Rattle.scene.specs.Records.{vertsA, facesA, facesB, verts}
-use Rattle.scene.specs.Tables.{tablesOf, row, face}
+use Rattle.scene.specs.View.{View, viewOf, points}
 use Rattle.scene.specs.declared.Row.{Row}
 use Rattle.judge.specs.Judge.{judged}
 use Rattle.judge.specs.declared.Judged.the-variants.{Accepted}
@@ -18,14 +15,9 @@ use Rattle.orient.specs.Determinant.{det4}
 use Rattle.orient.specs.Formed.{mostFormed}
 use Rattle.orient.specs.Signs.{Upto, Four}
 use Rattle.orient.specs.Terms.{factor, isPlus, positiveAt}
-use Rattle.pierce.specs.Faces.{maskAgainst}
-use Rattle.listing.specs.Hits.{View, Hit, solidHits, insideCount, lowestInside}
-use Rattle.listing.specs.First.{firstOf}
-use Rattle.kernel.specs.Scene.{viewOf, solidA, solidB, listingOf}
-use Rattle.kernel.specs.Answers.{maskIn, verdictIn, crossOr}
-use Rattle.kernel.specs.declared.verdict.Verdict.{Verdict}
-use Rattle.kernel.specs.declared.verdict.Verdict.the-variants.{AInB, BInA, Apart}
+use Rattle.kernel.specs.Answers.{maskIn, insideIn, listingIn, verdictIn}
 use Rattle.demands.specs.Words.{SolidNumber, VertexOf}
+use Rattle.demands.specs.Same.{withRows}
 
 -- ---- the rows
 
@@ -41,53 +33,26 @@ shiftedRow N row i =
       w = r .w;
     }
 
--- the scene with these rows in place of its own
-abbrev pub shiftedView : ℕ → List ℕ → View
-shiftedView N s = record { points = verts s + 1; row = shiftedRow N (row (tablesOf s)); face = face (tablesOf s) }
+-- the scene with these rows in place of its own, and their determinant
+abbrev pub shiftedView : ℕ → View → View
+shiftedView N v = withRows v (shiftedRow N (v .row))
 
--- their determinant
-abbrev pub shiftedDet : ℕ → List ℕ → (a b c d : ℕ) → ℤ
-shiftedDet N s a b c d =
-    let r = shiftedRow N (row (tablesOf s)) in
+abbrev pub shiftedDet : ℕ → View → (a b c d : ℕ) → ℤ
+shiftedDet N v a b c d =
+    let r = shiftedRow N (v .row) in
     det4 (r a) (r b) (r c) (r d)
-
--- ---- what is answered of a scene, whatever rows it is seen with
-
-abbrev pub maskSeen : View → List ℕ → (u v k : ℕ) → ℕ
-maskSeen o s u v k = maskAgainst (o .points) (o .row) (o .face) u v (cond (eqb k 1) 0 (facesA s)) (cond (eqb k 1) (facesA s) (facesB s))
-
-abbrev pub listingSeen : View → List ℕ → List Hit
-listingSeen o s = solidHits o (solidA s) ++ solidHits o (solidB s)
-
-abbrev pub enclosingSeen : View → List ℕ → Verdict
-enclosingSeen o s =
-    let p : ℕ = lowestInside o (solidA s) in
-    let q : ℕ = lowestInside o (solidB s) in
-    cond (leb p (vertsA s)) (AInB p) (cond (leb q (verts s)) (BInA q) Apart)
-
-abbrev pub verdictSeen : View → List ℕ → Verdict
-verdictSeen o s = crossOr (firstOf (listingSeen o s)) (enclosingSeen o s)
-
--- seen with its own rows these are the scene's answers
-pub record Own (s : List ℕ) : Type 0 where
-  pub masks : (u v k : ℕ) → maskSeen (viewOf s) s u v k ≡ maskIn s u v k
-  pub listing : listingSeen (viewOf s) s ≡ listingOf s
-  pub verdict : verdictSeen (viewOf s) s ≡ verdictIn s
-
--- ---- the same with the shifted rows
 
 -- no determinant of four different points is zero; its sign is that of the scene (signs), and the one that the shifted rows are seen with (seen);
 -- so are the masks, the numbers of enclosed vertices, the listing and the verdict
-pub record SameShifted (s : List ℕ) (N : ℕ) : Type 0 where
-  pub nonzero : (a b c d : ℕ) → Four (Upto (verts s + 1)) a b c d → shiftedDet N s a b c d ≢ pos 0
-  pub signs : (a b c d : ℕ) → Four (Upto (verts s + 1)) a b c d → isPlus (sign (shiftedDet N s a b c d)) ≡ positiveAt (row (tablesOf s)) a b c d
-  pub seen : (a b c d : ℕ) → Four (Upto (verts s + 1)) a b c d → isPlus (sign (shiftedDet N s a b c d)) ≡ positiveAt (shiftedView N s .row) a b c d
-  pub masks : (u v k : ℕ) → SolidNumber k → Upto (verts s + 1) u → Upto (verts s + 1) v → u ≢ v → ¬ VertexOf s k u → ¬ VertexOf s k v →
-      maskSeen (shiftedView N s) s u v k ≡ maskIn s u v k
-  pub inside-a : insideCount (shiftedView N s) (solidA s) ≡ insideCount (viewOf s) (solidA s)
-  pub inside-b : insideCount (shiftedView N s) (solidB s) ≡ insideCount (viewOf s) (solidB s)
-  pub listing : listingSeen (shiftedView N s) s ≡ listingOf s
-  pub verdict : verdictSeen (shiftedView N s) s ≡ verdictIn s
+pub record SameShifted (s : List ℕ) (v : View) (N : ℕ) : Type 0 where
+  pub nonzero : (a b c d : ℕ) → Four (Upto (points v)) a b c d → shiftedDet N v a b c d ≢ pos 0
+  pub signs : (a b c d : ℕ) → Four (Upto (points v)) a b c d → isPlus (sign (shiftedDet N v a b c d)) ≡ positiveAt (v .row) a b c d
+  pub seen : (a b c d : ℕ) → Four (Upto (points v)) a b c d → isPlus (sign (shiftedDet N v a b c d)) ≡ positiveAt (shiftedView N v .row) a b c d
+  pub masks : (u w k : ℕ) → SolidNumber k → Upto (points v) u → Upto (points v) w → u ≢ w → ¬ VertexOf s k u → ¬ VertexOf s k w →
+      maskIn (shiftedView N v) u w k ≡ maskIn v u w k
+  pub inside : (k : ℕ) → insideIn (shiftedView N v) k ≡ insideIn v k
+  pub listing : listingIn (shiftedView N v) ≡ listingIn v
+  pub verdict : verdictIn (shiftedView N v) ≡ verdictIn v
 
 abbrev pub Shift : Type 0
-Shift = (s : List ℕ) → judged s ≡ Accepted → (N : ℕ) → mostFormed < N → SameShifted s N
+Shift = (s : List ℕ) → judged s ≡ Accepted → (N : ℕ) → mostFormed < N → SameShifted s (viewOf s) N

@@ -10,8 +10,8 @@ use Rattle.judge.specs.Judge.{judged}
 use Rattle.judge.specs.declared.Judged.the-variants.{Accepted}
 use Rattle.rules.specs.Write.{bytesOf}
 use Rattle.listing.specs.Hits.{Hit}
-use Rattle.kernel.specs.Scene.{listingOf}
-use Rattle.kernel.specs.Answers.{countedOf, verdictOf}
+use Rattle.scene.specs.View.{viewOf}
+use Rattle.kernel.specs.Answers.{countedOf, verdictOf, listingIn}
 use Rattle.kernel.specs.declared.counts.Counts.{Counts}
 use Rattle.kernel.specs.declared.counts.Counted.the-variants as counted
 use Rattle.kernel.specs.declared.verdict.Verdict.{Verdict}
@@ -76,7 +76,7 @@ numbers p a b = record { pairs = p; «a_in_b» = a; «b_in_a» = b }
 pub record Witness (s : List ℕ) (pairs : List Hit) (a b : ℕ) (v : Verdict) : Type 0 where
   pub long : length s ≡ 129
   pub accepted : judged s ≡ Accepted
-  pub listing : listingOf s ≡ pairs
+  pub listing : listingIn (viewOf s) ≡ pairs
   pub counts : countedOf s ≡ counted.Counts (numbers (length pairs) a b)
   pub verdict : verdictOf s ≡ v
 

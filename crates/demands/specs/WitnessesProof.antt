@@ -6,13 +6,13 @@ use Rattle.edges.specs.Edges.{isCorner, hasBoth, joined}
 use Rattle.pierce.specs.Faces.{isOdd}
 use Rattle.listing.specs.Hits.{upTo, faceHits, edgeHits, pairHits, vertexHits, solidHits, isInside, insideCount, lowestInside}
 use Rattle.listing.specs.First.{firstOf}
-use Rattle.kernel.specs.Scene.{listingOf}
-use Rattle.kernel.specs.Answers.{answered, countsIn, countedOf, enclosing, verdictIn, verdictOf}
+use Rattle.scene.specs.View.{solid}
+use Rattle.kernel.specs.Answers.{answered, countsIn, countedOf, enclosureIn, verdictIn, verdictOf, listingIn, insideIn}
 use Rattle.demands.specs.Computing.{judging, piercing}
 use Rattle.demands.specs.Witnesses.{Witnesses}
 
 pub witnesses : Witnesses
-unfolding judging piercing ones maskOf isCorner hasBoth joined isOdd upTo faceHits edgeHits pairHits vertexHits solidHits isInside insideCount lowestInside firstOf listingOf answered countsIn countedOf enclosing verdictIn verdictOf
+unfolding judging piercing ones maskOf isCorner hasBoth joined isOdd upTo faceHits edgeHits pairHits vertexHits solidHits isInside insideCount lowestInside firstOf listingIn solid answered countsIn insideIn countedOf enclosureIn verdictIn verdictOf
 witnesses =
     record {
       cross = record { long = refl; accepted = refl; listing = refl; counts = refl; verdict = refl };

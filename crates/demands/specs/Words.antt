@@ -6,6 +6,7 @@ use mathlib.Core.Bool.{true}
 use mathlib.Core.List.{List}
 use Prim.Native.Nat.{ℕ, _+_, _≤_, _<_}
 use Rattle.scene.specs.Records.{vertsA, facesA, verts, faces, lastRecord}
+use Rattle.scene.specs.View.{viewOf}
 use Rattle.scene.specs.Tables.{tablesOf, row, face}
 use Rattle.scene.specs.Faces.{Corner}
 use Rattle.rules.specs.Rules.{Between}
@@ -76,7 +77,7 @@ module _ (s : List ℕ) where
 
   -- the vertex i is enclosed by the other solid
   abbrev pub Enclosed : ℕ → Type 0
-  Enclosed i = isEnclosed s i ≡ true
+  Enclosed i = isEnclosed (viewOf s) i ≡ true
 
   -- ---- the numbers that a question is asked with, and those that must differ and are the same (refusals 11 and 12)
 

@@ -1,12 +1,12 @@
 -- The edges of a solid: an edge is a pair of points, lower number first, that one of its faces has as corners. Assumes nothing.
 use mathlib.Core.Bool.{Bool, _&&_, _||_}
 use Prim.Native.Nat.{ℕ, _+_, _≤_, _<_}
-use lib.Dec.{eqb, ltb}
+use lib.Dec.{eqb}
 use Rattle.laws.specs.Range.{anyOf}
 use Rattle.laws.specs.Mask.{maskOf}
 use Rattle.scene.specs.Faces.{FaceOf}
 use Rattle.scene.specs.declared.Face.{Face}
-use Rattle.edges.specs.declared.Solid.{Solid}
+use Rattle.scene.specs.declared.Solid.{Solid}
 
 -- i is a corner of the face; i and j are
 unfoldable pub isCorner : ℕ → Face → Bool
@@ -18,9 +18,6 @@ hasBoth i j f = isCorner i f && isCorner j f
 -- one of the solid's faces has both i and j as corners
 unfoldable pub joined : (ℕ → Face) → Solid → (i j : ℕ) → Bool
 joined face k i j = anyOf (λ f. hasBoth i j (face f)) (k .first + 1) (k .first + 1 + k .count)
-
-unfoldable pub isEdge : (ℕ → Face) → Solid → (i j : ℕ) → Bool
-isEdge face k i j = ltb i j && joined face k i j
 
 -- the bits of a word, more than a solid may have vertices
 abbrev pub width : ℕ

@@ -1,12 +1,12 @@
 -- The word of one face's corners, and how the words of faces join to that of a vertex's neighbours. Assumes nothing.
 use mathlib.Core.Path.{_≡_, refl, sym, ap₂, _∙_}
-use mathlib.Core.Bool.{Bool, true, false, not, cond, _&&_, _||_}
-use Prim.Native.Nat.{ℕ, _+_, _-_, _^_, _≤_, _<_}
+use mathlib.Core.Bool.{Bool, true, false, cond, _&&_, _||_}
+use Prim.Native.Nat.{ℕ, _+_, _^_, _≤_, _<_, _-_}
 use native.Mathlib.Omega.{arith}
 use native.Mathlib.Decide.{ℕ-discrete}
 use lib.Bits.{bitOr}
 use lib.Dec.{eqb}
-use borrow.Author.Tests.{eq-eqb, ne-eqb, not-true, not-false}
+use borrow.Author.Tests.{eq-eqb, ne-eqb}
 use Rattle.laws.specs.Range.{anyOf, over, fold, any-more}
 use Rattle.laws.specs.Mask.{maskOf, or-masks, mask-none, mask-same, mask-one}
 use Rattle.scene.specs.Faces.{FaceOf}
@@ -71,16 +71,6 @@ module _ (face : ℕ → Face) (a low n u : ℕ) where
   upto-more i h ok e d =
       ap₂ bitOr e (d ∙ face-word low n u (face i) ok) ∙ or-masks _ _ n
       ∙ mask-same _ _ n (λ m b. sym (any-more (λ f. hasBoth u (low + 1 + m) (face f)) a i h))
-
--- the word as the code finds it: u is no corner, or the three bits are joined
-pub word-none : (low u : ℕ) (f : Face) {o : Bool} → o ≡ isCorner u f → not o ≡ true → 0 ≡ faceWord low u f
-unfolding faceWord
-word-none low u f p q = rw (sym p ∙ not-true _ q)
-
-pub word-three : (low u : ℕ) (f : Face) {o : Bool} {x y z : ℕ} → o ≡ isCorner u f → not o ≡ false → x ≡ bitOf low (f .p) → y ≡ bitOf low (f .q) → z ≡ bitOf low (f .r) →
-    bitOr (bitOr x y) z ≡ faceWord low u f
-unfolding faceWord
-word-three low u f p q ex ey ez = rw (sym p ∙ not-false _ q) (ap₂ bitOr (ap₂ bitOr ex ey) ez)
 
 pub in-word : (low n : ℕ) {f : Face} → n ≤ width → FaceOf low (low + n) f → FaceOf low (low + width) f
 in-word low n h ok = omega arith

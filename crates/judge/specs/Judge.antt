@@ -6,7 +6,7 @@ use lib.ListN.{length}
 use lib.Dec.{ltb, leb, eqb}
 use lib.IntN.{natAbs}
 use Rattle.laws.specs.Range.{firstOf, anyOf, countOf}
-use Rattle.scene.specs.Limits.{Limits, limits, leastWeight}
+use Rattle.scene.specs.Limits.{Limits, limits, leastWeight, within}
 use Rattle.scene.specs.Bytes.{twoAt, coordinateAt, weightAt}
 use Rattle.scene.specs.Records.{vertsA, vertsB, facesA, facesB, verts, faces, faceRecord, lastRecord, lengthOf, pointStart, faceStart, endStart, markSC, markFP, markVX, markFC, markEN}
 use Rattle.scene.specs.Tables.{cornerAt}
@@ -28,9 +28,6 @@ andThen (Refused r) j = Refused r
 -- the first refusal of f at a, a + 1, .., e - 1
 abbrev pub firstFault : (ℕ → Judged) → ℕ → ℕ → Judged
 firstFault = firstOf Accepted andThen
-
-unfoldable pub within : ℕ → ℕ → ℕ → Bool
-within low high n = leb low n && leb n high
 
 -- ---- refusals 1, 2 and 3
 

@@ -6,9 +6,9 @@ use mathlib.Core.List.{List}
 use native.Mathlib.Decide.{decLt}
 use native.Mathlib.Omega.{arith}
 use Rattle.laws.specs.Decides.{decides}
-use Rattle.scene.specs.Limits.{limits}
+use Rattle.scene.specs.Limits.{limits, within}
 use Rattle.scene.specs.Records.{vertsA, vertsB, facesA, verts, faces, faceRecord, lastRecord}
-use Rattle.judge.specs.Judge.{within, areCorners, vertsAt, cornersOk, faceFault, countsOk, headerFault, recordFault, recordsFault, opens}
+use Rattle.judge.specs.Judge.{areCorners, vertsAt, cornersOk, faceFault, countsOk, headerFault, recordFault, recordsFault, opens}
 use Rattle.judge.specs.Laws.{rule-ok, rule-rest}
 use Rattle.judge.specs.Cases.{record-face, verts-of-a, verts-of-b}
 use Rattle.judge.specs.Tests.{first-iff}

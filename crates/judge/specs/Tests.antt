@@ -9,7 +9,8 @@ use native.Mathlib.Decide.{ℕ-discrete}
 use Rattle.laws.specs.Decides.{decides}
 use Rattle.laws.specs.Range.{fold, firstOf, over}
 use Rattle.scene.specs.declared.Refusal.{Refusal}
-use Rattle.judge.specs.Judge.{rule, andThen, firstFault, within}
+use Rattle.judge.specs.Judge.{rule, andThen, firstFault}
+use Rattle.scene.specs.Limits.{within}
 use Rattle.judge.specs.Laws.{rule-ok, rule-rest, rule-passed, then-first, then-rest, then-accepted}
 use Rattle.judge.specs.declared.Judged.{Judged}
 use Rattle.judge.specs.declared.Judged.the-variants.{Accepted, Refused}

@@ -7,13 +7,14 @@ ghost use Rattle.judge.specs.Judge.{andThen, isUsed, unusedFault, unused
 ghost use Rattle.judge.specs.Words.{places, CornersIn, FacesIn, AreWords, usedWord, SideBy, SidesBy};
 use crate::Judged;
 use crate::records::corner;
-use crate::records::face_record;
 use crate::words::PLACES;
 use crate::words::Words;
 use crate::words::in_even;
 use crate::words::in_used;
 use crate::words::words_of;
 use scene::Refusal;
+use scene::offsets;
+use scene::offsets::face_record;
 use scene::read::byte;
 
 // By ua and ub, the words of the vertices that A's faces and B's use.
@@ -45,7 +46,7 @@ fn unuseds_fault(s: &[u8], ua: u64, ub: u64) -> Judged
     requires vertices { ⌜ (vertsA (now s) < places) × (vertsB (now s) < places) ⌝ }
     ensures { λ r. ⌜ r ≡ unusedsFault (now (s .entry)) ⌝ }
 {
-    let n = byte(s, 2) + byte(s, 4);
+    let n = offsets::vertices(s);
     let mut p = 1;
     while p < n + 1 {
         if let Judged::Refused(r) = unused_fault(s, ua, ub, p) {
@@ -105,7 +106,7 @@ fn edges_fault(s: &[u8], wa: &Words, wb: &Words) -> Judged
     requires words { ⌜ AreWords (now s) 0 (facesA (now s)) (now wa) × AreWords (now s) (facesA (now s)) (facesB (now s)) (now wb) ⌝ }
     ensures { λ r. ⌜ r ≡ edgesFault (now (s .entry)) ⌝ }
 {
-    let n = byte(s, 3) + byte(s, 5);
+    let n = offsets::faces(s);
     let mut i = 0;
     while i < n {
         if let Judged::Refused(r) = edge_fault(s, wa, wb, i) {

@@ -2,24 +2,17 @@
 ghost use mathlib.Core.Path.{_≡_};
 ghost use lib.ListN.{length};
 ghost use lib.Dec.{eqb};
-ghost use Rattle.scene.specs.Limits.{limits};
+ghost use Rattle.scene.specs.Limits.{limits, within};
 ghost use Rattle.scene.specs.Bytes.{byteAt};
 ghost use Rattle.scene.specs.Records.{lengthOf};
-ghost use Rattle.judge.specs.Judge.{within, opens, countsOk, headerFault};
+ghost use Rattle.judge.specs.Judge.{opens, countsOk, headerFault};
 use crate::Judged;
 use scene::Refusal;
 use scene::Scene;
+use scene::is_within;
+use scene::offsets::length_of;
 use scene::read::byte;
 use scene::read::two;
-
-pub fn is_within(low: usize, high: usize, n: usize) -> bool
-    ensures { λ r. ⌜ r ≡ within low high n ⌝ }
-{
-    if n < low {
-        return false;
-    }
-    n <= high
-}
 
 fn opens(s: &[u8]) -> bool
     ensures { λ r. ⌜ r ≡ opens (now (s .entry)) ⌝ }
@@ -61,7 +54,7 @@ fn counts_ok(s: &[u8]) -> bool
 fn length_ok(s: &[u8]) -> bool
     ensures { λ r. ⌜ r ≡ eqb (length (now (s .entry))) (lengthOf (now (s .entry))) ⌝ }
 {
-    s.len() == 17 + (byte(s, 2) + byte(s, 4)) * 9 + (byte(s, 3) + byte(s, 5)) * 5
+    s.len() == length_of(s)
 }
 
 pub fn header_fault(s: &[u8]) -> Judged

@@ -8,9 +8,9 @@ ghost use Rattle.scene.specs.Bytes.{twoAt, coordinateAt, weightAt, signed};
 ghost use Rattle.scene.specs.Records.{pointStart};
 ghost use Rattle.judge.specs.Judge.{coordinateOk, weightOk, nowhere, somewhereOk, pointMark, pointFault};
 use crate::Judged;
-use crate::header::is_within;
 use scene::Refusal;
 use scene::Scene;
+use scene::is_within;
 use scene::read::byte;
 use scene::read::two;
 

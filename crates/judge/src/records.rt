@@ -8,28 +8,18 @@ ghost use Rattle.scene.specs.Records.{faceStart, endStart, faceRecord, lastReco
 ghost use Rattle.scene.specs.Tables.{cornerAt};
 ghost use Rattle.judge.specs.Judge.{vertsAt, areCorners, cornersOk, faceFault, endFault, recordFault, recordsFault};
 use crate::Judged;
-use crate::header::is_within;
 use crate::points::point_fault;
 use scene::Refusal;
 use scene::Scene;
+use scene::is_within;
+use scene::offsets;
+use scene::offsets::face_record;
+use scene::offsets::face_start;
+use scene::offsets::last_record;
 use scene::read::byte;
 use scene::read::two;
 
-// The first byte, the record's number, the first three corners and the solid's vertex count of the file's face i, from 0.
-pub fn face_start(s: &[u8], i: usize) -> usize
-    requires { ⌜ i < 1024 ⌝ }
-    ensures { λ r. ⌜ (r ≡ faceStart (now (s .entry)) i) × (r < 16384) ⌝ }
-{
-    15 + (byte(s, 2) + byte(s, 4)) * 9 + i * 5
-}
-
-pub fn face_record(s: &[u8], i: usize) -> usize
-    requires { ⌜ i < 1024 ⌝ }
-    ensures { λ r. ⌜ r ≡ faceRecord (now (s .entry)) i ⌝ }
-{
-    2 + (byte(s, 2) + byte(s, 4)) + i
-}
-
+// Corner m, from 0, of the file's face i, from 0; and the vertex count of its solid.
 pub fn corner(s: &[u8], i: usize, m: usize) -> usize
     requires { ⌜ (i < 1024) × (m < 3) ⌝ }
     ensures { λ r. ⌜ (r ≡ cornerAt (now (s .entry)) i m) × (r < 256) ⌝ }
@@ -105,13 +95,7 @@ fn face_fault(s: &[u8], i: usize) -> Judged
 fn end_marked(s: &[u8]) -> bool
     ensures { λ r. ⌜ r ≡ eqb (twoAt (now (s .entry)) (endStart (now (s .entry)))) markEN ⌝ }
 {
-    two(s, face_start(s, byte(s, 3) + byte(s, 5))) == Scene::EN
-}
-
-fn last_record(s: &[u8]) -> usize
-    ensures { λ r. ⌜ (r ≡ lastRecord (now (s .entry))) × (r < 1024) ⌝ }
-{
-    2 + (byte(s, 2) + byte(s, 4)) + (byte(s, 3) + byte(s, 5))
+    two(s, face_start(s, offsets::faces(s))) == Scene::EN
 }
 
 // Refusal 4 of the last record.
@@ -129,7 +113,7 @@ fn record_fault(s: &[u8], k: usize) -> Judged
     requires { ⌜ (1 ≤ k) × (k ≤ lastRecord (now s)) ⌝ }
     ensures { λ r. ⌜ r ≡ recordFault limits (now (s .entry)) k ⌝ }
 {
-    let v = 2 + (byte(s, 2) + byte(s, 4));
+    let v = 2 + offsets::vertices(s);
     if k < v {
         return point_fault(s, k - 1);
     }

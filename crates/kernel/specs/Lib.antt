@@ -1,9 +1,7 @@
-pub mod Scene
-pub mod Ready
 pub mod Answers
 pub mod Laws
-pub mod Copy
 pub mod Asked
+pub mod Ready
+pub mod Surveys
 pub mod Both
 pub mod Listings
-pub mod Inside

@@ -1,95 +1,110 @@
 -- A listing by its faults: the scene is refused, the lent list is too short, or it holds the whole. Assumes nothing.
 use mathlib.Core.Path.{_≡_, refl, sym, ap, _∙_}
-use mathlib.Core.List.{List, _++_}
-use Prim.Native.Nat.{ℕ, _+_, _*_, _/_, _≤_, _<_}
+use mathlib.Core.Bool.{Bool, true, false, cond, _&&_}
+use mathlib.Core.List.{List}
+use Prim.Native.Nat.{ℕ, _*_, _/_, _≤_, _<_}
 use native.Mathlib.Omega.{arith}
-use lib.ListN.{length, take, drop}
-use lib.Seq.{take-at, length-take-le}
-use borrow.Author.Tests.{le-leb, lt-leb}
-use Rattle.scene.specs.Limits.{limits}
+use lib.ListN.{length}
+use borrow.Author.Tests.{le-leb, lt-leb, le-ltb, lt-ltb}
+use lib.Dec.{ltb}
 use Rattle.scene.specs.declared.Refusal.{Refusal}
 use Rattle.scene.specs.declared.Refusal.the-variants.{Room}
 use Rattle.judge.specs.Judge.{rule, judged}
-use Rattle.judge.specs.Laws.{then-refused, then-accepted}
 use Rattle.judge.specs.declared.Judged.{Judged}
 use Rattle.judge.specs.declared.Judged.the-variants.{Accepted, Refused}
 use Rattle.listing.specs.Hits.{Hit}
-use Rattle.listing.specs.Pour.{Pours, flat, partIn, allIn}
-use Rattle.listing.specs.Poured.{poured-part, poured-all, length-flat}
-use Rattle.kernel.specs.Scene.{listingOf}
-use Rattle.kernel.specs.Answers.{answered, listFault, IsListed, IsPart}
+use Rattle.listing.specs.Pour.{Pours, poured, partIn, allIn}
+use Rattle.listing.specs.Poured.{poured-part, poured-all}
+use Rattle.scene.specs.View.{viewOf}
+use Rattle.kernel.specs.Answers.{answered, listingIn, listFault, listedIn, heldIn, IsListed, IsPart}
 use Rattle.kernel.specs.declared.lists.Listed.{Listed}
 use Rattle.kernel.specs.declared.lists.Listed.the-variants as listed
 
--- the places of the list that a listing is poured into first: three for each pair of the longest
-abbrev pub ownPlaces : ℕ
-ownPlaces = 3 * (2 * limits .mostFaces * limits .mostFaces)
+-- all of n pairs are asked for, and there are not three places for each
+unfoldable pub lacksRoom : Bool → (n places : ℕ) → Bool
+lacksRoom all n places = all && ltb (places / 3) n
 
--- the listing poured into a list with room, copied from there
-copied : (l : List Hit) (own d : List ℕ) → 3 * length l ≤ length own → take (3 * length l) (allIn l own) ++ drop (3 * length l) d ≡ allIn l d
-unfolding allIn
-copied l own d h = ap (λ (t : List ℕ). t ++ drop (3 * length l) d) (take-at (flat l) (drop (3 * length l) own) (3 * length l) (length-flat l))
+-- what is left of a lent list d where the hits l are poured from one of them on: as far as there is room, or, where all are asked for, all or none
+pub record PouredIf (l : List Hit) (from : ℕ) (all : Bool) (d d′ : List ℕ) (r : ℕ) : Type 0 where
+  pub count : r ≡ length l
+  pub long : length d′ ≡ length d
+  pub held : d′ ≡ cond (lacksRoom all (length l) (length d)) d (poured d from 0 l)
 
-pub own-long : {l : List Hit} {own d₁ : List ℕ} {n : ℕ} → Pours l 0 0 own d₁ n → 3 * n ≤ length own → 3 * n ≡ length (take (3 * n) d₁)
-own-long {d₁} {n} p h = sym (length-take-le (3 * n) d₁ (omega (arith, p .long)))
+module _ (l : List Hit) (from : ℕ) (all : Bool) (d : List ℕ) {n : ℕ} (count : n ≡ length l) {b : Bool} (test : b ≡ lacksRoom all n (length d)) where
+  test-is : {t : Bool} → b ≡ t → lacksRoom all (length l) (length d) ≡ t
+  test-is e = ap (λ (k : ℕ). lacksRoom all k (length d)) (sym count) ∙ sym test ∙ e
 
-module _ (s d : List ℕ) where
-  told : {j : Judged} {d₂ : List ℕ} {r : Listed} → j ≡ listFault s d → r ≡ answered listed.Refused j (listed.Count (length (listingOf s))) →
-      d₂ ≡ answered (λ _. d) j (allIn (listingOf s) d) → IsListed s d d₂ r
-  told e p q =
+  pub poured-none : b ≡ true → PouredIf l from all d d n
+  poured-none e = record { count = count; long = refl; held = sym (ap (λ (b : Bool). cond b d (poured d from 0 l)) (test-is e)) }
+
+  pub poured-some : {d′ : List ℕ} {r : ℕ} → b ≡ false → Pours l from 0 d d′ r → PouredIf l from all d d′ r
+  poured-some e p =
       record {
-        answer = p ∙ ap (λ (j : Judged). answered listed.Refused j (listed.Count (length (listingOf s)))) e;
-        held = q ∙ ap (λ (j : Judged). answered (λ _. d) j (allIn (listingOf s) d)) e;
+        count = omega (arith, p .count);
+        long = p .long;
+        held = p .held ∙ sym (ap (λ (b : Bool). cond b d (poured d from 0 l)) (test-is e));
       }
 
-  module _ {o : Judged} (e : o ≡ judged s) where
-    pub list-refused : {r : Refusal} → o ≡ Refused r → IsListed s d d (listed.Refused r)
-    unfolding listFault answered
-    list-refused q = told (then-refused _ e q) refl refl
+-- the question of bytes, by the judge's answer o
+module _ (s d : List ℕ) {o : Judged} (e : o ≡ judged s) where
+  abbrev l : List Hit
+  l = listingIn (viewOf s)
 
-    pub part-refused : {r : Refusal} (from : ℕ) → o ≡ Refused r → IsPart s from d d (listed.Refused r)
-    unfolding answered
-    part-refused from q =
+  pub list-refused : {r : Refusal} → o ≡ Refused r → IsListed s d d (listed.Refused r)
+  unfolding answered
+  list-refused q =
+      record {
+        answer = ap (λ (j : Judged). answered listed.Refused j (listedIn (viewOf s) d)) (sym q ∙ e);
+        held = ap (λ (j : Judged). answered (λ _. d) j (heldIn (viewOf s) d)) (sym q ∙ e);
+      }
+
+  pub part-refused : {r : Refusal} (from : ℕ) → o ≡ Refused r → IsPart s from d d (listed.Refused r)
+  unfolding answered
+  part-refused from q =
+      record {
+        answer = ap (λ (j : Judged). answered listed.Refused j (listed.Count (length l))) (sym q ∙ e);
+        held = ap (λ (j : Judged). answered (λ _. d) j (partIn l from d)) (sym q ∙ e);
+      }
+
+  pub part-told : (from : ℕ) {d₁ : List ℕ} {n : ℕ} → o ≡ Accepted → PouredIf l from false d d₁ n → IsPart s from d d₁ (listed.Count n)
+  unfolding answered lacksRoom
+  part-told from q p =
+      record {
+        answer = ap listed.Count (p .count) ∙ ap (λ (j : Judged). answered listed.Refused j (listed.Count (length l))) (sym q ∙ e);
+        held = p .held ∙ poured-part l d from ∙ ap (λ (j : Judged). answered (λ _. d) j (partIn l from d)) (sym q ∙ e);
+      }
+
+  module _ (q : o ≡ Accepted) {d₁ : List ℕ} {n : ℕ} (p : PouredIf l 0 true d d₁ n) where
+    told : {j : Judged} {r : Listed} → j ≡ listFault (viewOf s) d → r ≡ answered listed.Refused j (listed.Count (length l)) →
+        d₁ ≡ answered (λ _. d) j (allIn l d) → IsListed s d d₁ r
+    unfolding answered listedIn heldIn
+    told f a h =
         record {
-          answer = ap (λ (j : Judged). answered listed.Refused j (listed.Count (length (listingOf s)))) (sym q ∙ e);
-          held = ap (λ (j : Judged). answered (λ _. d) j (partIn (listingOf s) from d)) (sym q ∙ e);
+          answer =
+              a ∙ ap (λ (j : Judged). answered listed.Refused j (listed.Count (length l))) f
+              ∙ ap (λ (j : Judged). answered listed.Refused j (listedIn (viewOf s) d)) (sym q ∙ e);
+          held =
+              h ∙ ap (λ (j : Judged). answered (λ _. d) j (allIn l d)) f
+              ∙ ap (λ (j : Judged). answered (λ _. d) j (heldIn (viewOf s) d)) (sym q ∙ e);
         }
 
-    pub part-told : (from : ℕ) {d₁ : List ℕ} {n : ℕ} → o ≡ Accepted → Pours (listingOf s) from 0 d d₁ n → IsPart s from d d₁ (listed.Count n)
-    unfolding answered
-    part-told from {n} q p =
-        let c : n ≡ length (listingOf s) = omega (arith, p .count) in
-        record {
-          answer = ap listed.Count c ∙ ap (λ (j : Judged). answered listed.Refused j (listed.Count (length (listingOf s)))) (sym q ∙ e);
-          held = p .held ∙ poured-part (listingOf s) d from ∙ ap (λ (j : Judged). answered (λ _. d) j (partIn (listingOf s) from d)) (sym q ∙ e);
-        }
+    short : length d / 3 < n → Refused (Room n) ≡ listFault (viewOf s) d
+    unfolding listFault rule
+    short h = rw (lt-leb (3 * length l) (length d) (omega (arith, p .count))) (ap (λ (k : ℕ). Refused (Room k)) (p .count))
 
-    module _ (q : o ≡ Accepted) {own d₁ : List ℕ} {n : ℕ} (p : Pours (listingOf s) 0 0 own d₁ n) where
-      n-is : n ≡ length (listingOf s)
-      n-is = omega (arith, p .count)
+    fits : n ≤ length d / 3 → Accepted ≡ listFault (viewOf s) d
+    unfolding listFault rule
+    fits h = rw (le-leb (3 * length l) (length d) (omega (arith, p .count))) refl
 
-      short : length d / 3 < n → Refused (Room n) ≡ listFault s d
-      unfolding listFault rule
-      short h = then-accepted e q (rw (lt-leb (3 * length (listingOf s)) (length d) (omega (arith, n-is))) (ap (λ (k : ℕ). Refused (Room k)) n-is))
+    pub list-short : length d₁ / 3 < n → IsListed s d d₁ (listed.Refused (Room n))
+    unfolding answered lacksRoom
+    list-short h =
+        let e : ltb (length d / 3) (length l) ≡ true = lt-ltb (length d / 3) (length l) (omega (arith, p .long, p .count)) in
+        told (short (omega (arith, p .long))) refl (p .held ∙ ap (λ (b : Bool). cond b d (poured d 0 0 l)) e)
 
-      fits : n ≤ length d / 3 → Accepted ≡ listFault s d
-      unfolding listFault rule
-      fits h = then-accepted e q (rw (le-leb (3 * length (listingOf s)) (length d) (omega (arith, n-is))) refl)
-
-      pub list-short : length d / 3 < n → IsListed s d d (listed.Refused (Room n))
-      unfolding answered
-      list-short h = told (short h) refl refl
-
-      -- where the list of its own is too short
-      pub list-poured : {d₂ : List ℕ} {m : ℕ} → n ≤ length d / 3 → Pours (listingOf s) 0 0 d d₂ m → IsListed s d d₂ (listed.Count n)
-      unfolding answered
-      list-poured h w = told (fits h) (ap listed.Count n-is) (w .held ∙ poured-all (listingOf s) d (omega (arith, n-is)))
-
-      -- where it is long enough
-      pub list-copied : {d₂ : List ℕ} → 3 * n ≤ length own → n ≤ length d / 3 → d₂ ≡ take (3 * n) d₁ ++ drop (length (take (3 * n) d₁)) d →
-          IsListed s d d₂ (listed.Count n)
-      unfolding answered
-      list-copied h r c =
-          let w : d₁ ≡ allIn (listingOf s) own = p .held ∙ poured-all (listingOf s) own (omega (arith, n-is)) in
-          told (fits r) (ap listed.Count n-is)
-          (c ∙ ap (λ (k : ℕ). take (3 * n) d₁ ++ drop k d) (sym (own-long p h)) ∙ rw (n-is, w) (copied (listingOf s) own d (omega (arith, n-is))))
+    pub list-told : n ≤ length d₁ / 3 → IsListed s d d₁ (listed.Count n)
+    unfolding answered lacksRoom
+    list-told h =
+        let e : ltb (length d / 3) (length l) ≡ false = le-ltb (length d / 3) (length l) (omega (arith, p .long, p .count)) in
+        told (fits (omega (arith, p .long))) (ap listed.Count (p .count))
+        (p .held ∙ ap (λ (b : Bool). cond b d (poured d 0 0 l)) e ∙ poured-all l d (omega (arith, p .long, p .count)))

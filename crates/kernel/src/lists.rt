@@ -1,22 +1,27 @@
 // The listing: every pierced pair once, into a lent list of numbers, three for each.
 ghost use mathlib.Core.Path.{_≡_};
-ghost use mathlib.Core.List.{_++_};
-ghost use Prim.Native.Nat.{_≤_};
-ghost use lib.ListN.{length, drop};
 ghost use Rattle.judge.specs.Judge.{judged};
 ghost use Rattle.judge.specs.declared.Judged.the-variants.{Accepted};
-ghost use Rattle.listing.specs.Pour.{Pours};
-ghost use Rattle.kernel.specs.Scene.{listingOf};
-ghost use Rattle.kernel.specs.Answers.{IsListed, IsPart};
-use crate::points_of;
-use crate::solid_a;
-use crate::solid_b;
+ghost use Rattle.scene.specs.View.{viewOf};
+ghost use Rattle.kernel.specs.Answers.{listingIn, IsListed, IsPart};
+ghost use Rattle.kernel.specs.Listings.{lacksRoom, PouredIf};
 use engine::Engine;
 use judge::Judged;
-use listing::pour::pour_solid;
 use scene::Refusal;
 use scene::Scene;
 use scene::decode;
+use scene::offsets::points;
+use scene::read::solid;
+use survey::answers::count_pairs;
+use survey::answers::pour_pairs;
+use survey::survey_scene;
+use table::ENDS;
+use table::Ends;
+use table::Masks;
+
+// Room for the longest listing: a face's plane parts two sides of a triangle at most, and each edge is in two faces or more, so that no more
+// than as many edges as the solid has faces pierce a face of the other.
+pub const MOST_PAIRS: usize = 2 * Scene::MOST_FACES * Scene::MOST_FACES;
 
 // How many pairs there are.
 pub enum Listed {
@@ -24,53 +29,71 @@ pub enum Listed {
     Count(usize),
 }
 
-// Room for the longest listing: a face's plane parts two sides of a triangle at most, and each edge is in two faces or more, so that no more
-// than as many edges as the solid has faces pierce a face of the other.
-pub const MOST_PAIRS: usize = 2 * Scene::MOST_FACES * Scene::MOST_FACES;
+// All of n pairs are asked for, and there are not three places for each.
+fn lacks_room(all: bool, n: usize, places: usize) -> bool
+    ensures { λ r. ⌜ r ≡ lacksRoom all n places ⌝ }
+{
+    if all {
+        return n > places / 3;
+    }
+    false
+}
 
-const ROOM: usize = 3 * MOST_PAIRS;
-
-// The pairs of an accepted scene from the one numbered `from` on, as far as there is room; how many there are in all.
-fn pour(engine: Engine, s: &[u8], from: usize, out: &mut [u16]) -> usize
+// The pairs of an accepted scene from the one numbered `from` on, as far as there is room, and how many there are in all. Where all of them are asked
+// for, and there is no room for all, none is written: they are counted before any is.
+fn pour(engine: Engine, s: &[u8], from: usize, all: bool, out: &mut [u16]) -> usize
     requires { ⌜ judged (now s) ≡ Accepted ⌝ }
-    ensures { λ r. ⌜ Pours (listingOf (now (s .entry))) from 0 (now (out .entry)) (now (out .exit)) r ⌝ }
+    ensures { λ r. ⌜ PouredIf (listingIn (viewOf (now (s .entry)))) from all (now (out .entry)) (now (out .exit)) r ⌝ }
 {
     let rows = decode::rows(s);
     let corners = decode::faces(s);
-    let n = points_of(s);
-    let c = pour_solid(engine, &rows, &corners, n, solid_a(s), from, 0, out);
-    pour_solid(engine, &rows, &corners, n, solid_b(s), from, c, out)
-}
-
-// out with all of `from` at its front.
-fn copy_in(from: &[u16], out: &mut [u16])
-    requires { ⌜ length (now from) ≤ length (now out) ⌝ }
-    ensures { λ _. ⌜ now (out .exit) ≡ now (from .entry) ++ drop (length (now (from .entry))) (now (out .entry)) ⌝ }
-{
-    let mut i = 0;
-    while i < from.len() {
-        out[i] = from[i];
-        i += 1;
+    let n = points(s);
+    let a = solid(s, 1);
+    let b = solid(s, 2);
+    let mut aends: Ends = [0; ENDS];
+    let mut amasks: Masks = [0; ENDS];
+    let mut bends: Ends = [0; ENDS];
+    let mut bmasks: Masks = [0; ENDS];
+    let t = survey_scene(
+        engine,
+        &rows,
+        &corners,
+        n,
+        a,
+        b,
+        &mut aends,
+        &mut amasks,
+        &mut bends,
+        &mut bmasks,
+    );
+    let c = count_pairs(t, &amasks, &bmasks);
+    if lacks_room(all, c, out.len()) {
+        return c;
     }
+    pour_pairs(
+        t,
+        a.other,
+        b.other,
+        &aends,
+        &amasks,
+        &bends,
+        &bmasks,
+        from,
+        out,
+    )
 }
 
-// The whole listing, or refusal 10 with the count. It is poured into a list of its own first, so that a refusal leaves the lent one as it is.
+// The whole listing, or refusal 10 with the count.
 pub fn listing(engine: Engine, s: &[u8], out: &mut [u16]) -> Listed
     ensures { λ r. ⌜ IsListed (now (s .entry)) (now (out .entry)) (now (out .exit)) r ⌝ }
 {
     if let Judged::Refused(r) = judge::judge(s) {
         return Listed::Refused(r);
     }
-    let mut own = [0u16; ROOM];
-    let n = pour(engine, s, 0, &mut own);
+    let n = pour(engine, s, 0, true, out);
     if n > out.len() / 3 {
         return Listed::Refused(Refusal::Room(n));
     }
-    if n > MOST_PAIRS {
-        pour(engine, s, 0, out);
-        return Listed::Count(n);
-    }
-    copy_in(&own[..3 * n], out);
     Listed::Count(n)
 }
 
@@ -82,5 +105,5 @@ pub fn listing_part(engine: Engine, s: &[u8], from: usize, out: &mut [u16]) -> L
     if let Judged::Refused(r) = judge::judge(s) {
         return Listed::Refused(r);
     }
-    Listed::Count(pour(engine, s, from, out))
+    Listed::Count(pour(engine, s, from, false, out))
 }

@@ -1,20 +1,24 @@
 // Questions about a solid: the faces that an edge pierces, and whether a vertex is enclosed.
 ghost use mathlib.Core.Path.{_≡_};
+ghost use Rattle.scene.specs.View.{viewOf};
 ghost use Rattle.pierce.specs.Faces.{valueOf};
 ghost use Rattle.judge.specs.Judge.{judged};
 ghost use Rattle.judge.specs.declared.Judged.the-variants.{Accepted};
-ghost use Rattle.kernel.specs.Answers.{isVertex, isSolid, isVertexOf, maskAsked, maskOutside, maskFault, maskIn, saidMask, maskedOf, enclosedFault, otherSolid, enclosedOf};
+ghost use Rattle.kernel.specs.Answers.{isVertexOf, edgeAndSolid, outside, maskFault, maskIn, saidMask, maskedOf, enclosedFault, otherSolid, enclosedOf};
 ghost use Rattle.kernel.specs.Asked.{Outside};
 use crate::points::Answer;
 use crate::points::is_point;
-use crate::points_of;
 use engine::Engine;
 use judge::Judged;
 use pierce::faces;
 use pierce::faces::Mask;
 use scene::Refusal;
 use scene::decode;
-use scene::read::byte;
+use scene::is_within;
+use scene::offsets::points;
+use scene::offsets::vertices;
+use scene::read::counts;
+use scene::read::solid;
 
 // The mask, and how many ones it has.
 pub enum Masked {
@@ -22,40 +26,16 @@ pub enum Masked {
     Faces(Mask, usize),
 }
 
-fn is_vertex(s: &[u8], i: usize) -> bool
-    ensures { λ r. ⌜ r ≡ isVertex (now (s .entry)) i ⌝ }
-{
-    if i < 1 {
-        return false;
-    }
-    i <= byte(s, 2) + byte(s, 4)
-}
-
-pub fn is_solid(k: usize) -> bool
-    ensures { λ r. ⌜ r ≡ isSolid k ⌝ }
-{
-    if k < 1 {
-        return false;
-    }
-    k <= 2
-}
-
 // Point i is a vertex of solid k, 1 for A and 2 for B.
 fn is_vertex_of(s: &[u8], k: usize, i: usize) -> bool
-    ensures { λ r. ⌜ r ≡ isVertexOf (now (s .entry)) k i ⌝ }
+    ensures { λ r. ⌜ r ≡ isVertexOf (viewOf (now (s .entry))) k i ⌝ }
 {
-    let a = byte(s, 2);
-    if k == 1 {
-        return i <= a;
-    }
-    if i <= a {
-        return false;
-    }
-    i <= a + byte(s, 4)
+    let o = solid(s, k);
+    is_within(o.low + 1, o.low + o.verts, i)
 }
 
-fn is_asked(s: &[u8], u: usize, v: usize, k: usize) -> bool
-    ensures { λ r. ⌜ r ≡ maskAsked (now (s .entry)) u v k ⌝ }
+fn has_edge_and_solid(s: &[u8], u: usize, v: usize, k: usize) -> bool
+    ensures { λ r. ⌜ r ≡ edgeAndSolid (viewOf (now (s .entry))) u v k ⌝ }
 {
     if !is_point(s, u) {
         return false;
@@ -63,11 +43,11 @@ fn is_asked(s: &[u8], u: usize, v: usize, k: usize) -> bool
     if !is_point(s, v) {
         return false;
     }
-    is_solid(k)
+    is_within(1, 2, k)
 }
 
 fn are_outside(s: &[u8], u: usize, v: usize, k: usize) -> bool
-    ensures { λ r. ⌜ r ≡ maskOutside (now (s .entry)) u v k ⌝ }
+    ensures { λ r. ⌜ r ≡ outside (viewOf (now (s .entry))) u v k ⌝ }
 {
     if u == v {
         return false;
@@ -79,12 +59,9 @@ fn are_outside(s: &[u8], u: usize, v: usize, k: usize) -> bool
 }
 
 fn mask_fault(s: &[u8], u: usize, v: usize, k: usize) -> Judged
-    ensures { λ r. ⌜ r ≡ maskFault (now (s .entry)) u v k ⌝ }
+    ensures { λ r. ⌜ r ≡ maskFault (viewOf (now (s .entry))) u v k ⌝ }
 {
-    if let Judged::Refused(r) = judge::judge(s) {
-        return Judged::Refused(r);
-    }
-    if !is_asked(s, u, v, k) {
+    if !has_edge_and_solid(s, u, v, k) {
         return Judged::Refused(Refusal::Lacking);
     }
     if !are_outside(s, u, v, k) {
@@ -95,30 +72,22 @@ fn mask_fault(s: &[u8], u: usize, v: usize, k: usize) -> Judged
 
 // The mask of u, v against the solid k of an accepted scene.
 fn mask_of(engine: Engine, s: &[u8], u: usize, v: usize, k: usize) -> Mask
-    requires { ⌜ (judged (now s) ≡ Accepted) × Outside (now s) u v k ⌝ }
-    ensures { λ r. ⌜ valueOf r ≡ maskIn (now (s .entry)) u v k ⌝ }
+    requires { ⌜ (judged (now s) ≡ Accepted) × Outside (viewOf (now s)) u v k ⌝ }
+    ensures { λ r. ⌜ valueOf r ≡ maskIn (viewOf (now (s .entry))) u v k ⌝ }
 {
     let rows = decode::rows(s);
     let corners = decode::faces(s);
-    if k == 1 {
-        return engine::mask(engine, &rows, &corners, points_of(s), u, v, 0, byte(s, 3));
-    }
-    engine::mask(
-        engine,
-        &rows,
-        &corners,
-        points_of(s),
-        u,
-        v,
-        byte(s, 3),
-        byte(s, 5),
-    )
+    let o = solid(s, k);
+    engine::mask(engine, &rows, &corners, points(s), u, v, o.first, o.count)
 }
 
 // The mask of u, v against solid k, with the number of its ones.
 pub fn mask(engine: Engine, s: &[u8], u: usize, v: usize, k: usize) -> Masked
     ensures { λ r. ⌜ saidMask r ≡ maskedOf (now (s .entry)) u v k ⌝ }
 {
+    if let Judged::Refused(r) = judge::judge(s) {
+        return Masked::Refused(r);
+    }
     if let Judged::Refused(r) = mask_fault(s, u, v, k) {
         return Masked::Refused(r);
     }
@@ -127,12 +96,9 @@ pub fn mask(engine: Engine, s: &[u8], u: usize, v: usize, k: usize) -> Masked
 }
 
 fn enclosed_fault(s: &[u8], i: usize) -> Judged
-    ensures { λ r. ⌜ r ≡ enclosedFault (now (s .entry)) i ⌝ }
+    ensures { λ r. ⌜ r ≡ enclosedFault (viewOf (now (s .entry))) i ⌝ }
 {
-    if let Judged::Refused(r) = judge::judge(s) {
-        return Judged::Refused(r);
-    }
-    if !is_vertex(s, i) {
+    if !is_within(1, vertices(s), i) {
         return Judged::Refused(Refusal::Lacking);
     }
     Judged::Accepted
@@ -140,9 +106,10 @@ fn enclosed_fault(s: &[u8], i: usize) -> Judged
 
 // The solid that may enclose vertex i.
 fn other_solid(s: &[u8], i: usize) -> usize
-    ensures { λ r. ⌜ r ≡ otherSolid (now (s .entry)) i ⌝ }
+    ensures { λ r. ⌜ r ≡ otherSolid (viewOf (now (s .entry))) i ⌝ }
 {
-    if i <= byte(s, 2) {
+    let c = counts(s);
+    if i <= c.vertices_a {
         return 2;
     }
     1
@@ -152,10 +119,13 @@ fn other_solid(s: &[u8], i: usize) -> usize
 pub fn enclosed(engine: Engine, s: &[u8], i: usize) -> Answer
     ensures { λ r. ⌜ r ≡ enclosedOf (now (s .entry)) i ⌝ }
 {
+    if let Judged::Refused(r) = judge::judge(s) {
+        return Answer::Refused(r);
+    }
     if let Judged::Refused(r) = enclosed_fault(s, i) {
         return Answer::Refused(r);
     }
-    if faces::is_odd(mask_of(engine, s, i, points_of(s), other_solid(s, i))) {
+    if faces::is_odd(mask_of(engine, s, i, points(s), other_solid(s, i))) {
         return Answer::Yes;
     }
     Answer::No

@@ -1,17 +1,16 @@
 // Questions about points: the sign of four, and whether the edge of two pierces a face.
 ghost use mathlib.Core.Path.{_≡_};
-ghost use Prim.Native.Nat.{_<_};
-ghost use Rattle.scene.specs.Tables.{tablesOf, face};
-ghost use Rattle.judge.specs.declared.Judged.the-variants.{Accepted};
-ghost use Rattle.kernel.specs.Answers.{isPoint, isFace, arePoints, differ, signFault, signOf, clear, edgeAndFace, piercesFault, piercesOf};
-use crate::points_of;
+ghost use Rattle.scene.specs.View.{viewOf};
+ghost use Rattle.kernel.specs.Answers.{isPoint, arePoints, differ, signFault, signOf, clear, edgeAndFace, piercesFault, piercesOf};
 use engine::Engine;
 use judge::Judged;
 use orient::Terms;
 use scene::Face;
 use scene::Refusal;
 use scene::decode;
-use scene::read::byte;
+use scene::is_within;
+use scene::offsets;
+use scene::offsets::points;
 use scene::read::corners;
 
 // The four terms, and whether the first that is not zero is positive.
@@ -26,26 +25,15 @@ pub enum Answer {
     No,
 }
 
+// i is the number of a point of the scene, the far point too.
 pub fn is_point(s: &[u8], i: usize) -> bool
-    ensures { λ r. ⌜ r ≡ isPoint (now (s .entry)) i ⌝ }
+    ensures { λ r. ⌜ r ≡ isPoint (viewOf (now (s .entry))) i ⌝ }
 {
-    if i < 1 {
-        return false;
-    }
-    i <= points_of(s)
-}
-
-fn is_face(s: &[u8], f: usize) -> bool
-    ensures { λ r. ⌜ r ≡ isFace (now (s .entry)) f ⌝ }
-{
-    if f < 1 {
-        return false;
-    }
-    f <= byte(s, 3) + byte(s, 5)
+    is_within(1, points(s), i)
 }
 
 fn are_points(s: &[u8], a: usize, b: usize, c: usize, d: usize) -> bool
-    ensures { λ r. ⌜ r ≡ arePoints (now (s .entry)) a b c d ⌝ }
+    ensures { λ r. ⌜ r ≡ arePoints (viewOf (now (s .entry))) a b c d ⌝ }
 {
     if !is_point(s, a) {
         return false;
@@ -81,11 +69,8 @@ fn differ(a: usize, b: usize, c: usize, d: usize) -> bool
 }
 
 fn sign_fault(s: &[u8], a: usize, b: usize, c: usize, d: usize) -> Judged
-    ensures { λ r. ⌜ r ≡ signFault (now (s .entry)) a b c d ⌝ }
+    ensures { λ r. ⌜ r ≡ signFault (viewOf (now (s .entry))) a b c d ⌝ }
 {
-    if let Judged::Refused(r) = judge::judge(s) {
-        return Judged::Refused(r);
-    }
     if !are_points(s, a, b, c, d) {
         return Judged::Refused(Refusal::Lacking);
     }
@@ -99,6 +84,9 @@ fn sign_fault(s: &[u8], a: usize, b: usize, c: usize, d: usize) -> Judged
 pub fn sign(s: &[u8], a: usize, b: usize, c: usize, d: usize) -> Signed
     ensures { λ r. ⌜ r ≡ signOf (now (s .entry)) a b c d ⌝ }
 {
+    if let Judged::Refused(r) = judge::judge(s) {
+        return Signed::Refused(r);
+    }
     if let Judged::Refused(r) = sign_fault(s, a, b, c, d) {
         return Signed::Refused(r);
     }
@@ -121,13 +109,13 @@ fn is_clear(u: usize, v: usize, f: Face) -> bool
 }
 
 fn is_clear_of(s: &[u8], u: usize, v: usize, f: usize) -> bool
-    ensures { λ r. ⌜ r ≡ clear u v (face (tablesOf (now (s .entry))) f) ⌝ }
+    ensures { λ r. ⌜ r ≡ clear u v (viewOf (now (s .entry)) .face f) ⌝ }
 {
     is_clear(u, v, corners(s, f))
 }
 
 fn has_edge_and_face(s: &[u8], u: usize, v: usize, f: usize) -> bool
-    ensures { λ r. ⌜ r ≡ edgeAndFace (now (s .entry)) u v f ⌝ }
+    ensures { λ r. ⌜ r ≡ edgeAndFace (viewOf (now (s .entry))) u v f ⌝ }
 {
     if !is_point(s, u) {
         return false;
@@ -135,15 +123,12 @@ fn has_edge_and_face(s: &[u8], u: usize, v: usize, f: usize) -> bool
     if !is_point(s, v) {
         return false;
     }
-    is_face(s, f)
+    is_within(1, offsets::faces(s), f)
 }
 
 fn pierces_fault(s: &[u8], u: usize, v: usize, f: usize) -> Judged
-    ensures { λ r. ⌜ r ≡ piercesFault (now (s .entry)) u v f ⌝ }
+    ensures { λ r. ⌜ r ≡ piercesFault (viewOf (now (s .entry))) u v f ⌝ }
 {
-    if let Judged::Refused(r) = judge::judge(s) {
-        return Judged::Refused(r);
-    }
     if !has_edge_and_face(s, u, v, f) {
         return Judged::Refused(Refusal::Lacking);
     }
@@ -157,11 +142,14 @@ fn pierces_fault(s: &[u8], u: usize, v: usize, f: usize) -> Judged
 pub fn pierces(engine: Engine, s: &[u8], u: usize, v: usize, f: usize) -> Answer
     ensures { λ r. ⌜ r ≡ piercesOf (now (s .entry)) u v f ⌝ }
 {
+    if let Judged::Refused(r) = judge::judge(s) {
+        return Answer::Refused(r);
+    }
     if let Judged::Refused(r) = pierces_fault(s, u, v, f) {
         return Answer::Refused(r);
     }
     let rows = decode::rows(s);
-    if engine::pierces(engine, &rows, points_of(s), u, v, corners(s, f)) {
+    if engine::pierces(engine, &rows, points(s), u, v, corners(s, f)) {
         return Answer::Yes;
     }
     Answer::No

@@ -116,12 +116,6 @@ again {N} p h = subst (Small N) (sym (reads p h)) p
 abbrev pub Half : ℤ → Type 0
 Half z = Small (2 ^ 30) z
 
-pub read-half : {z : ℤ} → Half z → reread z ≡ z
-read-half p = reads p (lit< tt)
-
-pub half-again : {z : ℤ} → Half z → Half (reread z)
-half-again p = again p (lit< tt)
-
 -- a call's result, handed on: its range is the call's `.ok`
 pub called : {r z : ℤ} → mag r < 2 ^ 63 → r ≡ z → reread r ≡ z
 called h e = toZ-ofZ {w = w64} (record { sfits = h }) ∙ e

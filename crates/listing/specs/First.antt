@@ -1,20 +1,16 @@
 -- The first of a run of hits. Assumes nothing.
 use mathlib.Core.Path.{_≡_, refl, sym, ap, _∙_}
-use Prim.Native.Nat.{ℕ, zero, suc, _+_, _-_, _/_, _%_, _^_, _≤_, _<_}
+use Prim.Native.Nat.{ℕ, zero, suc, _+_, _%_, _≤_, _<_, _-_}
 use native.Mathlib.Omega.{arith}
-use native.Mathlib.Nat.{zero-div}
 use mathlib.Core.Bool.{Bool, true, false}
 use mathlib.Core.List.{List, [], _∷_, _++_, append-nil, append-assoc}
-use lib.Count.{trailingZeros}
 use lib.Dec.{eqb}
-use Rattle.laws.specs.Mask.{testBit, mask-test}
-use Rattle.laws.specs.Walk.{mask-first}
 use Rattle.edges.specs.Edges as words
-use Rattle.edges.specs.declared.Solid.{Solid}
+use Rattle.scene.specs.declared.Solid.{Solid}
 use Rattle.pierce.specs.Formula.{pierced}
 use Rattle.pierce.specs.Faces.{width}
-use Rattle.listing.specs.Hits.{View, Hit, upTo, edgeMask, faceHits, edgeHits, pairHits, pairsAt}
-use Rattle.listing.specs.Laws.{upTo-more, pair-edge, bitsLeft, left-test}
+use Rattle.listing.specs.Hits.{Seen, Hit, upTo, edgeMask, faceHits, pairHits, pairsAt}
+use Rattle.listing.specs.Laws.{upTo-more, bitsLeft, left-test}
 use Rattle.listing.specs.declared.find.Found.{Found}
 use Rattle.listing.specs.declared.find.Found.the-variants.{Nothing, Pair}
 
@@ -68,13 +64,9 @@ module _ (g : ℕ → List Hit) where
 
 -- ---- of an edge, by its mask m: the first of its faces
 
-module _ (s : View) (k : Solid) (u v : ℕ) {b : Bool} {m : ℕ} (mask : m ≡ edgeMask s k u v) (edge : b ≡ true) (order : u < v) where
+module _ (s : Seen) (k : Solid) (u v : ℕ) {b : Bool} {m : ℕ} (mask : m ≡ edgeMask s k u v) (edge : b ≡ true) (order : u < v) where
   abbrev passes : ℕ → Bool
   passes i = pierced (s .points) (s .row) u v (s .face (k .other + 1 + i))
-
-  by-faces : pairHits s k u v b ≡ upTo (faceHits s k u v) (k .others)
-  unfolding edgeHits
-  by-faces = sym (pair-edge s k u v order edge)
 
   -- up to a face that is the first to pass there are none
   none-before : (n : ℕ) → ((i : ℕ) → i < n → passes i ≡ false) → [] ≡ upTo (faceHits s k u v) n
@@ -82,33 +74,11 @@ module _ (s : View) (k : Solid) (u v : ℕ) {b : Bool} {m : ℕ} (mask : m ≡ e
   none-before zero h = refl
   none-before (suc n) h = rw (h n (omega arith)) (none-before n (λ i a. h i (omega arith)) ∙ sym (append-nil _))
 
-  pub edge-none : m ≡ 0 → Nothing ≡ firstOf (pairHits s k u v b)
-  unfolding edgeMask
-  edge-none z = first-none (none-before (k .others) (λ i h. off i h) ∙ sym by-faces)
-    where
-      off : (i : ℕ) → i < k .others → passes i ≡ false
-      off i h = sym (mask-test passes (k .others) i h) ∙ ap (λ (w : ℕ). testBit w i) (sym mask ∙ z) ∙ zero-test i
-        where
-          zero-test : (i : ℕ) → testBit 0 i ≡ false
-          zero-test i = let e : 0 / 2 ^ i ≡ 0 = zero-div (2 ^ i) in rw e
-
   one : (t : ℕ) → passes t ≡ true → firstOf (faceHits s k u v t) ≡ Pair u v (k .other + 1 + t)
   unfolding firstOf faceHits
   one t e = rw e
 
-  pub edge-first : k .others ≤ width → 0 < m → Pair u v (k .other + 1 + trailingZeros width m) ≡ firstOf (pairHits s k u v b)
-  unfolding edgeMask
-  edge-first fits some =
-      let f = mask-first passes width (k .others) fits mask some in
-      first-found (faceHits s k u v) (trailingZeros width m) (k .others) (omega (arith, f .below)) (none-before (trailingZeros width m) (λ i h. f .none i (omega arith) h)) refl (one (trailingZeros width m) (f .passes))
-      ∙ sym (ap firstOf by-faces)
-
-  -- so small is the first face's number
-  pub edge-face : k .others ≤ width → 0 < m → trailingZeros width m < k .others
-  unfolding edgeMask
-  edge-face fits some = let f = mask-first passes width (k .others) fits mask some in omega (arith, f .below)
-
 -- what is told of the next pair of points by the lowest bit that is left
-pub told : (s : View) (k : Solid) (u m : ℕ) {w : ℕ} {o : Found} → m < words.width → w ≡ bitsLeft s k u m →
+pub told : (s : Seen) (k : Solid) (u m : ℕ) {w : ℕ} {o : Found} → m < words.width → w ≡ bitsLeft s k u m →
     o ≡ firstOf (pairHits s k u (k .low + 1 + m) (eqb (w % 2) 1)) → o ≡ firstOf (pairsAt s k u m)
 told s k u m h e p = p ∙ ap (λ (b : Bool). firstOf (pairHits s k u (k .low + 1 + m) b)) (left-test s k u m h e)

@@ -12,21 +12,21 @@ use Rattle.scene.specs.Faces.{Vertex}
 use Rattle.scene.specs.declared.Row.{Row}
 use Rattle.scene.specs.declared.Face.{Face}
 use Rattle.edges.specs.Edges.{joined, Corners}
-use Rattle.edges.specs.declared.Solid.{Solid}
+use Rattle.scene.specs.declared.Solid.{Solid}
 use Rattle.orient.specs.Weighted.{Weighted}
 use Rattle.pierce.specs.Formula.{pierced}
 use Rattle.pierce.specs.Beside.{BesideAll}
 use Rattle.pierce.specs.Faces.{maskAgainst, enclosed}
 
 -- what piercing reads of a scene: the number of its points, the far point's the last, and the rows and faces by their numbers
-pub record View : Type 0 where
+pub record Seen : Type 0 where
   pub points : ℕ
   pub row : ℕ → Row
   pub face : ℕ → Face
 
 -- as it stands in the arrays that a scene of n points was decoded into
-abbrev pub viewIn : ℕ → List ℤ → List ℕ → View
-viewIn n rows corners = record { points = n; row = rowIn rows; face = faceIn corners }
+abbrev pub seenIn : ℕ → List ℤ → List ℕ → Seen
+seenIn n rows corners = record { points = n; row = rowIn rows; face = faceIn corners }
 
 -- an edge, lower point first, and a face that it pierces
 pub record Hit : Type 0 where
@@ -43,7 +43,7 @@ module _ {A : Type 0} where
   abbrev pub only : Bool → List A → List A
   only b l = cond b l []
 
-module _ (s : View) (k : Solid) where
+module _ (s : Seen) (k : Solid) where
   -- the edge u, v with the i-th face of the other solid, from 0, where it is pierced
   unfoldable pub faceHits : (u v i : ℕ) → List Hit
   faceHits u v i = only (pierced (s .points) (s .row) u v (s .face (k .other + 1 + i))) (record { low = u; high = v; face = k .other + 1 + i } ∷ [])

@@ -1,7 +1,7 @@
 -- What a lent list of numbers holds once a run of hits is poured in: three numbers for each, the one numbered `from` at the front, and what has no
 -- room left out. Assumes nothing.
 use mathlib.Core.Path.{_≡_}
-use Prim.Native.Nat.{ℕ, _+_, _*_, _/_, _-_, _^_}
+use Prim.Native.Nat.{ℕ, _+_, _*_, _/_, _^_, _-_}
 use mathlib.Core.Bool.{Bool, cond}
 use mathlib.Core.List.{List, [], _∷_, _++_}
 use lib.Dec.{leb}

@@ -1,22 +1,19 @@
 -- Pouring one run of hits after another, and what the list then holds in closed form. Assumes nothing.
 use mathlib.Core.Path.{_≡_, refl, sym, ap, _∙_}
-use mathlib.Core.Bool.{Bool, true, false, cond}
+use mathlib.Core.Bool.{Bool, true, false}
 use mathlib.Core.List.{List, [], _∷_, _++_, append-nil, append-assoc}
-use Prim.Native.Nat.{ℕ, suc, _+_, _*_, _/_, _%_, _-_, _≤_, _<_}
+use Prim.Native.Nat.{ℕ, suc, _+_, _*_, _/_, _≤_, _<_, _-_}
 use native.Mathlib.Omega.{arith}
 use native.Mathlib.Numerals.{add-one}
 use native.Mathlib.Nat.{add-zero, zero-add}
 use lib.ListN.{length, take, drop, length-append, take-append-drop}
 use lib.Seq.{sets, sets-eq, length-sets, take-at, drop-at, drop-drop, length-take-le, take-all, drop-nil, take-nil}
-use lib.Dec.{eqb, leb}
+use lib.Dec.{leb}
 use borrow.Author.Tests.{leb-true, leb-false, le-leb, lt-leb}
-use Rattle.scene.specs.Limits.{limits}
-use Rattle.edges.specs.Edges.{width, joined}
-use Rattle.edges.specs.declared.Solid.{Solid}
-use Rattle.listing.specs.Hits.{View, Hit, Sound, upTo, edgeMask, pairHits, pairsAt, vertexHits}
-use Rattle.listing.specs.Pour.{Pours, poured, stepped, three, flat, partIn, allIn, maskHit, maskHits}
-use Rattle.laws.specs.Mask.{testBit}
-use Rattle.listing.specs.Laws.{bounded, only-most, pair-most, vertex-most, edge-hits, pair-edge, bitsLeft, left-test}
+use Rattle.scene.specs.declared.Solid.{Solid}
+use Rattle.listing.specs.Hits.{Seen, Hit, upTo, edgeMask, pairHits}
+use Rattle.listing.specs.Pour.{Pours, poured, stepped, three, flat, partIn, allIn, maskHits}
+use Rattle.listing.specs.Laws.{bounded, edge-hits, pair-edge}
 
 poured-append : (l m : List Hit) (d : List ℕ) (from seen : ℕ) → poured d from seen (l ++ m) ≡ poured (poured d from seen l) from (seen + length l) m
 unfolding poured
@@ -28,9 +25,6 @@ poured-append (h ∷ l) m d from seen =
 pub pours-none : (from seen : ℕ) (d : List ℕ) → Pours [] from seen d d seen
 unfolding poured
 pours-none from seen d = record { count = omega arith; held = refl; long = refl }
-
-pub pours-nothing : {l : List Hit} (from seen : ℕ) (d : List ℕ) → [] ≡ l → Pours l from seen d d seen
-pours-nothing from seen d e = rw (← e) (pours-none from seen d)
 
 pub pours-same : {l m : List Hit} {from seen r : ℕ} {d d₁ : List ℕ} → l ≡ m → Pours l from seen d d₁ r → Pours m from seen d d₁ r
 pours-same e p = rw (← e) p
@@ -60,47 +54,15 @@ pours-all g {i} {n} a b p = let e : i ≡ n = omega arith in rw e at p
 pub reached : (g : ℕ → List Hit) (b i : ℕ) {from seen : ℕ} {d d₁ : List ℕ} {r : ℕ} → ((j : ℕ) → length (g j) ≤ b) → Pours (upTo g i) from seen d d₁ r → r ≤ seen + i * b
 reached g b i h p = omega (arith, p .count, bounded g b i h)
 
-pub mask-reached : (word u v first i : ℕ) {from seen : ℕ} {d d₁ : List ℕ} {r : ℕ} →
-    Pours (upTo (λ j. maskHit (testBit word j) u v (first + 1 + j)) i) from seen d d₁ r → r ≤ seen + i
-mask-reached word u v first i p =
-    omega (arith, reached (λ j. maskHit (testBit word j) u v (first + 1 + j)) 1 i (λ j. only-most (testBit word j) _ 1 (omega arith)) p)
-
 -- ---- one hit, or none
-
-pub pours-hit : (h : Hit) (from seen : ℕ) {d d₁ : List ℕ} → d₁ ≡ stepped d from seen h → length d₁ ≡ length d → Pours (h ∷ []) from seen d d₁ (seen + 1)
-unfolding poured
-pours-hit h from seen e l = record { count = refl; held = e; long = l }
-
-pub pours-yes : {b : Bool} (u v f from seen : ℕ) {x y z : ℕ} {d d₁ : List ℕ} → b ≡ true → x ≡ u → y ≡ v → z ≡ f
-    → d₁ ≡ stepped d from seen (record { low = x; high = y; face = z }) → length d₁ ≡ length d → Pours (maskHit b u v f) from seen d d₁ (seen + 1)
-pours-yes u v f from seen t ex ey ez e l = rw t (pours-hit _ from seen (e ∙ rw (ex, ey, ez)) l)
-
-pub pours-no : {b : Bool} (u v f from seen : ℕ) (d : List ℕ) → b ≡ false → Pours (maskHit b u v f) from seen d d seen
-pours-no u v f from seen d t = rw t (pours-none from seen d)
-
-pub pours-told : {b t : Bool} (u v f : ℕ) {from seen r : ℕ} {d d₁ : List ℕ} → b ≡ t → Pours (maskHit b u v f) from seen d d₁ r → Pours (maskHit t u v f) from seen d d₁ r
-pours-told u v f e p = rw (← e) p
 
 -- ---- a pair of points, and one more of those from u on
 
-module _ (s : View) (k : Solid) where
+module _ (s : Seen) (k : Solid) where
   -- w is its mask
   pub pours-edge : (u v : ℕ) {b : Bool} {w from seen r : ℕ} {d d₁ : List ℕ} → w ≡ edgeMask s k u v → b ≡ true → u < v →
       Pours (maskHits w u v (k .other) (k .others)) from seen d d₁ r → Pours (pairHits s k u v b) from seen d d₁ r
   pours-edge u v e t h p = pours-same (edge-hits s k u v e ∙ pair-edge s k u v h t) p
-
-  pub pairs-reached : Sound s k → (u m : ℕ) {from seen r : ℕ} {d d₁ : List ℕ} → Pours (upTo (pairsAt s k u) m) from seen d d₁ r → r ≤ seen + m * limits .mostFaces
-  pairs-reached sound u m p =
-      reached (pairsAt s k u) (limits .mostFaces) m (λ j. pair-most s k sound u (k .low + 1 + j) (joined (s .face) k u (k .low + 1 + j))) p
-
-  pub pours-pair : (u m : ℕ) {w from seen r : ℕ} {d d₁ : List ℕ} → m < width → w ≡ bitsLeft s k u m →
-      Pours (pairHits s k u (k .low + 1 + m) (eqb (w % 2) 1)) from seen d d₁ r → Pours (pairsAt s k u m) from seen d d₁ r
-  pours-pair u m h e p = pours-same (ap (pairHits s k u (k .low + 1 + m)) (left-test s k u m h e)) p
-
-  pub vertices-reached : Sound s k → (i : ℕ) {from seen r : ℕ} {d d₁ : List ℕ} → Pours (upTo (λ j. vertexHits s k (k .low + 1 + j)) i) from seen d d₁ r →
-      r ≤ seen + i * (limits .mostVertices * limits .mostFaces)
-  vertices-reached sound i p =
-      reached (λ j. vertexHits s k (k .low + 1 + j)) (limits .mostVertices * limits .mostFaces) i (λ j. vertex-most s k sound (k .low + 1 + j)) p
 
 -- ---- in closed form
 
@@ -125,15 +87,6 @@ laid-sets d p vs m h =
     ap (λ (l : List ℕ). l ++ m ++ drop (n + length m) (sets d p vs)) t ∙ ap (λ (l : List ℕ). front ++ m ++ l) r
     ∙ ap (λ (l : List ℕ). l ++ drop (n + length m) d) (append-assoc (take p d) vs m)
     ∙ ap (λ (x : ℕ). take p d ++ (vs ++ m) ++ drop x d) q
-
-length-stepped : (d : List ℕ) (from seen : ℕ) (h : Hit) → length (stepped d from seen h) ≡ length d
-unfolding stepped
-length-stepped d from seen h = go (leb from seen) (leb (3 * (seen - from) + 3) (length d))
-  where
-    go : (a b : Bool) → length (cond a (cond b (sets d (3 * (seen - from)) (three h)) d) d) ≡ length d
-    go true true = length-sets d (3 * (seen - from)) (three h)
-    go true false = refl
-    go false b = refl
 
 -- how many more hits have room
 abbrev room : List ℕ → ℕ → ℕ → ℕ

@@ -15,4 +15,3 @@ pub mod Settled
 pub mod Slide
 pub mod Weighted
 pub mod Rules
-pub mod Marked

@@ -1,12 +1,12 @@
 // Any one record of an accepted scene: the caller's own bytes from its mark to its last byte.
 ghost use mathlib.Core.Path.{_≡_};
-ghost use Prim.Native.Nat.{_+_, _≤_, _<_};
+ghost use Prim.Native.Nat.{_+_, _≤_};
 ghost use lib.ListN.{length};
-ghost use Rattle.scene.specs.Records.{faceStart, lengthOf, lastRecord};
+ghost use Rattle.scene.specs.Records.{lengthOf, lastRecord};
 ghost use Rattle.record.specs.Shown.{part, partAt, shown, refusal};
 use judge::Judged;
 use scene::Refusal;
-use scene::read::byte;
+use scene::offsets;
 
 // None (accepted), the scene's own refusal, or 11 for a record that the scene lacks.
 pub fn record_refusal(s: &[u8], k: usize) -> Judged
@@ -15,7 +15,7 @@ pub fn record_refusal(s: &[u8], k: usize) -> Judged
     if let Judged::Refused(r) = judge::judge(s) {
         return Judged::Refused(r);
     }
-    if k > 2 + (byte(s, 2) + byte(s, 4)) + (byte(s, 3) + byte(s, 5)) {
+    if k > offsets::last_record(s) {
         return Judged::Refused(Refusal::Lacking);
     }
     Judged::Accepted
@@ -29,20 +29,13 @@ fn part(s: &[u8], a: usize, n: usize) -> &[u8]
     &s[a..a + n]
 }
 
-fn face_start(s: &[u8], i: usize) -> usize
-    requires { ⌜ i < 1024 ⌝ }
-    ensures { λ r. ⌜ r ≡ faceStart (now (s .entry)) i ⌝ }
-{
-    15 + (byte(s, 2) + byte(s, 4)) * 9 + i * 5
-}
-
 // Record k, from 0 (SC) to the last (EN), of a scene whose length is right.
 fn record_at(s: &[u8], k: usize) -> &[u8]
     requires { ⌜ (length (now s) ≡ lengthOf (now s)) × (k ≤ lastRecord (now s)) ⌝ }
     ensures { λ r. ⌜ now r ≡ partAt (now (s .entry)) k ⌝ }
 {
-    let v = 2 + (byte(s, 2) + byte(s, 4));
-    let n = byte(s, 3) + byte(s, 5);
+    let v = 2 + offsets::vertices(s);
+    let n = offsets::faces(s);
     if k == 0 {
         return part(s, 0, 6);
     }
@@ -50,9 +43,9 @@ fn record_at(s: &[u8], k: usize) -> &[u8]
         return part(s, 6 + (k - 1) * 9, 9);
     }
     if k < v + n {
-        return part(s, face_start(s, k - v), 5);
+        return part(s, offsets::face_start(s, k - v), 5);
     }
-    part(s, face_start(s, n), 2)
+    part(s, offsets::face_start(s, n), 2)
 }
 
 // Record k, or no bytes where it is refused.

@@ -20,7 +20,8 @@ use Rattle.judge.specs.declared.Judged.the-variants.{Accepted}
 use Rattle.rules.specs.TableRules.{RowOk, TableOk, TablesOk, Marked, Fit}
 use Rattle.rules.specs.Accepted.{accepted}
 use Rattle.rules.specs.Bridge.{by-tables}
-use Rattle.rules.specs.Write.{two, unsigned, pointBytes, faceBytes, header, bytesOf}
+use Rattle.scene.specs.Write.{two, unsigned}
+use Rattle.rules.specs.Write.{pointBytes, faceBytes, header, bytesOf}
 use Rattle.rules.specs.Held.{Held, all-give}
 use Rattle.rules.specs.Written.{Bytes, file-length, accepted-written}
 use Rattle.rules.specs.ReadBack.{read-mark, far-stands, end-stands, a-rows, b-rows, a-faces, b-faces, read-back}

@@ -80,12 +80,6 @@ module _ (l : Limits) (s : List ℕ) (ok : judgedAt l s ≡ Accepted) where
   pub counts : CountsOk l s
   counts = rules .header .counts
 
-  pub points-most : points (tablesOf s) ≤ mostPoints l
-  points-most = omega (arith, points-are s, counts .vertices-a, counts .vertices-b)
-
-  pub points-least : 2 * l .leastVertices + 1 ≤ points (tablesOf s)
-  points-least = omega (arith, points-are s, counts .vertices-a, counts .vertices-b)
-
   -- ---- rows
 
   row-rules : (j : ℕ) → j ≤ verts s → RecordOk l s (j + 1)

@@ -5,7 +5,7 @@ use Prim.Native.Nat.{ℕ, _≤_, _<_}
 use Rattle.scene.specs.Limits.{Limits}
 use Rattle.scene.specs.Records.{verts, faces, faceRecord, lastRecord}
 use Rattle.scene.specs.declared.Refusal.{Refusal}
-use Rattle.scene.specs.declared.Refusal.the-variants.{Opening, Counts, Length, Mark, Coordinate, Weight, Corner, Unused, Edge, Room, Lacking, Same, Nowhere}
+use Rattle.scene.specs.declared.Refusal.the-variants.{Opening, Counts, Length, Mark, Coordinate, Weight, Corner, Unused, Edge, Room, Lacking, Same, Buffer, Nowhere}
 use Rattle.rules.specs.Rules.{Opens, CountsOk, LengthOk, HeaderOk, MarkOk, CoordinatesOk, WeightOk, SomewhereOk, CornersOk, RecordOk, RecordsOk, Used, AllUsed, SidesOk}
 
 -- the order of checking comes to record k: the header and every record before it keep their rules
@@ -31,7 +31,7 @@ pub record AtFace (l : Limits) (s : List ℕ) (i : ℕ) : Type 0 where
   pub to : i < faces s
   pub earlier : (j : ℕ) → j < i → SidesOk s j
 
--- refusals 10, 11 and 12 are never given to a scene
+-- refusals 10 to 13 are never given to a scene
 abbrev pub Grounds : Limits → List ℕ → Refusal → Type 0
 Grounds l s Opening = ¬ Opens s
 Grounds l s Counts = Opens s × ¬ CountsOk l s
@@ -46,3 +46,4 @@ Grounds l s (Edge k) = (i : ℕ) × (k ≡ faceRecord s i) × AtFace l s i × ¬
 Grounds l s (Room p) = ⊥
 Grounds l s Lacking = ⊥
 Grounds l s Same = ⊥
+Grounds l s (Buffer p) = ⊥

@@ -5,7 +5,7 @@ use mathlib.Core.Bool.{Bool, true, false}
 use Prim.Native.Nat.{ℕ, suc, _≤_, _<_}
 use native.Mathlib.Omega.{arith}
 use Rattle.scene.specs.declared.Refusal.{Refusal}
-use Rattle.scene.specs.declared.Refusal.the-variants.{Opening, Counts, Length, Mark, Coordinate, Weight, Corner, Unused, Edge, Room, Lacking, Same, Nowhere}
+use Rattle.scene.specs.declared.Refusal.the-variants.{Opening, Counts, Length, Mark, Coordinate, Weight, Corner, Unused, Edge, Room, Lacking, Same, Buffer, Nowhere}
 use Rattle.judge.specs.Judge.{rule, andThen, firstFault}
 use Rattle.judge.specs.declared.Judged.{Judged}
 use Rattle.judge.specs.declared.Judged.the-variants.{Accepted, Refused}
@@ -27,6 +27,7 @@ turnOf (Edge p) = 10
 turnOf (Room p) = 11
 turnOf Lacking = 12
 turnOf Same = 13
+turnOf (Buffer p) = 14
 
 -- j refuses, if it does, at a turn from low to high
 abbrev pub Gives : (low high : ℕ) → Judged → Type 0

@@ -3,24 +3,21 @@ use mathlib.Core.Path.{_≡_, refl, ap, _∙_}
 use mathlib.Core.List.{List, _++_, flatMap}
 use Prim.Native.Nat.{ℕ, _+_, _-_, _/_, _%_, _<_}
 use native.Mathlib.Omega.{arith}
-use lib.IntN.{ℤ, pos, negsuc, natAbs}
+use lib.IntN.{ℤ, natAbs}
 use lib.ListN.{length, getD}
 use Rattle.laws.specs.Lists.{Each, run}
 use Rattle.scene.specs.Limits.{Limits}
 use Rattle.scene.specs.Bytes.{twoAt, coordinateAt, weightAt, signed}
 use Rattle.scene.specs.Records.{faces, pointStart, faceStart, endStart, markFP, markVX, markEN}
 use Rattle.scene.specs.Tables.{Tables, size, rowAt, faceAt, cornerAt, tablesOf}
-use Rattle.scene.specs.Signed.{signed-low, signed-high}
 use Rattle.scene.specs.Faces.{FaceOf}
 use Rattle.scene.specs.declared.Row.{Row}
 use Rattle.scene.specs.declared.Face.{Face}
 use Rattle.rules.specs.TableRules.{RowOk, TablesOk, Fit}
-use Rattle.rules.specs.Write.{two, unsigned, pointBytes, faceBytes, header, bytesOf}
+use Rattle.scene.specs.Write.{two, unsigned}
+use Rattle.scene.specs.Written.{signed-unsigned}
+use Rattle.rules.specs.Write.{pointBytes, faceBytes, header, bytesOf}
 use Rattle.rules.specs.Held.{Held, left, right, byte-of, itself, length-all, all-read}
-
-signed-unsigned : (h : ℕ) (z : ℤ) → natAbs z < h → signed h (unsigned h z) ≡ z
-signed-unsigned h (pos n) l = signed-low h n l
-signed-unsigned h (negsuc n) l = signed-high h (h + h - 1 - n) (omega arith) ∙ ap negsuc (omega arith)
 
 read-two : {s l : List ℕ} {k : ℕ} (n i : ℕ) → Held s k l → i + 1 < length l → getD l i 0 ≡ n % 256 → getD l (i + 1) 0 ≡ n / 256 → twoAt s (k + i) ≡ n
 unfolding twoAt

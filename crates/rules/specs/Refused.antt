@@ -2,7 +2,7 @@
 use mathlib.Core.Path.{_≡_, refl, sym, subst}
 use mathlib.Core.Logic.{_↔_, Iff·trans, Iff·and}
 use mathlib.Core.List.{List}
-use Prim.Native.Nat.{ℕ, _+_, _≤_}
+use Prim.Native.Nat.{ℕ, _+_, _≤_, _<_}
 use native.Mathlib.Omega.{arith}
 use lib.Dec.{eqb}
 use lib.ListN.{length}
@@ -10,7 +10,7 @@ use Rattle.laws.specs.Decides.{eqb-iff, fails-iff}
 use Rattle.scene.specs.Limits.{Limits}
 use Rattle.scene.specs.Records.{verts, faces, lastRecord, lengthOf}
 use Rattle.scene.specs.declared.Refusal.{Refusal}
-use Rattle.scene.specs.declared.Refusal.the-variants.{Opening, Counts, Length, Mark, Coordinate, Weight, Corner, Unused, Edge, Room, Lacking, Same, Nowhere}
+use Rattle.scene.specs.declared.Refusal.the-variants.{Opening, Counts, Length, Mark, Coordinate, Weight, Corner, Unused, Edge, Room, Lacking, Same, Buffer, Nowhere}
 use Rattle.judge.specs.Judge.{rule, judgedAt, opens, countsOk, headerFault, recordFault, recordsFault, unusedFault, unusedsFault, edgeFault, edgesFault}
 use Rattle.judge.specs.declared.Judged.{Judged}
 use Rattle.judge.specs.declared.Judged.the-variants.{Accepted, Refused}
@@ -179,6 +179,9 @@ module _ (l : Limits) (s : List ℕ) where
 
   -- ---- the table
 
+  never-given : (r : Refusal) → 10 < turnOf r → (judgedAt l s ≡ Refused r) ↔ ⊥
+  never-given r h = (λ e. let g = refused-by l s r e in omega arith, absurd)
+
   pub refused : (r : Refusal) → (judgedAt l s ≡ Refused r) ↔ Grounds l s r
   refused Opening = refused-1
   refused Counts = refused-2
@@ -191,6 +194,7 @@ module _ (l : Limits) (s : List ℕ) where
       at-record Corner (λ k. MarkOk s k × (CoordinatesOk l s k × (WeightOk l s k × (SomewhereOk s k × ¬ CornersOk s k)))) (λ p. omega arith) (record-corner l s) k
   refused (Unused p) = refused-8 p
   refused (Edge k) = refused-9 k
-  refused (Room p) = (λ e. let h = refused-by l s _ e in omega arith, absurd)
-  refused Lacking = (λ e. let h = refused-by l s _ e in omega arith, absurd)
-  refused Same = (λ e. let h = refused-by l s _ e in omega arith, absurd)
+  refused (Room p) = never-given (Room p) (omega arith)
+  refused Lacking = never-given Lacking (omega arith)
+  refused Same = never-given Same (omega arith)
+  refused (Buffer p) = never-given (Buffer p) (omega arith)

@@ -2,30 +2,23 @@
 use mathlib.Core.Path.{_≡_, refl, sym, ap, _∙_}
 use mathlib.Core.List.{List, [], _∷_, _++_, flatMap}
 use Prim.Native.Nat.{ℕ, suc, _+_, _*_, _≤_, _<_}
-use native.Mathlib.Decide.{decLt}
 use native.Mathlib.Omega.{arith}
 use lib.ListN.{length, length-append}
 use Rattle.laws.specs.Lists.{run, length-run}
 use Rattle.scene.specs.Limits.{Limits}
-use Rattle.scene.specs.Bytes.{byteAt, twoAt, coordinateAt, weightAt, signed}
+use Rattle.scene.specs.Bytes.{byteAt, twoAt, coordinateAt, weightAt}
 use Rattle.scene.specs.Records.{vertsA, vertsB, verts, facesA, facesB, faces, pointStart, faceStart, endStart, markSC, markFP, markVX, markFC, markEN}
 use Rattle.scene.specs.Tables.{Tables, size, rowAt, faceAt, cornerAt, tablesOf}
 use Rattle.scene.specs.Read.{size-a, size-b}
-use Rattle.scene.specs.Signed.{signed-low, signed-high}
 use Rattle.judge.specs.Judge.{judgedAt}
 use Rattle.judge.specs.declared.Judged.the-variants.{Accepted}
 use Rattle.rules.specs.TableRules.{Marked}
 use Rattle.rules.specs.Accepted.{accepted}
 use Rattle.rules.specs.Bridge.{by-tables}
-use Rattle.rules.specs.Write.{two, unsigned, pointBytes, faceBytes, header, bytesOf}
+use Rattle.scene.specs.Write.{two, unsigned}
+use Rattle.scene.specs.Written.{unsigned-signed}
+use Rattle.rules.specs.Write.{pointBytes, faceBytes, header, bytesOf}
 use Rattle.rules.specs.Held.{Held, join, whole, length-all, all-held}
-
-unsigned-signed : (h n : ℕ) → n < h + h → unsigned h (signed h n) ≡ n
-unsigned-signed h n l = go (decLt n h)
-  where
-    go : Dec (n < h) → unsigned h (signed h n) ≡ n
-    go (yes k) = ap (unsigned h) (signed-low h n k)
-    go (no k) = ap (unsigned h) (signed-high h n (omega arith)) ∙ omega arith
 
 -- the elements are bytes
 abbrev pub Bytes : List ℕ → Type 0

@@ -3,8 +3,12 @@ pub mod Bytes
 pub mod Records
 pub mod Refusal
 pub mod Tables
+pub mod View
 pub mod Arrays
 pub mod Faces
 pub mod Decode
 pub mod Signed
 pub mod Read
+pub mod Write
+pub mod Negative
+pub mod Written

@@ -1,5 +1,7 @@
 -- The limits of a scene. `limits` are those of the scene type in the code: `limits_agree` ties the two. Assumes nothing.
 use Prim.Native.Nat.{ℕ, zero, suc, _+_, _*_}
+use mathlib.Core.Bool.{Bool, _&&_}
+use lib.Dec.{leb}
 
 pub record Limits : Type 0 where
   pub leastVertices : ℕ
@@ -27,3 +29,7 @@ longest l = 17 + 9 * (2 * l .mostVertices) + 5 * (2 * l .mostFaces)
 abbrev pub leastWeight : ℕ → ℕ
 leastWeight zero = 0
 leastWeight (suc j) = 1
+
+-- a number within limits
+unfoldable pub within : ℕ → ℕ → ℕ → Bool
+within low high n = leb low n && leb n high

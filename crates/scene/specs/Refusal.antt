@@ -1,7 +1,7 @@
 -- The number and the place of a refusal, as document 01 has them. Assumes nothing.
 use Prim.Native.Nat.{ℕ}
 use Rattle.scene.specs.declared.Refusal.{Refusal}
-use Rattle.scene.specs.declared.Refusal.the-variants.{Opening, Counts, Length, Mark, Coordinate, Weight, Corner, Unused, Edge, Room, Lacking, Same, Nowhere}
+use Rattle.scene.specs.declared.Refusal.the-variants.{Opening, Counts, Length, Mark, Coordinate, Weight, Corner, Unused, Edge, Room, Lacking, Same, Buffer, Nowhere}
 
 abbrev pub numberOf : Refusal → ℕ
 numberOf Opening = 1
@@ -16,6 +16,7 @@ numberOf (Edge p) = 9
 numberOf (Room p) = 10
 numberOf Lacking = 11
 numberOf Same = 12
+numberOf (Buffer p) = 13
 numberOf (Nowhere p) = 14
 
 abbrev pub placeOf : Refusal → ℕ
@@ -31,4 +32,5 @@ placeOf (Edge p) = p
 placeOf (Room p) = p
 placeOf Lacking = 0
 placeOf Same = 0
+placeOf (Buffer p) = p
 placeOf (Nowhere p) = p

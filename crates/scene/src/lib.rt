@@ -1,10 +1,12 @@
 // The scene file of two solids and a far point: its limits, its refusals, and what its bytes denote.
 ghost use mathlib.Core.Path.{_≡_};
-ghost use Rattle.scene.specs.Limits.{limits, mostPoints, longest};
+ghost use Rattle.scene.specs.Limits.{limits, within, mostPoints, longest};
 ghost use Rattle.scene.specs.Refusal.{numberOf, placeOf};
 
 pub mod decode;
+pub mod offsets;
 pub mod read;
+pub mod write;
 
 // The header's counts.
 pub struct Scene {
@@ -63,6 +65,7 @@ pub enum Refusal {
     Room(usize),
     Lacking,
     Same,
+    Buffer(usize),
     Nowhere(usize),
 }
 
@@ -82,6 +85,7 @@ pub fn number(r: Refusal) -> usize
         Refusal::Room(_) => 10,
         Refusal::Lacking => 11,
         Refusal::Same => 12,
+        Refusal::Buffer(_) => 13,
         Refusal::Nowhere(_) => 14,
     }
 }
@@ -102,6 +106,7 @@ pub fn place(r: Refusal) -> usize
         Refusal::Room(p) => p,
         Refusal::Lacking => 0,
         Refusal::Same => 0,
+        Refusal::Buffer(p) => p,
         Refusal::Nowhere(p) => p,
     }
 }
@@ -121,6 +126,17 @@ pub struct Face {
     pub r: usize,
 }
 
+// A solid: its vertices are the points above low, `verts` of them; its faces are those above first, `count` of them; and the other solid's are those
+// above other, `others` of them.
+pub struct Solid {
+    pub low: usize,
+    pub verts: usize,
+    pub first: usize,
+    pub count: usize,
+    pub other: usize,
+    pub others: usize,
+}
+
 // A scene's rows and corners, decoded once.
 pub type Rows = [i64; Scene::ROWS];
 
@@ -133,3 +149,13 @@ pub fn limits_agree()
     ensures numbers { λ r. do ⌜ ((← ⟦Scene::MOST_COORDINATE⟧ .entry) ≡ limits .mostCoordinate) × ((← ⟦Scene::MOST_WEIGHT⟧ .entry) ≡ limits .mostWeight) ⌝ }
     ensures sizes { λ r. do ⌜ ((← ⟦Scene::MOST_POINTS⟧ .entry) ≡ mostPoints limits) × ((← ⟦Scene::LONGEST⟧ .entry) ≡ longest limits) ⌝ }
 {}
+
+// A number within limits: of a count, a weight, a corner, or a number that a scene has.
+pub fn is_within(low: usize, high: usize, n: usize) -> bool
+    ensures { λ r. ⌜ r ≡ within low high n ⌝ }
+{
+    if n < low {
+        return false;
+    }
+    n <= high
+}

@@ -4,9 +4,11 @@ ghost use Prim.Native.Nat.{_<_};
 ghost use Rattle.scene.specs.Bytes.{byteAt, twoAt, coordinateAt, weightAt};
 ghost use Rattle.scene.specs.Records.{countsOf};
 ghost use Rattle.scene.specs.Tables.{tablesOf, row, face, rowAt, faceAt};
+ghost use Rattle.scene.specs.View.{viewOf, solid};
 use crate::Face;
 use crate::Row;
 use crate::Scene;
+use crate::Solid;
 
 // The byte at i, or 0 past the end.
 pub fn byte(s: &[u8], i: usize) -> usize
@@ -51,13 +53,40 @@ fn weight(s: &[u8], i: usize) -> i64
 
 // The header's counts, whatever the bytes.
 pub fn counts(s: &[u8]) -> Scene
-    ensures { λ r. ⌜ r ≡ countsOf (now (s .entry)) ⌝ }
+    ensures is { λ r. ⌜ r ≡ countsOf (now (s .entry)) ⌝ }
+    ensures small { λ r. ⌜ (r .«vertices_a» < 256) × (r .«faces_a» < 256) × (r .«vertices_b» < 256) × (r .«faces_b» < 256) ⌝ }
 {
     Scene {
         vertices_a: byte(s, 2),
         faces_a: byte(s, 3),
         vertices_b: byte(s, 4),
         faces_b: byte(s, 5),
+    }
+}
+
+// Solid k, 1 for A and else B.
+pub fn solid(s: &[u8], k: usize) -> Solid
+    ensures is { λ r. ⌜ r ≡ solid (viewOf (now (s .entry))) k ⌝ }
+    ensures small { λ r. ⌜ (r .low < 256) × (r .verts < 256) × (r .first < 256) × (r .count < 256) ⌝ }
+{
+    let c = counts(s);
+    if k == 1 {
+        return Solid {
+            low: 0,
+            verts: c.vertices_a,
+            first: 0,
+            count: c.faces_a,
+            other: c.faces_a,
+            others: c.faces_b,
+        };
+    }
+    Solid {
+        low: c.vertices_a,
+        verts: c.vertices_b,
+        first: c.faces_a,
+        count: c.faces_b,
+        other: 0,
+        others: c.faces_a,
     }
 }
 

@@ -1,6 +1,5 @@
 -- A refused record has no bytes; any other is shown.
-use Rattle.record.specs.Cases.{has-record}
-use Rattle.record.specs.Cases.{shown-none, shown-all, long-enough}
+use Rattle.record.specs.Cases.{has-record, shown-none, shown-all, long-enough}
 use borrow.Author.Needs.{needs}
 use Rattle.record.proofs.record.Statement.{statement}
 use Rattle.record.proofs.record.Tie as tie

@@ -5,26 +5,14 @@ use borrow.Author.Needs.{needs}
 use Rattle.record.proofs.record_at.Statement.{statement}
 use Rattle.record.proofs.record_at.Tie as tie
 
-byte-requires : tie.Need-byte-requires
-byte-requires c κs = search needs
-
-byte-requires-2 : tie.Need-byte-requires-2
-byte-requires-2 c κs = search needs
+vertices-requires : tie.Need-vertices-requires
+vertices-requires c κs = search needs
 
 add-v : tie.Need-add-v
 add-v c = search needs
 
-add-v-2 : tie.Need-add-v-2
-add-v-2 c = search needs
-
-byte-requires-3 : tie.Need-byte-requires-3
-byte-requires-3 c κs = search needs
-
-byte-requires-4 : tie.Need-byte-requires-4
-byte-requires-4 c κs = search needs
-
-add-n : tie.Need-add-n
-add-n c = search needs
+faces-requires : tie.Need-faces-requires
+faces-requires c κs = search needs
 
 part-requires : tie.Need-part-requires
 part-requires c κs = search needs
@@ -72,13 +60,9 @@ pub record-at-spec : {M : Type 1} → statement M
 record-at-spec =
     tie.close
     (tie.spec
-    byte-requires
-    byte-requires-2
+    vertices-requires
     add-v
-    add-v-2
-    byte-requires-3
-    byte-requires-4
-    add-n
+    faces-requires
     part-requires
     returns
     sub-part

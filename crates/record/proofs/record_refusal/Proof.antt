@@ -20,39 +20,18 @@ returns c = search not-judged
 enum-told : tie.Need-enum-told
 enum-told c = search needs
 
-byte-requires : tie.Need-byte-requires
-byte-requires c κs = search needs
-
-byte-requires-2 : tie.Need-byte-requires-2
-byte-requires-2 c κs = search needs
-
-add-if1 : tie.Need-add-if1
-add-if1 c = search needs
-
-add-if1-2 : tie.Need-add-if1-2
-add-if1-2 c = search needs
-
-byte-requires-3 : tie.Need-byte-requires-3
-byte-requires-3 c κs = search needs
-
-byte-requires-4 : tie.Need-byte-requires-4
-byte-requires-4 c κs = search needs
-
-add-if1-3 : tie.Need-add-if1-3
-add-if1-3 c = search needs
-
-add-if1-4 : tie.Need-add-if1-4
-add-if1-4 c = search needs
+last-record-requires : tie.Need-last-record-requires
+last-record-requires c κs = search needs
 
 returns-2 : tie.Need-returns-2
 returns-2 c =
-    let a = c .before .before .before .before .before .before .before .before .before .args in
+    let a = c .before .before .before .before .before .before .args in
     let h : lastRecord (now (a .s)) < a .k = omega arith in
     search lacking
 
 returns-3 : tie.Need-returns-3
 returns-3 c =
-    let a = c .before .before .before .before .before .before .before .before .before .args in
+    let a = c .before .before .before .before .before .before .args in
     let h : a .k ≤ lastRecord (now (a .s)) = omega arith in
     search had
 
@@ -64,13 +43,6 @@ record-refusal-spec =
     enum-known-r
     returns
     enum-told
-    byte-requires
-    byte-requires-2
-    add-if1
-    add-if1-2
-    byte-requires-3
-    byte-requires-4
-    add-if1-3
-    add-if1-4
+    last-record-requires
     returns-2
     returns-3)

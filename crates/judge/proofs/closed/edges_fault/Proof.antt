@@ -14,14 +14,8 @@ Inv-loop s wa wb n i₀ i = firstFault (edgeFault s) i n ≡ edgesFault s
 abbrev μ-loop : tie.MeasureT-loop
 μ-loop s wa wb n i₀ i = n - i
 
-byte-requires : tie.Need-byte-requires Inv-loop μ-loop
-byte-requires c κs = search loops
-
-byte-requires-2 : tie.Need-byte-requires-2 Inv-loop μ-loop
-byte-requires-2 c κs = search loops
-
-add-n : tie.Need-add-n Inv-loop μ-loop
-add-n c = search loops
+faces-requires : tie.Need-faces-requires Inv-loop μ-loop
+faces-requires c κs = search loops
 
 loop-holds : tie.Need-loop-holds Inv-loop μ-loop
 unfolding edgesFault
@@ -29,7 +23,7 @@ loop-holds c = first-to _ 0 (omega arith)
 
 edge-fault-requires : tie.Need-edge-fault-requires Inv-loop μ-loop
 edge-fault-requires c κs =
-    let d = c .before .before .before .before .before in
+    let d = c .before .before .before .before in
     ((omega arith, d .pre .0 _ (omega arith)), d .pre .1)
 
 enum-known-r : tie.Need-enum-known-r Inv-loop μ-loop
@@ -59,9 +53,7 @@ edges-fault-spec =
     (tie.spec
     Inv-loop
     μ-loop
-    byte-requires
-    byte-requires-2
-    add-n
+    faces-requires
     loop-holds
     edge-fault-requires
     enum-known-r

@@ -14,14 +14,8 @@ Inv-loop s ua ub n p₀ p = firstFault (unusedFault s) p (n + 1) ≡ unusedsFaul
 abbrev μ-loop : tie.MeasureT-loop
 μ-loop s ua ub n p₀ p = n + 1 - p
 
-byte-requires : tie.Need-byte-requires Inv-loop μ-loop
-byte-requires c κs = search loops
-
-byte-requires-2 : tie.Need-byte-requires-2 Inv-loop μ-loop
-byte-requires-2 c κs = search loops
-
-add-n : tie.Need-add-n Inv-loop μ-loop
-add-n c = search loops
+vertices-requires : tie.Need-vertices-requires Inv-loop μ-loop
+vertices-requires c κs = search loops
 
 loop-holds : tie.Need-loop-holds Inv-loop μ-loop
 unfolding unusedsFault
@@ -32,7 +26,7 @@ add-loop c = search loops
 
 unused-fault-requires : tie.Need-unused-fault-requires Inv-loop μ-loop
 unused-fault-requires c κs =
-    let d = c .before .before .before .before .before in
+    let d = c .before .before .before .before in
     (d .pre .0, (omega arith, d .pre .1 .0, d .pre .1 .1))
 
 enum-known-r : tie.Need-enum-known-r Inv-loop μ-loop
@@ -62,9 +56,7 @@ unuseds-fault-spec =
     (tie.spec
     Inv-loop
     μ-loop
-    byte-requires
-    byte-requires-2
-    add-n
+    vertices-requires
     loop-holds
     add-loop
     unused-fault-requires

@@ -3,14 +3,8 @@ use borrow.Author.Needs.{needs}
 use Rattle.judge.proofs.records.end_marked.Statement.{statement}
 use Rattle.judge.proofs.records.end_marked.Tie as tie
 
-byte-requires : tie.Need-byte-requires
-byte-requires c κs = search needs
-
-byte-requires-2 : tie.Need-byte-requires-2
-byte-requires-2 c κs = search needs
-
-add-face-start : tie.Need-add-face-start
-add-face-start c = search needs
+faces-requires : tie.Need-faces-requires
+faces-requires c κs = search needs
 
 face-start-requires : tie.Need-face-start-requires
 face-start-requires c κs = search needs
@@ -25,9 +19,7 @@ pub end-marked-spec : {M : Type 1} → statement M
 end-marked-spec =
     tie.close
     (tie.spec
-    byte-requires
-    byte-requires-2
-    add-face-start
+    faces-requires
     face-start-requires
     two-requires
     returns)

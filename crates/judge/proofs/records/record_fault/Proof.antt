@@ -7,17 +7,11 @@ use borrow.Author.Needs.{needs}
 use Rattle.judge.proofs.records.record_fault.Statement.{statement}
 use Rattle.judge.proofs.records.record_fault.Tie as tie
 
-byte-requires : tie.Need-byte-requires
-byte-requires c κs = search needs
-
-byte-requires-2 : tie.Need-byte-requires-2
-byte-requires-2 c κs = search needs
+vertices-requires : tie.Need-vertices-requires
+vertices-requires c κs = search needs
 
 add-v : tie.Need-add-v
 add-v c = search needs
-
-add-v-2 : tie.Need-add-v-2
-add-v-2 c = search needs
 
 sub-point-fault : tie.Need-sub-point-fault
 sub-point-fault c = search needs
@@ -47,10 +41,8 @@ pub record-fault-spec : {M : Type 1} → statement M
 record-fault-spec =
     tie.close
     (tie.spec
-    byte-requires
-    byte-requires-2
+    vertices-requires
     add-v
-    add-v-2
     sub-point-fault
     point-fault-requires
     returns

@@ -1,16 +1,13 @@
--- The scene is decoded once; both solids are ready, and what is counted of them is what the scene says.
-use Prim.Native.Nat.{_+_}
-use native.Mathlib.Omega.{arith}
-use mathlib.Core.Path.{sym, ap₂, _∙_}
-use lib.ListN.{length, length-append}
-use Rattle.listing.specs.Hits.{viewIn, solidHits, insideCount}
-use Rattle.listing.specs.Laws.{solid-most}
-use Rattle.kernel.specs.Scene.{viewOf, solidA, solidB}
-use borrow.Author.Needs.{needs}
+-- Both solids can be surveyed, and what is counted of them is what the scene says.
 use denote.Ref.{now}
-use Rattle.kernel.specs.Ready.{view-is, rows-fit, faces-fit, ready-a, ready-b, same-solid}
-use Rattle.kernel.specs.Answers.{countsIn}
-use Rattle.kernel.specs.Scene.{listingOf}
+use native.Mathlib.Omega.{arith}
+use lib.ListN.{length}
+use Rattle.scene.specs.View.{viewOf}
+use Rattle.listing.specs.Hits.{solidHits, insideCount}
+use Rattle.kernel.specs.Both.{room-for-both, counts-are}
+use Rattle.kernel.specs.Ready.{rows-fit, faces-fit, sound, decoded, found}
+use Rattle.kernel.specs.Surveys.{to-survey}
+use borrow.Author.Needs.{needs}
 use Rattle.kernel.proofs.counts.counts_of.Statement.{statement}
 use Rattle.kernel.proofs.counts.counts_of.Tie as tie
 
@@ -20,83 +17,46 @@ rows-requires c κs = rows-fit (now (c .before .args .s)) (c .before .pre)
 faces-requires : tie.Need-faces-requires
 faces-requires c κs = faces-fit (now (c .before .before .args .s)) (c .before .before .pre)
 
-points-of-requires : tie.Need-points-of-requires
-points-of-requires c κs = search needs
+points-requires : tie.Need-points-requires
+points-requires c κs = search needs
 
-solid-a-requires : tie.Need-solid-a-requires
-solid-a-requires c κs = search needs
+solid-requires : tie.Need-solid-requires
+solid-requires c κs = search needs
 
-solid-b-requires : tie.Need-solid-b-requires
-solid-b-requires c κs = search needs
+share-of-requires : tie.Need-share-of-requires
+share-of-requires c κs =
+    let s = c .before .before .before .before .before .before .before in
+    let b = now (s .args .s) in
+    let a = decoded b (c .before .before .before .before .before .rows .result) (c .before .before .before .before .faces .result) (c .before .before .before .points .ensures .0) (c .before .before .before .before .before .rows .ensures) (c .before .before .before .before .faces .ensures) in
+    to-survey a 1 (c .solid .ensures .0) (s .pre)
 
-count-solid-requires : tie.Need-count-solid-requires
-count-solid-requires c κs =
-    let d = c .before .before .before in
-    let s = d .before .before .before .before .before in
-    let v = view-is (now (s .args .s)) (d .before .points-of .result) (d .before .before .before .rows .result) (d .before .before .faces .result) (d .before .points-of .ensures) (d .before .before .before .rows .ensures) (d .before .before .faces .ensures) in
-    ready-a (now (s .args .s)) (s .pre) (d .before .points-of .result) (d .before .before .before .rows .result) (d .before .before .faces .result) v (d .solid-a .result) (d .solid-a .ensures)
+solid-requires-2 : tie.Need-solid-requires-2
+solid-requires-2 c κs = search needs
 
-count-solid-requires-2 : tie.Need-count-solid-requires-2
-count-solid-requires-2 c κs =
-    let d = c .before .before .before .before .before .before in
-    let s = d .before .before .before .before .before in
-    let v = view-is (now (s .args .s)) (d .before .points-of .result) (d .before .before .before .rows .result) (d .before .before .faces .result) (d .before .points-of .ensures) (d .before .before .before .rows .ensures) (d .before .before .faces .ensures) in
-    ready-b (now (s .args .s)) (s .pre) (d .before .points-of .result) (d .before .before .before .rows .result) (d .before .before .faces .result) v (c .before .before .before .before .before .solid-b .result) (c .before .before .before .before .before .solid-b .ensures)
+share-of-requires-2 : tie.Need-share-of-requires-2
+share-of-requires-2 c κs =
+    let s = c .before .before .before .before .before .before .before .before .before .before .before in
+    let b = now (s .args .s) in
+    let a = decoded b (c .before .before .before .before .before .before .before .before .before .rows .result) (c .before .before .before .before .before .before .before .before .faces .result) (c .before .before .before .before .before .before .before .points .ensures .0) (c .before .before .before .before .before .before .before .before .before .rows .ensures) (c .before .before .before .before .before .before .before .before .faces .ensures) in
+    to-survey a 2 (c .solid2 .ensures .0) (s .pre)
 
-add-t16 : tie.Need-add-t16
-add-t16 c =
-    let d = c .before .before .before .before .before .before .before in
-    let s = d .before .before .before .before .before in
-    let v = view-is (now (s .args .s)) (d .before .points-of .result) (d .before .before .before .rows .result) (d .before .before .faces .result) (d .before .points-of .ensures) (d .before .before .before .rows .ensures) (d .before .before .faces .ensures) in
-    omega (
-      arith,
-      c .before .before .before .count-solid .ensures,
-      c .count-solid2 .ensures,
-      solid-most (viewIn (d .before .points-of .result) (d .before .before .before .rows .result) (d .before .before .faces .result)) (d .solid-a .result) (ready-a (now (s .args .s)) (s .pre) (d .before .points-of .result) (d .before .before .before .rows .result) (d .before .before .faces .result) v (d .solid-a .result) (d .solid-a .ensures)),
-      solid-most (viewIn (d .before .points-of .result) (d .before .before .before .rows .result) (d .before .before .faces .result)) (c .before .before .before .before .before .before .solid-b .result) (ready-b (now (s .args .s)) (s .pre) (d .before .points-of .result) (d .before .before .before .rows .result) (d .before .before .faces .result) v (c .before .before .before .before .before .before .solid-b .result) (c .before .before .before .before .before .before .solid-b .ensures)),
-    )
-
-count-inside-requires : tie.Need-count-inside-requires
-count-inside-requires c κs =
-    let d = c .before .before .before .before .before .before .before .before .before in
-    let s = d .before .before .before .before .before in
-    let v = view-is (now (s .args .s)) (d .before .points-of .result) (d .before .before .before .rows .result) (d .before .before .faces .result) (d .before .points-of .ensures) (d .before .before .before .rows .ensures) (d .before .before .faces .ensures) in
-    ready-a (now (s .args .s)) (s .pre) (d .before .points-of .result) (d .before .before .before .rows .result) (d .before .before .faces .result) v (d .solid-a .result) (d .solid-a .ensures)
-
-count-inside-requires-2 : tie.Need-count-inside-requires-2
-count-inside-requires-2 c κs =
-    let d = c .before .before .before .before .before .before .before .before .before .before .before .before in
-    let s = d .before .before .before .before .before in
-    let v = view-is (now (s .args .s)) (d .before .points-of .result) (d .before .before .before .rows .result) (d .before .before .faces .result) (d .before .points-of .ensures) (d .before .before .before .rows .ensures) (d .before .before .faces .ensures) in
-    ready-b (now (s .args .s)) (s .pre) (d .before .points-of .result) (d .before .before .before .rows .result) (d .before .before .faces .result) v (c .before .before .before .before .before .before .before .before .before .before .before .solid-b .result) (c .before .before .before .before .before .before .before .before .before .before .before .solid-b .ensures)
+add-t15 : tie.Need-add-t15
+add-t15 c =
+    let s = c .before .before .before .before .before .before .before .before .before .before .before .before .before .before in
+    let b = now (s .args .s) in
+    let a = decoded b (c .before .before .before .before .before .before .before .before .before .before .before .before .rows .result) (c .before .before .before .before .before .before .before .before .before .before .before .faces .result) (c .before .before .before .before .before .before .before .before .before .before .points .ensures .0) (c .before .before .before .before .before .before .before .before .before .before .before .before .rows .ensures) (c .before .before .before .before .before .before .before .before .before .before .before .faces .ensures) in
+    let p = found a 1 (c .before .before .before .before .before .before .before .solid .ensures .0) (λ v k. length (solidHits v k)) (c .before .before .before .before .before .before .share-of .ensures .0) in
+    let q = found a 2 (c .before .before .before .solid2 .ensures .0) (λ v k. length (solidHits v k)) (c .before .before .share-of2 .ensures .0) in
+    omega (arith, room-for-both (viewOf b) p q (sound b (s .pre) 1) (sound b (s .pre) 2))
 
 returns : tie.Need-returns
-unfolding countsIn listingOf
 returns c =
-    let d = c .before .before .before .before .before .before .before .before .before .before .before .before .before in
-    let s = d .before .before .before .before .before in
-    let v = view-is (now (s .args .s)) (d .before .points-of .result) (d .before .before .before .rows .result) (d .before .before .faces .result) (d .before .points-of .ensures) (d .before .before .before .rows .ensures) (d .before .before .faces .ensures) in
-    let a = d .solid-a .ensures in
-    let b = c .before .before .before .before .before .before .before .before .before .before .before .before .solid-b .ensures in
-    let p = same-solid (λ v k. length (solidHits v k)) v a (c .before .before .before .before .before .before .before .before .before .count-solid .ensures) in
-    let q = same-solid (λ v k. length (solidHits v k)) v b (c .before .before .before .before .before .before .count-solid2 .ensures) in
-    let pairs = ap₂ _+_ p q ∙ sym (length-append (solidHits (viewOf (now (s .args .s))) (solidA (now (s .args .s)))) (solidHits (viewOf (now (s .args .s))) (solidB (now (s .args .s))))) in
-    let ab = same-solid insideCount v a (c .before .before .before .count-inside .ensures) in
-    let ba = same-solid insideCount v b (c .count-inside2 .ensures) in
-    λ i. record { pairs = pairs i; «a_in_b» = ab i; «b_in_a» = ba i }
+    let s = c .before .before .before .before .before .before .before .before .before .before .before .before .before .before in
+    let b = now (s .args .s) in
+    let a = decoded b (c .before .before .before .before .before .before .before .before .before .before .before .before .rows .result) (c .before .before .before .before .before .before .before .before .before .before .before .faces .result) (c .before .before .before .before .before .before .before .before .before .before .points .ensures .0) (c .before .before .before .before .before .before .before .before .before .before .before .before .rows .ensures) (c .before .before .before .before .before .before .before .before .before .before .before .faces .ensures) in
+    let p = found a 1 (c .before .before .before .before .before .before .before .solid .ensures .0) (λ v k. length (solidHits v k)) (c .before .before .before .before .before .before .share-of .ensures .0) in
+    let q = found a 2 (c .before .before .before .solid2 .ensures .0) (λ v k. length (solidHits v k)) (c .before .before .share-of2 .ensures .0) in
+    counts-are (viewOf b) p q (found a 1 (c .before .before .before .before .before .before .before .solid .ensures .0) insideCount (c .before .before .before .before .before .before .share-of .ensures .1)) (found a 2 (c .before .before .before .solid2 .ensures .0) insideCount (c .before .before .share-of2 .ensures .1))
 
 pub counts-of-spec : {M : Type 1} → statement M
-counts-of-spec =
-    tie.close
-    (tie.spec
-    rows-requires
-    faces-requires
-    points-of-requires
-    solid-a-requires
-    solid-b-requires
-    count-solid-requires
-    count-solid-requires-2
-    add-t16
-    count-inside-requires
-    count-inside-requires-2
-    returns)
+counts-of-spec = tie.close (tie.spec rows-requires faces-requires points-requires solid-requires share-of-requires solid-requires-2 share-of-requires-2 add-t15 returns)

@@ -1,13 +1,17 @@
--- The faults decide; else the count is answered.
-use Rattle.kernel.specs.declared.inside.Enclosing.the-variants.{Refused}
-use Rattle.kernel.specs.Inside.{insideOf, inside-accepted, count-so}
-use Rattle.kernel.specs.Laws.{refused-so, answered-so}
+-- The judge decides, then 11; else the count.
+use mathlib.Core.Path.{_≡_, ap}
+use denote.Ref.{now}
+use Rattle.judge.specs.Judge.{judged}
+use Rattle.judge.specs.declared.Judged.the-variants.{Accepted}
+use Rattle.kernel.specs.Answers.{insideFault, enclosingIn, insideOf}
+use Rattle.kernel.specs.Laws.{accepted-so, refused-so, own-refused, both-accept}
+use Rattle.kernel.specs.declared.inside.Enclosing.the-variants.{Refused, Count}
 use borrow.Author.Needs.{needs}
 use Rattle.kernel.proofs.inside.inside.Statement.{statement}
 use Rattle.kernel.proofs.inside.inside.Tie as tie
 
-inside-fault-requires : tie.Need-inside-fault-requires
-inside-fault-requires c κs = search needs
+judge-requires : tie.Need-judge-requires
+judge-requires c κs = search needs
 
 enum-known-r : tie.Need-enum-known-r
 enum-known-r c = search needs
@@ -19,14 +23,32 @@ returns c = search (refused-so Refused)
 enum-told : tie.Need-enum-told
 enum-told c = search needs
 
-inside-of-requires : tie.Need-inside-of-requires
-inside-of-requires c κs = search inside-accepted
+inside-fault-requires : tie.Need-inside-fault-requires
+inside-fault-requires c κs = search needs
+
+enum-known-r-2 : tie.Need-enum-known-r-2
+enum-known-r-2 c = search needs
 
 returns-2 : tie.Need-returns-2
-unfolding insideOf
-returns-2 c = search (answered-so, count-so)
+unfolding insideOf enclosingIn
+returns-2 c = search (own-refused Refused)
+
+enum-told-2 : tie.Need-enum-told-2
+enum-told-2 c = search needs
+
+inside-of-requires : tie.Need-inside-of-requires
+inside-of-requires c κs =
+    let s = c .before .before .before .before .before .before .before in
+    let ok : judged (now (s .args .s)) ≡ Accepted = search accepted-so in
+    ok
+
+returns-3 : tie.Need-returns-3
+unfolding insideOf enclosingIn
+returns-3 c =
+    let s = c .before .before .before .before .before .before .before .before in
+    let ok : judged (now (s .args .s)) ≡ Accepted = search accepted-so in
+    let h : insideFault (s .args .k) ≡ Accepted = search accepted-so in
+    both-accept Refused _ ok h (ap Count (c .inside-of .ensures))
 
 pub inside-spec : {M : Type 1} → statement M
-inside-spec =
-    tie.close
-    (tie.spec inside-fault-requires enum-known-r returns enum-told inside-of-requires returns-2)
+inside-spec = tie.close (tie.spec judge-requires enum-known-r returns enum-told inside-fault-requires enum-known-r-2 returns-2 enum-told-2 inside-of-requires returns-3)

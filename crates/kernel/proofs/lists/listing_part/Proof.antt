@@ -1,3 +1,4 @@
+-- The judge decides.
 use Rattle.kernel.specs.Laws.{accepted-so}
 use Rattle.kernel.specs.Listings.{part-refused, part-told}
 use borrow.Author.Needs.{needs}
@@ -26,6 +27,4 @@ returns-2 : tie.Need-returns-2
 returns-2 c = search part-told
 
 pub listing-part-spec : {M : Type 1} → statement M
-listing-part-spec =
-    tie.close
-    (tie.spec judge-requires enum-known-r returns enum-told pour-requires same-length returns-2)
+listing-part-spec = tie.close (tie.spec judge-requires enum-known-r returns enum-told pour-requires same-length returns-2)

@@ -1,26 +1,26 @@
 -- The ends differ, and none is a vertex of the solid.
 use Rattle.kernel.specs.Laws.{nots}
-use Rattle.kernel.specs.Answers.{maskOutside}
+use Rattle.kernel.specs.Answers.{outside}
 use borrow.Author.Needs.{needs}
 use Rattle.kernel.proofs.masks.are_outside.Statement.{statement}
 use Rattle.kernel.proofs.masks.are_outside.Tie as tie
 
 returns : tie.Need-returns
-unfolding maskOutside
+unfolding outside
 returns c = search nots depth 14
 
 is-vertex-of-requires : tie.Need-is-vertex-of-requires
 is-vertex-of-requires c κs = search needs
 
 returns-2 : tie.Need-returns-2
-unfolding maskOutside
+unfolding outside
 returns-2 c = search nots depth 14
 
 is-vertex-of-requires-2 : tie.Need-is-vertex-of-requires-2
 is-vertex-of-requires-2 c κs = search needs
 
 returns-3 : tie.Need-returns-3
-unfolding maskOutside
+unfolding outside
 returns-3 c = search nots depth 14
 
 pub are-outside-spec : {M : Type 1} → statement M

@@ -1,17 +1,20 @@
+-- The judge decides, then 11; else the oddness of the mask toward the far point.
 use mathlib.Core.Path.{_≡_}
 use denote.Ref.{now}
+use Rattle.judge.specs.Judge.{judged}
 use Rattle.judge.specs.declared.Judged.the-variants.{Accepted}
+use Rattle.scene.specs.View.{viewOf}
+use Rattle.kernel.specs.Answers.{enclosedFault, enclosedIn, enclosedOf}
+use Rattle.kernel.specs.Asked.{enclosed-vertex, far-outside}
+use Rattle.kernel.specs.Laws.{accepted-so, refused-so, own-refused, both-accept, yes-so, no-so}
+use Rattle.kernel.specs.Ready.{enclosed-found}
 use Rattle.kernel.specs.declared.points.Answer.the-variants.{Refused}
-use Rattle.kernel.specs.Answers.{enclosedFault, enclosedOf}
-use Rattle.kernel.specs.Laws.{refused-so, accepted-so, yes-when, no-when}
-use Rattle.kernel.specs.Asked.{enclosed-asked, far-outside}
-use Rattle.kernel.specs.Ready.{enclosed-is}
 use borrow.Author.Needs.{needs}
 use Rattle.kernel.proofs.masks.enclosed.Statement.{statement}
 use Rattle.kernel.proofs.masks.enclosed.Tie as tie
 
-enclosed-fault-requires : tie.Need-enclosed-fault-requires
-enclosed-fault-requires c κs = search needs
+judge-requires : tie.Need-judge-requires
+judge-requires c κs = search needs
 
 enum-known-r : tie.Need-enum-known-r
 enum-known-r c = search needs
@@ -23,47 +26,55 @@ returns c = search (refused-so Refused)
 enum-told : tie.Need-enum-told
 enum-told c = search needs
 
-points-of-requires : tie.Need-points-of-requires
-points-of-requires c κs = search needs
+enclosed-fault-requires : tie.Need-enclosed-fault-requires
+enclosed-fault-requires c κs = search needs
+
+enum-known-r-2 : tie.Need-enum-known-r-2
+enum-known-r-2 c = search needs
+
+returns-2 : tie.Need-returns-2
+unfolding enclosedOf enclosedIn
+returns-2 c = search (own-refused Refused)
+
+enum-told-2 : tie.Need-enum-told-2
+enum-told-2 c = search needs
+
+points-requires : tie.Need-points-requires
+points-requires c κs = search needs
 
 other-solid-requires : tie.Need-other-solid-requires
 other-solid-requires c κs = search needs
 
 mask-of-requires : tie.Need-mask-of-requires
 mask-of-requires c κs =
-    let s = c .before .before .before .before .before .before in
-    let h : enclosedFault (now (s .args .s)) (s .args .i) ≡ Accepted = search accepted-so in
-    let q = enclosed-asked (now (s .args .s)) (s .args .i) h in
-    (q .0, far-outside (now (s .args .s)) (s .args .i) (q .1) (c .before .points-of .ensures) (c .other-solid .ensures))
+    let s = c .before .before .before .before .before .before .before .before .before in
+    let ok : judged (now (s .args .s)) ≡ Accepted = search accepted-so in
+    let h : enclosedFault (viewOf (now (s .args .s))) (s .args .i) ≡ Accepted = search accepted-so in
+    let v = viewOf (now (s .args .s)) in
+    (ok, far-outside v (s .args .i) (enclosed-vertex v (s .args .i) h) (c .before .points .ensures .0) (c .other-solid .ensures))
 
 is-odd-requires : tie.Need-is-odd-requires
 is-odd-requires c κs = search needs
 
-returns-2 : tie.Need-returns-2
-unfolding enclosedOf
-returns-2 c =
-    let s = c .before .before .before .before .before .before .before .before .before in
-    let h : enclosedFault (now (s .args .s)) (s .args .i) ≡ Accepted = search accepted-so in
-    yes-when Refused h (enclosed-is (now (s .args .s)) (s .args .i) (c .before .before .before .before .points-of .ensures) (c .before .before .before .other-solid .ensures) (c .before .before .mask-of .ensures) (c .before .is-odd .ensures)) (c .if1 .taken)
-
 returns-3 : tie.Need-returns-3
-unfolding enclosedOf
+unfolding enclosedOf enclosedIn
 returns-3 c =
-    let s = c .before .before .before .before .before .before .before .before .before in
-    let h : enclosedFault (now (s .args .s)) (s .args .i) ≡ Accepted = search accepted-so in
-    no-when Refused h (enclosed-is (now (s .args .s)) (s .args .i) (c .before .before .before .before .points-of .ensures) (c .before .before .before .other-solid .ensures) (c .before .before .mask-of .ensures) (c .before .is-odd .ensures)) (c .if1 .left)
+    let s = c .before .before .before .before .before .before .before .before .before .before .before .before in
+    let ok : judged (now (s .args .s)) ≡ Accepted = search accepted-so in
+    let h : enclosedFault (viewOf (now (s .args .s))) (s .args .i) ≡ Accepted = search accepted-so in
+    let p = enclosed-found (viewOf (now (s .args .s))) (s .args .i) (c .before .before .before .before .points .ensures .0) (c .before .before .before .other-solid .ensures)
+    (c .before .before .mask-of .ensures) (c .before .is-odd .ensures) in
+    both-accept Refused _ ok h (yes-so p (c .if1 .taken))
+
+returns-4 : tie.Need-returns-4
+unfolding enclosedOf enclosedIn
+returns-4 c =
+    let s = c .before .before .before .before .before .before .before .before .before .before .before .before in
+    let ok : judged (now (s .args .s)) ≡ Accepted = search accepted-so in
+    let h : enclosedFault (viewOf (now (s .args .s))) (s .args .i) ≡ Accepted = search accepted-so in
+    let p = enclosed-found (viewOf (now (s .args .s))) (s .args .i) (c .before .before .before .before .points .ensures .0) (c .before .before .before .other-solid .ensures)
+    (c .before .before .mask-of .ensures) (c .before .is-odd .ensures) in
+    both-accept Refused _ ok h (no-so p (c .if1 .left))
 
 pub enclosed-spec : {M : Type 1} → statement M
-enclosed-spec =
-    tie.close
-    (tie.spec
-    enclosed-fault-requires
-    enum-known-r
-    returns
-    enum-told
-    points-of-requires
-    other-solid-requires
-    mask-of-requires
-    is-odd-requires
-    returns-2
-    returns-3)
+enclosed-spec = tie.close (tie.spec judge-requires enum-known-r returns enum-told enclosed-fault-requires enum-known-r-2 returns-2 enum-told-2 points-requires other-solid-requires mask-of-requires is-odd-requires returns-3 returns-4)

@@ -1,34 +1,25 @@
-use Rattle.judge.specs.Laws.{chain, rules}
-use Rattle.kernel.specs.Answers.{enclosedFault}
+-- 11.
+use mathlib.Core.Path.{refl}
+use Rattle.judge.specs.Laws.{rules}
+use Rattle.kernel.specs.Answers.{isVertex, enclosedFault}
+use Rattle.kernel.specs.Laws.{within-so}
 use borrow.Author.Needs.{needs}
 use Rattle.kernel.proofs.masks.enclosed_fault.Statement.{statement}
 use Rattle.kernel.proofs.masks.enclosed_fault.Tie as tie
 
-judge-requires : tie.Need-judge-requires
-judge-requires c κs = search needs
+vertices-requires : tie.Need-vertices-requires
+vertices-requires c κs = search needs
 
-enum-known-r : tie.Need-enum-known-r
-enum-known-r c = search needs
+is-within-requires : tie.Need-is-within-requires
+is-within-requires c κs = search needs
 
 returns : tie.Need-returns
-unfolding enclosedFault
-returns c = search (chain, rules) depth 14
-
-enum-told : tie.Need-enum-told
-enum-told c = search needs
-
-is-vertex-requires : tie.Need-is-vertex-requires
-is-vertex-requires c κs = search needs
+unfolding enclosedFault isVertex
+returns c = let h = within-so _ refl (c .before .before .vertices .ensures .0) (c .before .is-within .ensures) in search rules
 
 returns-2 : tie.Need-returns-2
-unfolding enclosedFault
-returns-2 c = search (chain, rules) depth 14
-
-returns-3 : tie.Need-returns-3
-unfolding enclosedFault
-returns-3 c = search (chain, rules) depth 14
+unfolding enclosedFault isVertex
+returns-2 c = let h = within-so _ refl (c .before .before .vertices .ensures .0) (c .before .is-within .ensures) in search rules
 
 pub enclosed-fault-spec : {M : Type 1} → statement M
-enclosed-fault-spec =
-    tie.close
-    (tie.spec judge-requires enum-known-r returns enum-told is-vertex-requires returns-2 returns-3)
+enclosed-fault-spec = tie.close (tie.spec vertices-requires is-within-requires returns returns-2)

@@ -1,26 +1,30 @@
-use Rattle.kernel.specs.Laws.{vertex-of-a, vertex-of-lower, vertex-of-b}
+-- By the solid's own numbers.
+use mathlib.Core.Path.{ap}
+use Prim.Native.Nat.{_+_}
+use Rattle.scene.specs.declared.Solid.{Solid}
+use Rattle.kernel.specs.Answers.{isVertexOf}
+use Rattle.kernel.specs.Laws.{within-so}
 use borrow.Author.Needs.{needs}
 use Rattle.kernel.proofs.masks.is_vertex_of.Statement.{statement}
 use Rattle.kernel.proofs.masks.is_vertex_of.Tie as tie
 
-byte-requires : tie.Need-byte-requires
-byte-requires c κs = search needs
+solid-requires : tie.Need-solid-requires
+solid-requires c κs = search needs
+
+add-is-within : tie.Need-add-is-within
+add-is-within c = search needs
+
+add-is-within-2 : tie.Need-add-is-within-2
+add-is-within-2 c = search needs
+
+is-within-requires : tie.Need-is-within-requires
+is-within-requires c κs = search needs
 
 returns : tie.Need-returns
-returns c = search vertex-of-a
-
-returns-2 : tie.Need-returns-2
-returns-2 c = search vertex-of-lower
-
-byte-requires-2 : tie.Need-byte-requires-2
-byte-requires-2 c κs = search needs
-
-add-result : tie.Need-add-result
-add-result c = search needs
-
-returns-3 : tie.Need-returns-3
-returns-3 c = search vertex-of-b
+unfolding isVertexOf
+returns c =
+    let e = c .before .before .before .solid .ensures .0 in
+    within-so _ (ap (λ (o : Solid). o .low + 1) e) (ap (λ (o : Solid). o .low + o .verts) e) (c .is-within .ensures)
 
 pub is-vertex-of-spec : {M : Type 1} → statement M
-is-vertex-of-spec =
-    tie.close (tie.spec byte-requires returns returns-2 byte-requires-2 add-result returns-3)
+is-vertex-of-spec = tie.close (tie.spec solid-requires add-is-within add-is-within-2 is-within-requires returns)

@@ -1,4 +1,7 @@
--- The corners are read, and tested.
+-- By the corners that are read.
+use mathlib.Core.Path.{ap, _∙_}
+use Rattle.scene.specs.declared.Face.{Face}
+use Rattle.kernel.specs.Answers.{clear}
 use borrow.Author.Needs.{needs}
 use Rattle.kernel.proofs.points.is_clear_of.Statement.{statement}
 use Rattle.kernel.proofs.points.is_clear_of.Tie as tie
@@ -10,7 +13,7 @@ is-clear-requires : tie.Need-is-clear-requires
 is-clear-requires c κs = search needs
 
 returns : tie.Need-returns
-returns c = cc
+returns c = let s = c .before .before .before in c .is-clear .ensures ∙ ap (λ (f : Face). clear (s .args .u) (s .args .v) f) (c .before .corners .ensures)
 
 pub is-clear-of-spec : {M : Type 1} → statement M
 is-clear-of-spec = tie.close (tie.spec corners-requires is-clear-requires returns)

@@ -1,19 +1,20 @@
+-- The judge decides, then the question's own faults; else the engine.
 use mathlib.Core.Path.{_≡_}
-use Rattle.judge.specs.declared.Judged.the-variants.{Accepted}
-use Rattle.kernel.specs.Answers.{piercesFault}
-use Rattle.kernel.specs.Laws.{accepted-so, yes-when, no-when}
-use Rattle.kernel.specs.Ready.{rows-fit, rows-are, far-fits, face-fits, point-fits, weighted-are, ends-beside, pierces-is}
 use denote.Ref.{now}
+use Rattle.judge.specs.Judge.{judged}
+use Rattle.judge.specs.declared.Judged.the-variants.{Accepted}
+use Rattle.scene.specs.View.{viewOf}
+use Rattle.kernel.specs.Answers.{piercesFault, piercesIn, piercesOf}
+use Rattle.kernel.specs.Asked.{pierces-ends}
+use Rattle.kernel.specs.Laws.{accepted-so, refused-so, own-refused, both-accept, yes-so, no-so}
+use Rattle.kernel.specs.Ready.{rows-fit, rows-are, far-fits, face-fits, point-fits, weighted-are, ends-beside, pierces-found}
 use Rattle.kernel.specs.declared.points.Answer.the-variants.{Refused}
-use Rattle.kernel.specs.Answers.{piercesOf}
-use Rattle.kernel.specs.Laws.{refused-so}
-use Rattle.kernel.specs.Asked.{pierces-asked, pierces-ends}
 use borrow.Author.Needs.{needs}
 use Rattle.kernel.proofs.points.pierces.Statement.{statement}
 use Rattle.kernel.proofs.points.pierces.Tie as tie
 
-pierces-fault-requires : tie.Need-pierces-fault-requires
-pierces-fault-requires c κs = search needs
+judge-requires : tie.Need-judge-requires
+judge-requires c κs = search needs
 
 enum-known-r : tie.Need-enum-known-r
 enum-known-r c = search needs
@@ -25,53 +26,64 @@ returns c = search (refused-so Refused)
 enum-told : tie.Need-enum-told
 enum-told c = search needs
 
+pierces-fault-requires : tie.Need-pierces-fault-requires
+pierces-fault-requires c κs = search needs
+
+enum-known-r-2 : tie.Need-enum-known-r-2
+enum-known-r-2 c = search needs
+
+returns-2 : tie.Need-returns-2
+unfolding piercesOf piercesIn
+returns-2 c = search (own-refused Refused)
+
+enum-told-2 : tie.Need-enum-told-2
+enum-told-2 c = search needs
+
 rows-requires : tie.Need-rows-requires
 rows-requires c κs =
-    let s = c .before .before .before .before in
-    let h : piercesFault (now (s .args .s)) (s .args .u) (s .args .v) (s .args .f) ≡ Accepted = search accepted-so in
-    let q = pierces-asked (now (s .args .s)) (s .args .u) (s .args .v) (s .args .f) h in
-    rows-fit (now (s .args .s)) (q .0)
+    let s = c .before .before .before .before .before .before .before in
+    let ok : judged (now (s .args .s)) ≡ Accepted = search accepted-so in
+    rows-fit (now (s .args .s)) ok
 
-points-of-requires : tie.Need-points-of-requires
-points-of-requires c κs = search needs
+points-requires : tie.Need-points-requires
+points-requires c κs = search needs
 
 corners-requires : tie.Need-corners-requires
 corners-requires c κs = search needs
 
 pierces-requires : tie.Need-pierces-requires
 pierces-requires c κs =
-    let s = c .before .before .before .before .before .before .before .before in
-    let h : piercesFault (now (s .args .s)) (s .args .u) (s .args .v) (s .args .f) ≡ Accepted = search accepted-so in
-    let q = pierces-asked (now (s .args .s)) (s .args .u) (s .args .v) (s .args .f) h in
-    let f = far-fits (now (s .args .s)) (q .0) (c .before .points-of .ensures) in
-    let e = pierces-ends (now (s .args .s)) (s .args .u) (s .args .v) (s .args .f) h in
-    ((rows-are (now (s .args .s)) (q .0) (c .before .before .before .rows .ensures), f .0, f .1, point-fits (now (s .args .s)) (q .0) (q .1), point-fits (now (s .args .s)) (q .0) (q .2), face-fits (now (s .args .s)) (q .0) (s .args .f) (c .corners .ensures)), (weighted-are (now (s .args .s)) (q .0) (c .before .points-of .ensures) (c .before .before .before .rows .ensures), ends-beside (now (s .args .s)) (q .0) e (c .before .points-of .ensures) (c .corners .ensures)))
-
-returns-2 : tie.Need-returns-2
-unfolding piercesOf
-returns-2 c =
-    let s = c .before .before .before .before .before .before .before .before .before .before in
-    let h : piercesFault (now (s .args .s)) (s .args .u) (s .args .v) (s .args .f) ≡ Accepted = search accepted-so in
-    yes-when Refused h (pierces-is (now (s .args .s)) (c .before .before .before .before .before .rows .ensures) (s .args .u) (s .args .v) (c .before .before .before .points-of .ensures) (s .args .f) (c .before .before .corners .ensures) (c .before .pierces .ensures)) (c .if1 .taken)
+    let s = c .before .before .before .before .before .before .before .before .before .before .before in
+    let ok : judged (now (s .args .s)) ≡ Accepted = search accepted-so in
+    let b = now (s .args .s) in
+    let h : piercesFault (viewOf (now (s .args .s))) (s .args .u) (s .args .v) (s .args .f) ≡ Accepted = search accepted-so in
+    let e = pierces-ends (viewOf b) (s .args .u) (s .args .v) (s .args .f) h in
+    let n = c .before .points .ensures .0 in
+    let r = c .before .before .before .rows .ensures in
+    let f = far-fits b ok n in (
+      (rows-are b ok r, f .0, f .1, point-fits b ok (e .u-point), point-fits b ok (e .w-point), face-fits b ok (s .args .f) (c .corners .ensures)),
+      (weighted-are b ok n r, ends-beside b ok e n (c .corners .ensures)),
+    )
 
 returns-3 : tie.Need-returns-3
-unfolding piercesOf
+unfolding piercesOf piercesIn
 returns-3 c =
-    let s = c .before .before .before .before .before .before .before .before .before .before in
-    let h : piercesFault (now (s .args .s)) (s .args .u) (s .args .v) (s .args .f) ≡ Accepted = search accepted-so in
-    no-when Refused h (pierces-is (now (s .args .s)) (c .before .before .before .before .before .rows .ensures) (s .args .u) (s .args .v) (c .before .before .before .points-of .ensures) (s .args .f) (c .before .before .corners .ensures) (c .before .pierces .ensures)) (c .if1 .left)
+    let s = c .before .before .before .before .before .before .before .before .before .before .before .before .before in
+    let ok : judged (now (s .args .s)) ≡ Accepted = search accepted-so in
+    let h : piercesFault (viewOf (now (s .args .s))) (s .args .u) (s .args .v) (s .args .f) ≡ Accepted = search accepted-so in
+    let p = pierces-found (now (s .args .s)) (c .before .before .before .before .before .rows .ensures) (s .args .u) (s .args .v) (s .args .f)
+    (c .before .before .before .points .ensures .0) (c .before .before .corners .ensures) (c .before .pierces .ensures) in
+    both-accept Refused _ ok h (yes-so p (c .if1 .taken))
+
+returns-4 : tie.Need-returns-4
+unfolding piercesOf piercesIn
+returns-4 c =
+    let s = c .before .before .before .before .before .before .before .before .before .before .before .before .before in
+    let ok : judged (now (s .args .s)) ≡ Accepted = search accepted-so in
+    let h : piercesFault (viewOf (now (s .args .s))) (s .args .u) (s .args .v) (s .args .f) ≡ Accepted = search accepted-so in
+    let p = pierces-found (now (s .args .s)) (c .before .before .before .before .before .rows .ensures) (s .args .u) (s .args .v) (s .args .f)
+    (c .before .before .before .points .ensures .0) (c .before .before .corners .ensures) (c .before .pierces .ensures) in
+    both-accept Refused _ ok h (no-so p (c .if1 .left))
 
 pub pierces-spec : {M : Type 1} → statement M
-pierces-spec =
-    tie.close
-    (tie.spec
-    pierces-fault-requires
-    enum-known-r
-    returns
-    enum-told
-    rows-requires
-    points-of-requires
-    corners-requires
-    pierces-requires
-    returns-2
-    returns-3)
+pierces-spec = tie.close (tie.spec judge-requires enum-known-r returns enum-told pierces-fault-requires enum-known-r-2 returns-2 enum-told-2 rows-requires points-requires corners-requires pierces-requires returns-3 returns-4)

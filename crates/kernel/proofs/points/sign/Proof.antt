@@ -1,19 +1,20 @@
+-- The judge decides, then the question's own faults; four different points of an accepted scene have a sign.
 use mathlib.Core.Path.{_≡_}
-use Rattle.judge.specs.declared.Judged.the-variants.{Accepted}
-use Rattle.kernel.specs.Answers.{signFault}
-use Rattle.kernel.specs.Laws.{accepted-so, answered-when}
-use Rattle.kernel.specs.Ready.{rows-fit, rows-are, point-fits, four-are, sign-is}
 use denote.Ref.{now}
+use Rattle.judge.specs.Judge.{judged}
+use Rattle.judge.specs.declared.Judged.the-variants.{Accepted}
+use Rattle.scene.specs.View.{viewOf}
+use Rattle.kernel.specs.Answers.{signFault, signIn, signOf}
+use Rattle.kernel.specs.Asked.{sign-four}
+use Rattle.kernel.specs.Laws.{accepted-so, refused-so, own-refused, both-accept}
+use Rattle.kernel.specs.Ready.{rows-fit, rows-are, point-fits, four-are, sign-found}
 use Rattle.kernel.specs.declared.points.Signed.the-variants.{Refused}
-use Rattle.kernel.specs.Answers.{signOf}
-use Rattle.kernel.specs.Laws.{refused-so}
-use Rattle.kernel.specs.Asked.{sign-asked, sign-four}
 use borrow.Author.Needs.{needs}
 use Rattle.kernel.proofs.points.sign.Statement.{statement}
 use Rattle.kernel.proofs.points.sign.Tie as tie
 
-sign-fault-requires : tie.Need-sign-fault-requires
-sign-fault-requires c κs = search needs
+judge-requires : tie.Need-judge-requires
+judge-requires c κs = search needs
 
 enum-known-r : tie.Need-enum-known-r
 enum-known-r c = search needs
@@ -25,44 +26,52 @@ returns c = search (refused-so Refused)
 enum-told : tie.Need-enum-told
 enum-told c = search needs
 
+sign-fault-requires : tie.Need-sign-fault-requires
+sign-fault-requires c κs = search needs
+
+enum-known-r-2 : tie.Need-enum-known-r-2
+enum-known-r-2 c = search needs
+
+returns-2 : tie.Need-returns-2
+unfolding signOf signIn
+returns-2 c = search (own-refused Refused)
+
+enum-told-2 : tie.Need-enum-told-2
+enum-told-2 c = search needs
+
 rows-requires : tie.Need-rows-requires
 rows-requires c κs =
-    let s = c .before .before .before .before in
-    let h : signFault (now (s .args .s)) (s .args .a) (s .args .b) (s .args .c) (s .args .d) ≡ Accepted = search accepted-so in
-    let q = sign-asked (now (s .args .s)) (s .args .a) (s .args .b) (s .args .c) (s .args .d) h in
-    rows-fit (now (s .args .s)) (q .0)
+    let s = c .before .before .before .before .before .before .before in
+    let ok : judged (now (s .args .s)) ≡ Accepted = search accepted-so in
+    rows-fit (now (s .args .s)) ok
 
 terms-at-requires : tie.Need-terms-at-requires
 terms-at-requires c κs =
-    let s = c .before .before .before .before .before .before in
-    let h : signFault (now (s .args .s)) (s .args .a) (s .args .b) (s .args .c) (s .args .d) ≡ Accepted = search accepted-so in
-    let q = sign-asked (now (s .args .s)) (s .args .a) (s .args .b) (s .args .c) (s .args .d) h in
-    (rows-are (now (s .args .s)) (q .0) (c .before .rows .ensures), point-fits (now (s .args .s)) (q .0) (q .1), point-fits (now (s .args .s)) (q .0) (q .2), point-fits (now (s .args .s)) (q .0) (q .3), point-fits (now (s .args .s)) (q .0) (q .4))
+    let s = c .before .before .before .before .before .before .before .before .before in
+    let ok : judged (now (s .args .s)) ≡ Accepted = search accepted-so in
+    let b = now (s .args .s) in
+    let h : signFault (viewOf (now (s .args .s))) (s .args .a) (s .args .b) (s .args .c) (s .args .d) ≡ Accepted = search accepted-so in
+    let f = sign-four (viewOf (now (s .args .s))) (s .args .a) (s .args .b) (s .args .c) (s .args .d) h in
+    (rows-are b ok (c .before .rows .ensures), point-fits b ok (f .a-in), point-fits b ok (f .b-in), point-fits b ok (f .c-in), point-fits b ok (f .d-in))
 
 positive-at-requires : tie.Need-positive-at-requires
 positive-at-requires c κs =
-    let s = c .before .before .before .before .before .before .before .before in
-    let h : signFault (now (s .args .s)) (s .args .a) (s .args .b) (s .args .c) (s .args .d) ≡ Accepted = search accepted-so in
-    let q = sign-asked (now (s .args .s)) (s .args .a) (s .args .b) (s .args .c) (s .args .d) h in
-    let f = sign-four (now (s .args .s)) (s .args .a) (s .args .b) (s .args .c) (s .args .d) h in
-    ((rows-are (now (s .args .s)) (q .0) (c .before .before .before .rows .ensures), point-fits (now (s .args .s)) (q .0) (q .1), point-fits (now (s .args .s)) (q .0) (q .2), point-fits (now (s .args .s)) (q .0) (q .3), point-fits (now (s .args .s)) (q .0) (q .4)), four-are (now (s .args .s)) (q .0) (c .before .before .before .rows .ensures) f)
+    let s = c .before .before .before .before .before .before .before .before .before .before .before in
+    let ok : judged (now (s .args .s)) ≡ Accepted = search accepted-so in
+    let b = now (s .args .s) in
+    let h : signFault (viewOf (now (s .args .s))) (s .args .a) (s .args .b) (s .args .c) (s .args .d) ≡ Accepted = search accepted-so in
+    let f = sign-four (viewOf (now (s .args .s))) (s .args .a) (s .args .b) (s .args .c) (s .args .d) h in
+    ((rows-are b ok (c .before .before .before .rows .ensures), point-fits b ok (f .a-in), point-fits b ok (f .b-in), point-fits b ok (f .c-in), point-fits b ok (f .d-in)), four-are b ok (c .before .before .before .rows .ensures) f)
 
-returns-2 : tie.Need-returns-2
-unfolding signOf
-returns-2 c =
-    let s = c .before .before .before .before .before .before .before .before .before in
-    let h : signFault (now (s .args .s)) (s .args .a) (s .args .b) (s .args .c) (s .args .d) ≡ Accepted = search accepted-so in
-    answered-when Refused _ h (sign-is (now (s .args .s)) (c .before .before .before .before .rows .ensures) (s .args .a) (s .args .b) (s .args .c) (s .args .d) (c .before .before .terms-at .ensures) (c .positive-at .ensures))
+returns-3 : tie.Need-returns-3
+unfolding signOf signIn
+returns-3 c =
+    let s = c .before .before .before .before .before .before .before .before .before .before .before .before in
+    let ok : judged (now (s .args .s)) ≡ Accepted = search accepted-so in
+    let h : signFault (viewOf (now (s .args .s))) (s .args .a) (s .args .b) (s .args .c) (s .args .d) ≡ Accepted = search accepted-so in
+    both-accept Refused _ ok h
+    (sign-found (now (s .args .s)) (c .before .before .before .before .rows .ensures) (s .args .a) (s .args .b) (s .args .c) (s .args .d)
+    (c .before .before .terms-at .ensures) (c .positive-at .ensures))
 
 pub sign-spec : {M : Type 1} → statement M
-sign-spec =
-    tie.close
-    (tie.spec
-    sign-fault-requires
-    enum-known-r
-    returns
-    enum-told
-    rows-requires
-    terms-at-requires
-    positive-at-requires
-    returns-2)
+sign-spec = tie.close (tie.spec judge-requires enum-known-r returns enum-told sign-fault-requires enum-known-r-2 returns-2 enum-told-2 rows-requires terms-at-requires positive-at-requires returns-3)

@@ -1,8 +1,7 @@
 -- The judge decides; an accepted scene is answered.
 use Rattle.kernel.specs.declared.verdict.Verdict.the-variants.{Refused}
-use Rattle.kernel.specs.Laws.{accepted-so}
+use Rattle.kernel.specs.Laws.{accepted-so, refused-so, answered-so}
 use Rattle.kernel.specs.Answers.{verdictOf}
-use Rattle.kernel.specs.Laws.{refused-so, answered-so}
 use borrow.Author.Needs.{needs}
 use Rattle.kernel.proofs.verdict.verdict_of.Statement.{statement}
 use Rattle.kernel.proofs.verdict.verdict_of.Tie as tie

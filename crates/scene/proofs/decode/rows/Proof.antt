@@ -1,9 +1,8 @@
 -- Each turn stores one more; beyond the last the array holds the zeros that the tables say.
 use native.Mathlib.Omega.{arith}
-use mathlib.Core.Path.{_∙_}
+use mathlib.Core.Path.{_∙_, _≡_}
 use Rattle.scene.specs.Read.{row-none}
 use Prim.Native.Nat.{_+_, _*_, _-_, _≤_}
-use mathlib.Core.Path.{_≡_}
 use Rattle.laws.specs.Filled.{filled, filled-more}
 use Rattle.scene.specs.Limits.{limits, mostPoints}
 use Rattle.scene.specs.Tables.{tablesOf, row}

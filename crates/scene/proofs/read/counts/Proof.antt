@@ -15,7 +15,7 @@ byte-requires-4 : tie.Need-byte-requires-4
 byte-requires-4 c κs = search needs
 
 returns : tie.Need-returns
-returns c = cc
+returns c = (cc, search needs)
 
 pub counts-spec : {M : Type 1} → statement M
 counts-spec =

@@ -1,0 +1,65 @@
+-- The demands speak of the code. For each public function of the judge, of a record shown and of the questions: what its contract states, of the very relation
+-- between arguments, answer and lent places that the function is proved to meet, is the definition that `Answers`, `Exact`, `Parity` and `Once`
+-- are about. A contract that says less does not give it. The arguments are in the function's own order; κs are its lifetimes. Assumes nothing.
+use mathlib.Core.Path.{_≡_}
+use denote.Ref.{now}
+use Rattle.scene.specs.View.{viewOf}
+use Rattle.judge.specs.Judge.{judged}
+use Rattle.judge.proofs.judge.Reads as judge
+use Rattle.record.specs.Shown.{refusal, shown}
+use Rattle.record.proofs.record.Reads as record-shown
+use Rattle.record.proofs.record_refusal.Reads as record-refusal
+use Rattle.kernel.specs.Answers.{isPoint, signOf, piercesOf, saidMask, maskedOf, enclosedOf, countedOf, insideOf, verdictOf, IsListed, IsPart}
+use Rattle.kernel.proofs.points.is_point.Reads as is-point
+use Rattle.kernel.proofs.points.sign.Reads as sign
+use Rattle.kernel.proofs.points.pierces.Reads as pierces
+use Rattle.kernel.proofs.masks.mask.Reads as mask
+use Rattle.kernel.proofs.masks.enclosed.Reads as enclosed
+use Rattle.kernel.proofs.counts.count.Reads as count
+use Rattle.kernel.proofs.inside.inside.Reads as inside
+use Rattle.kernel.proofs.verdict.verdict_of.Reads as verdict
+use Rattle.kernel.proofs.lists.listing.Reads as listing
+use Rattle.kernel.proofs.lists.listing_part.Reads as listing-part
+
+pub judge-is : (κs a r e : _) → judge.Post κs a r e → r ≡ judged (now (a .0))
+judge-is κs a r e x = x
+
+pub record-refusal-is : (κs a r e : _) → record-refusal.Post κs a r e → r ≡ refusal (now (a .0)) (a .1 .0)
+record-refusal-is κs a r e x = x
+
+pub record-is : (κs a r e : _) → record-shown.Post κs a r e → now r ≡ shown (now (a .0)) (a .1 .0)
+record-is κs a r e x = x
+
+pub is-point-is : (κs a r e : _) → is-point.Post κs a r e → r ≡ isPoint (viewOf (now (a .0))) (a .1 .0)
+is-point-is κs a r e x = x
+
+pub sign-is : (κs a r e : _) → sign.Post κs a r e → r ≡ signOf (now (a .0)) (a .1 .0) (a .1 .1 .0) (a .1 .1 .1 .0) (a .1 .1 .1 .1 .0)
+sign-is κs a r e x = x
+
+-- of those below, the first argument is the engine, and nothing depends on it
+
+pub pierces-is : (κs a r e : _) → pierces.Post κs a r e → r ≡ piercesOf (now (a .1 .0)) (a .1 .1 .0) (a .1 .1 .1 .0) (a .1 .1 .1 .1 .0)
+pierces-is κs a r e x = x
+
+pub mask-is : (κs a r e : _) → mask.Post κs a r e → saidMask r ≡ maskedOf (now (a .1 .0)) (a .1 .1 .0) (a .1 .1 .1 .0) (a .1 .1 .1 .1 .0)
+mask-is κs a r e x = x
+
+pub enclosed-is : (κs a r e : _) → enclosed.Post κs a r e → r ≡ enclosedOf (now (a .1 .0)) (a .1 .1 .0)
+enclosed-is κs a r e x = x
+
+pub count-is : (κs a r e : _) → count.Post κs a r e → r ≡ countedOf (now (a .1 .0))
+count-is κs a r e x = x
+
+pub inside-is : (κs a r e : _) → inside.Post κs a r e → r ≡ insideOf (now (a .1 .0)) (a .1 .1 .0)
+inside-is κs a r e x = x
+
+pub verdict-is : (κs a r e : _) → verdict.Post κs a r e → r ≡ verdictOf (now (a .1 .0))
+verdict-is κs a r e x = x
+
+-- what the lent list held is the third argument, and what it holds afterwards the third at the exit
+
+pub listing-is : (κs a r e : _) → listing.Post κs a r e → IsListed (now (a .1 .0)) (now (a .1 .1 .0)) (now (e .1 .1 .0)) r
+listing-is κs a r e x = x
+
+pub listing-part-is : (κs a r e : _) → listing-part.Post κs a r e → IsPart (now (a .1 .0)) (a .1 .1 .0) (now (a .1 .1 .1 .0)) (now (e .1 .1 .1 .0)) r
+listing-part-is κs a r e x = x

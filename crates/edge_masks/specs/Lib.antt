@@ -1,0 +1,5 @@
+pub mod Edges
+pub mod Store
+pub mod Order
+pub mod Room
+pub mod Sides

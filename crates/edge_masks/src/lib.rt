@@ -1,0 +1,161 @@
+// The edges of a solid in the order of the listing, each with its mask against the other solid, worked out once into a lent table.
+ghost use mathlib.Core.Path.{_≡_};
+ghost use Prim.Native.Nat.{_+_, _*_, _<_, _≤_};
+ghost use lib.ListN.{length};
+ghost use Rattle.pierce.specs.Faces.{valueOf};
+ghost use Rattle.scene.specs.Faces.{Vertex};
+ghost use Rattle.listing.specs.Hits.{seenIn, Sound, edgeMask};
+ghost use Rattle.links.specs.Links.{words};
+ghost use Rattle.table.specs.Table.{mostEdges};
+ghost use Rattle.edge_masks.specs.Edges.{vertexEdges, solidEdges, Higher, Within, AreLinks, Filled};
+ghost use Rattle.edge_masks.specs.Sides.{Told, Parted};
+ghost use Rattle.edge_masks.specs.Store.{pairSet};
+use engine::Engine;
+use links::Words;
+use narrow::cuts::Cuts;
+use narrow::mask;
+use pierce::faces::Mask;
+use scene::Corners;
+use scene::Rows;
+use scene::Solid;
+use table::Ends;
+use table::Masks;
+
+// The mask of the edge u, v of the solid against the other one, in a scene of n points.
+pub fn edge_mask(
+    engine: Engine,
+    rows: &Rows,
+    corners: &Corners,
+    n: usize,
+    k: Solid,
+    words: &sides::words::Words,
+    own: &sides::words::Words,
+    cuts: &Cuts,
+    u: usize,
+    v: usize,
+) -> Mask
+    requires solid { ⌜ Sound (seenIn n (now rows) (now corners)) k × Vertex (k .low) (k .low + k .verts) u × Vertex (k .low) (k .low + k .verts) v × (u < v) ⌝ }
+    requires sides { ⌜ Told (seenIn n (now rows) (now corners)) k (now words) × Parted (seenIn n (now rows) (now corners)) k (now own) (now cuts) ⌝ }
+    ensures { λ r. ⌜ valueOf r ≡ edgeMask (seenIn n (now (rows .entry)) (now (corners .entry))) k u v ⌝ }
+{
+    mask(
+        engine,
+        rows,
+        corners,
+        words,
+        own,
+        cuts,
+        n,
+        u,
+        v,
+        k.other,
+        k.others,
+    )
+}
+
+fn narrow(x: usize) -> u16
+    requires { ⌜ x < 65536 ⌝ }
+    ensures { λ r. ⌜ r ≡ x ⌝ }
+{
+    x as u16
+}
+
+fn put_ends(ends: &mut Ends, j: usize, u: u16, v: u16)
+    requires { ⌜ j < mostEdges ⌝ }
+    ensures { λ _. ⌜ now (ends .exit) ≡ pairSet (now (ends .entry)) j u v ⌝ }
+{
+    let at = 2 * j;
+    ends[at] = u;
+    ends[at + 1] = v;
+}
+
+fn put_mask(masks: &mut Masks, j: usize, m: Mask)
+    requires { ⌜ j < mostEdges ⌝ }
+    ensures { λ _. ⌜ now (masks .exit) ≡ pairSet (now (masks .entry)) j (m .low) (m .high) ⌝ }
+{
+    let at = 2 * j;
+    let low = m.low;
+    let high = m.high;
+    masks[at] = low;
+    masks[at + 1] = high;
+}
+
+// The edges from u to its higher neighbours, behind the first `at` of the table; how many there are then.
+fn fill_vertex(
+    engine: Engine,
+    rows: &Rows,
+    corners: &Corners,
+    n: usize,
+    k: Solid,
+    words: &sides::words::Words,
+    own: &sides::words::Words,
+    cuts: &Cuts,
+    u: usize,
+    higher: u64,
+    at: usize,
+    ends: &mut Ends,
+    masks: &mut Masks,
+) -> usize
+    requires solid { ⌜ Sound (seenIn n (now rows) (now corners)) k × Vertex (k .low) (k .low + k .verts) u × Higher (seenIn n (now rows) (now corners)) k u higher ⌝ }
+    requires room { ⌜ (length (now ends) ≡ 2 * mostEdges) × (length (now masks) ≡ 2 * mostEdges) × (at + length (vertexEdges (seenIn n (now rows) (now corners)) k u) ≤ mostEdges) ⌝ }
+    requires sides { ⌜ Told (seenIn n (now rows) (now corners)) k (now words) × Parted (seenIn n (now rows) (now corners)) k (now own) (now cuts) ⌝ }
+    ensures { λ r. ⌜ Filled (vertexEdges (seenIn n (now (rows .entry)) (now (corners .entry))) k u) at (now (ends .entry)) (now (masks .entry)) (now (ends .exit)) (now (masks .exit)) r ⌝ }
+{
+    let mut left = higher;
+    let mut c = at;
+    while left != 0 {
+        let v = u + 1 + u64::trailing_zeros(left) as usize;
+        let m = edge_mask(engine, rows, corners, n, k, words, own, cuts, u, v);
+        put_ends(ends, c, narrow(u), narrow(v));
+        put_mask(masks, c, m);
+        c += 1;
+        left = left & (left - 1);
+    }
+    c
+}
+
+// The edges of the solid; how many there are.
+pub fn fill_solid(
+    engine: Engine,
+    rows: &Rows,
+    corners: &Corners,
+    n: usize,
+    k: Solid,
+    links: &Words,
+    words: &sides::words::Words,
+    own: &sides::words::Words,
+    cuts: &Cuts,
+    ends: &mut Ends,
+    masks: &mut Masks,
+) -> usize
+    requires solid { ⌜ Within (seenIn n (now rows) (now corners)) k × AreLinks (seenIn n (now rows) (now corners)) k (now links) ⌝ }
+    requires room { ⌜ (length (now ends) ≡ 2 * mostEdges) × (length (now masks) ≡ 2 * mostEdges) ⌝ }
+    requires sides { ⌜ Told (seenIn n (now rows) (now corners)) k (now words) × Parted (seenIn n (now rows) (now corners)) k (now own) (now cuts) ⌝ }
+    ensures { λ r. ⌜ Filled (solidEdges (seenIn n (now (rows .entry)) (now (corners .entry))) k) 0 (now (ends .entry)) (now (masks .entry)) (now (ends .exit)) (now (masks .exit)) r ⌝ }
+{
+    let low = k.low;
+    let verts = k.verts;
+    let mut c: usize = 0;
+    let mut i: usize = 0;
+    while i < verts {
+        let u = low + 1 + i;
+        let higher = links[u] >> (i + 1);
+        c = fill_vertex(
+            engine,
+            rows,
+            corners,
+            n,
+            k,
+            words,
+            own,
+            cuts,
+            u,
+            higher,
+            c,
+            ends,
+            masks,
+        );
+        i += 1;
+    }
+    c
+}

@@ -1,0 +1,72 @@
+-- Each turn stores the words of one more face.
+use borrow.Author.Needs.{needs}
+use mathlib.Core.Path.{_≡_, ap, _∙_}
+use Prim.Native.Nat.{_-_, _≤_}
+use native.Mathlib.Omega.{arith}
+use Rattle.laws.specs.Filled.{filled}
+use Rattle.scene.specs.Arrays.{faceIn}
+use Rattle.sides.specs.Tables.{masksFrom, masks-more}
+use Rattle.narrow.specs.Cover.{cutIn}
+use Rattle.narrow.proofs.cuts.fill.Statement.{statement}
+use Rattle.narrow.proofs.cuts.fill.Tie as tie
+
+abbrev Inv-loop : tie.InvT-loop
+Inv-loop corners words first count cuts₀ i₀ cuts i = (i ≤ count) × (cuts ≡ masksFrom (λ k. cutIn words (faceIn corners k)) first i cuts₀)
+
+abbrev μ-loop : tie.MeasureT-loop
+μ-loop corners words first count cuts₀ i₀ cuts i = count - i
+
+loop-holds : tie.Need-loop-holds Inv-loop μ-loop
+unfolding masksFrom filled
+loop-holds c = search needs
+
+add-k : tie.Need-add-k Inv-loop μ-loop
+add-k c = search needs
+
+add-k-2 : tie.Need-add-k-2 Inv-loop μ-loop
+add-k-2 c = search needs
+
+face-in-requires : tie.Need-face-in-requires Inv-loop μ-loop
+face-in-requires c κs = search needs
+
+cut-requires : tie.Need-cut-requires Inv-loop μ-loop
+cut-requires c κs = rw (c .face-in .ensures) (c .before .before .before .before .pre .0 _)
+
+put-requires : tie.Need-put-requires Inv-loop μ-loop
+put-requires c κs = search needs
+
+add-i : tie.Need-add-i Inv-loop μ-loop
+add-i c = search needs
+
+loop-less : tie.Need-loop-less Inv-loop μ-loop
+loop-less c = search needs
+
+loop-again : tie.Need-loop-again Inv-loop μ-loop
+loop-again c =
+    let d = c .before in (
+      omega arith,
+      c .put .ensures ∙ masks-more _ _ _ _ (d .before .before .before .before .loop .inv .1)
+          (d .cut .ensures ∙ ap (cutIn _) (d .before .face-in .ensures)),
+    )
+
+returns : tie.Need-returns Inv-loop μ-loop
+returns c =
+    let e : c .before .loop .i ≡ c .before .before .args .count = omega arith in
+    cc (c .before .loop .inv .1)
+
+pub fill-spec : {M : Type 1} → statement M
+fill-spec =
+    tie.close
+    (tie.spec
+    Inv-loop
+    μ-loop
+    loop-holds
+    add-k
+    add-k-2
+    face-in-requires
+    cut-requires
+    put-requires
+    add-i
+    loop-less
+    loop-again
+    returns)

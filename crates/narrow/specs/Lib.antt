@@ -1,0 +1,4 @@
+pub mod Parted
+pub mod Marks
+pub mod Cover
+pub mod Narrow

@@ -1,0 +1,140 @@
+-- The candidates of an edge that each face at the edge parts: the pierced among them are all that the edge pierces. Assumes nothing.
+use mathlib.Core.Path.{_≡_, refl, sym, ap, ap₂, subst, _∙_}
+use mathlib.Core.Bool.{Bool, true, false, _&&_}
+use mathlib.Core.List.{List}
+use Prim.Native.Nat.{ℕ, _+_, _-_, _*_, _≤_, _<_}
+use native.Mathlib.Omega.{arith}
+use lib.Bits.{bitXor}
+use Rattle.laws.specs.Bools.{_⊕_, all, _≐_, law}
+use Rattle.laws.specs.Mask.{maskOf, xor-masks, mask-same}
+use Rattle.scene.specs.Limits.{limits}
+use Rattle.scene.specs.declared.Row.{Row}
+use Rattle.scene.specs.declared.Face.{Face}
+use Rattle.edges.specs.Edges.{isCorner}
+use Rattle.orient.specs.Weighted.{Weighted}
+use Rattle.pierce.specs.Beside.{Beside, BesideAll, beside-low, beside-high}
+use Rattle.pierce.specs.Faces.{maskBy, maskAgainst, valueOf}
+use Rattle.pierce.specs.Formula.{pierced}
+use Rattle.pierce.specs.declared.faces.Mask.{Mask}
+use Rattle.sides.specs.Candidates.{kept, AtEach, kept-mask, each-mask}
+use Rattle.sides.specs.Crossing.{Candidate, Candidates, crossedOf, pierced-differs}
+use Rattle.sides.specs.Sides.{above, sidesOf, masksBy, masks-value, first64}
+use Rattle.narrow.specs.Parted.{parts}
+use Rattle.narrow.specs.Cover.{covers, bothOf, both-is, Across, kept-by}
+
+-- a digit that is a face's
+pub record Numbered (first k : ℕ) : Type 0 where
+  pub small : k < 64
+  pub number : first + 1 + k ≤ 2 * limits .mostFaces
+
+-- of a word, the faces that each of the faces `at` parts
+abbrev pub narrowedOf : (ℕ → Mask) → (first : ℕ) → Mask → (w : ℕ) → ℕ
+narrowedOf cut first at = kept (λ k. covers (cut (first + 1 + k)) at)
+
+-- the solid of the edge, the faces at its ends, and those that part the corners of the other's faces
+pub record Around (n : ℕ) (row : ℕ → Row) (face : ℕ → Face) (own cut : ℕ → Mask) (u v first count : ℕ) : Type 0 where
+  pub low : ℕ
+  pub high : ℕ
+  pub owned : ℕ
+  pub owns : ℕ
+  pub u-own : own u ≡ masksBy (isCorner u) face owned owns
+  pub v-own : own v ≡ masksBy (isCorner v) face owned owns
+  pub cuts : (k : ℕ) → k < count → cut (first + 1 + k) ≡ masksBy (parts row (face (first + 1 + k))) face owned owns
+  pub across : (k : ℕ) → k < count → Across n low high owned owns face (face (first + 1 + k))
+
+three : (a b c : Bool) → (a && c) ≡ c → (c ≡ true → b ≡ true) → ((a && b) && c) ≡ c
+three true b true e h = ap (λ (x : Bool). x && true) (h refl)
+three true true false e h = refl
+three true false false e h = refl
+three false b true e h = e
+three false b false e h = refl
+
+-- one word of the candidates
+module _ (n : ℕ) (row : ℕ → Row) (face : ℕ → Face) (u v first count : ℕ) (keep : ℕ → Bool) {x y : ℕ}
+    (p : x ≡ maskBy (above row u) face first count) (q : y ≡ maskBy (above row v) face first count) (room : count ≤ 64) where
+  abbrev differs : ℕ → Bool
+  differs k = above row u (face (first + 1 + k)) ⊕ above row v (face (first + 1 + k))
+
+  differ-word : bitXor x y ≡ maskOf differs count
+  differ-word = ap₂ bitXor p q ∙ xor-masks _ _ count
+
+  module _ (number : (k : ℕ) → k < count → first + 1 + k ≤ 2 * limits .mostFaces) where
+    pub numbered : AtEach (Numbered first) (bitXor x y)
+    numbered = each-mask (Numbered first) differs count room differ-word (λ k b e. record { small = omega arith; number = number k b })
+
+    pub narrow-candidates : {z : ℕ} → BesideAll n u v face first count → z ≡ kept keep (bitXor x y) → Candidates n row face u v first z
+    narrow-candidates d e =
+        each-mask (Candidate n row face u v first) (λ k. differs k && keep k) count room (e ∙ kept-mask keep differs count room differ-word)
+        (λ k b t. record { small = omega arith; number = number k b; beside = d k b; differs = left-true (differs k) (keep k) t })
+      where
+        left-true : (a b : Bool) → (a && b) ≡ true → a ≡ true
+        left-true true b t = refl
+        left-true false b t = t
+
+  pub narrow-told : {z o : ℕ} → ((k : ℕ) → k < count → pierced n row u v (face (first + 1 + k)) ≡ true → keep k ≡ true) → z
+      ≡ kept keep (bitXor x y) →
+      o ≡ crossedOf n row face u v first z → o ≡ maskAgainst n row face u v first count
+  narrow-told h e d =
+      d ∙ kept-mask (λ k. pierced n row u v (face (first + 1 + k))) (λ k. differs k && keep k) count room
+      (e ∙ kept-mask keep differs count room differ-word)
+      ∙ mask-same _ _ count (λ k b. three (differs k) (keep k) (pierced n row u v (face (first + 1 + k)))
+      (pierced-differs n row u v (face (first + 1 + k))) (h k b))
+
+-- both words
+module _ (n : ℕ) (row : ℕ → Row) (face : ℕ → Face) (own cut : ℕ → Mask) (u v first count : ℕ) {a b at : Mask}
+    (p : a ≡ sidesOf row face first count u) (q : b ≡ sidesOf row face first count v) (s : at ≡ bothOf (own u) (own v))
+    (within : first + count ≤ 2 * limits .mostFaces) (most : count ≤ limits .mostFaces) where
+  low-of : {m : Mask} (t : ℕ) → m ≡ sidesOf row face first count t → m .low ≡ maskBy (above row t) face first (first64 count)
+  unfolding masksBy
+  low-of t e i = (e i) .low
+
+  high-of : {m : Mask} (t : ℕ) → m ≡ sidesOf row face first count t → m .high ≡ maskBy (above row t) face (first + 64) (count - 64)
+  unfolding masksBy
+  high-of t e i = (e i) .high
+
+  abbrev keep : ℕ → ℕ → Bool
+  keep from k = covers (cut (from + 1 + k)) at
+
+  pub numbered-low : AtEach (Numbered first) (bitXor (a .low) (b .low))
+  numbered-low = numbered n row face u v first (first64 count) (keep first) (low-of u p) (low-of v q) (omega arith) (λ k l. omega arith)
+
+  pub numbered-high : AtEach (Numbered (first + 64)) (bitXor (a .high) (b .high))
+  numbered-high = numbered n row face u v (first + 64) (count - 64) (keep (first + 64)) (high-of u p) (high-of v q) (omega arith)
+      (λ k l. omega arith)
+
+  module _ (d : BesideAll n u v face first count) where
+    pub narrow-low : {z : ℕ} → z ≡ narrowedOf cut first at (bitXor (a .low) (b .low)) → Candidates n row face u v first z
+    narrow-low e =
+        narrow-candidates n row face u v first (first64 count) (keep first) (low-of u p) (low-of v q) (omega arith) (λ k l. omega arith)
+        (beside-low face first (first64 count) (omega arith) d) e
+
+    pub narrow-high : {z : ℕ} → z ≡ narrowedOf cut (first + 64) at (bitXor (a .high) (b .high)) → Candidates n row face u v (first + 64) z
+    narrow-high e =
+        narrow-candidates n row face u v (first + 64) (count - 64) (keep (first + 64)) (high-of u p) (high-of v q) (omega arith)
+        (λ k l. omega arith)
+        (beside-high face first 64 d) e
+
+    module _ (w : Weighted n row) (six : 6 ≤ n) (h : Around n row face own cut u v first count) where
+      all-kept : (k : ℕ) → k < count → pierced n row u v (face (first + 1 + k)) ≡ true → keep first k ≡ true
+      all-kept k l e =
+          kept-by n row face (h .low) (h .high) (h .owned) (h .owns) u v (face (first + 1 + k)) w six (d k l) (h .across k l) (h .cuts k l)
+          (s ∙ both-is face (h .owned) (h .owns) u v (h .u-own) (h .v-own)) e
+
+      kept-high : (k : ℕ) → k < count - 64 → pierced n row u v (face (first + 64 + 1 + k)) ≡ true → keep (first + 64) k ≡ true
+      kept-high k l =
+          subst (λ (i : ℕ). pierced n row u v (face i) ≡ true → covers (cut i) at ≡ true)
+          (let e : first + 1 + (64 + k) ≡ first + 64 + 1 + k = omega arith in e)
+          (all-kept (64 + k) (omega arith))
+
+      pub narrow-masks : {r : Mask} {y z : ℕ} → y ≡ narrowedOf cut first at (bitXor (a .low) (b .low)) → z
+          ≡ narrowedOf cut (first + 64) at (bitXor (a .high) (b .high)) →
+          r .low ≡ crossedOf n row face u v first y → r .high ≡ crossedOf n row face u v (first + 64) z → valueOf r
+          ≡ maskAgainst n row face u v first count
+      unfolding masksBy
+      narrow-masks {r} ey ez x o =
+          ap valueOf (λ i. record {
+            low = narrow-told n row face u v first (first64 count) (keep first) (low-of u p) (low-of v q) (omega arith)
+                (λ k l. all-kept k (omega arith)) ey x i;
+            high = narrow-told n row face u v (first + 64) (count - 64) (keep (first + 64)) (high-of u p) (high-of v q)
+                (omega arith) kept-high ez o i;
+          }) ∙ masks-value (pierced n row u v) face first count

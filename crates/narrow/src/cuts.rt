@@ -1,0 +1,68 @@
+// For each face of a solid the faces of the other whose planes part its corners, two words a face.
+ghost use mathlib.Core.Path.{_≡_};
+ghost use Prim.Native.Nat.{_+_, _*_, _≤_};
+ghost use Rattle.scene.specs.Limits.{limits};
+ghost use Rattle.scene.specs.Arrays.{faceIn, FaceWithin, FacesWithin};
+ghost use Rattle.sides.specs.Tables.{maskIn, wordSet, masksFrom};
+ghost use Rattle.narrow.specs.Cover.{cutIn};
+use pierce::faces::Mask;
+use scene::Corners;
+use scene::Face;
+use scene::Scene;
+use scene::decode::face_in;
+use sides::words::Words;
+use sides::words::mask_at;
+
+// Two words a face, at its number.
+pub type Cuts = [u64; 2 * (2 * Scene::MOST_FACES + 1)];
+
+// Those of the `count` faces numbered from first + 1 on, by the words of their corners.
+pub fn fill(corners: &Corners, words: &Words, first: usize, count: usize, cuts: &mut Cuts)
+    requires corners { ⌜ FacesWithin limits (faceIn (now corners)) ⌝ }
+    requires faces { ⌜ first + count ≤ 2 * limits .mostFaces ⌝ }
+    ensures { λ r. ⌜ now (cuts .exit) ≡ masksFrom (λ k. cutIn (now (words .entry)) (faceIn (now (corners .entry)) k)) first count (now (cuts .entry)) ⌝ }
+{
+    let mut i: usize = 0;
+    while i < count {
+        let k = first + 1 + i;
+        put(cuts, k, cut(words, face_in(corners, k)));
+        i += 1;
+    }
+}
+
+// Those of one face.
+fn cut(words: &Words, f: Face) -> Mask
+    requires { ⌜ FaceWithin limits f ⌝ }
+    ensures { λ r. ⌜ r ≡ cutIn (now (words .entry)) f ⌝ }
+{
+    let p = mask_at(words, f.p);
+    let q = mask_at(words, f.q);
+    let r = mask_at(words, f.r);
+    Mask {
+        low: p.low ^ q.low | q.low ^ r.low,
+        high: p.high ^ q.high | q.high ^ r.high,
+    }
+}
+
+fn put(cuts: &mut Cuts, k: usize, m: Mask)
+    requires { ⌜ k ≤ 2 * limits .mostFaces ⌝ }
+    ensures { λ r. ⌜ now (cuts .exit) ≡ wordSet (now (cuts .entry)) k m ⌝ }
+{
+    let i = 2 * k;
+    let low = m.low;
+    let high = m.high;
+    cuts[i] = low;
+    cuts[i + 1] = high;
+}
+
+// Those of face k, of a table that was filled.
+pub fn cut_at(cuts: &Cuts, k: usize) -> Mask
+    requires { ⌜ k ≤ 2 * limits .mostFaces ⌝ }
+    ensures { λ r. ⌜ r ≡ maskIn (now (cuts .entry)) k ⌝ }
+{
+    let i = 2 * k;
+    Mask {
+        low: cuts[i],
+        high: cuts[i + 1],
+    }
+}

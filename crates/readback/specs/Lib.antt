@@ -1,0 +1,2 @@
+-- What a report says is found again in its text.
+pub mod Again

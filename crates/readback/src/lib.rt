@@ -1,0 +1,1 @@
+// That a report reads back: theorems only.

@@ -1,0 +1,92 @@
+-- Three numbers of two bytes and one of one.
+use mathlib.Core.Path.{ap, _∙_}
+use lib.ListN.{length}
+use mir.Syntax.{w64}
+use mir.Val.{SFits}
+use mir.Facts.{toZ-ofZ}
+use Rattle.scene.specs.Write.{unsigned}
+use Rattle.scene.specs.Written.{row-length, row-stored}
+use borrow.Author.Needs.{needs}
+use Rattle.scene.proofs.write.put_row.Statement.{statement}
+use Rattle.scene.proofs.write.put_row.Tie as tie
+
+mul-at : tie.Need-mul-at
+mul-at c = search needs
+
+add-at : tie.Need-add-at
+add-at c = search needs
+
+add-put-two : tie.Need-add-put-two
+add-put-two c = search needs
+
+unsigned-requires : tie.Need-unsigned-requires
+unsigned-requires c κs = search needs
+
+put-two-requires : tie.Need-put-two-requires
+put-two-requires c κs = search needs
+
+add-put-two-2 : tie.Need-add-put-two-2
+add-put-two-2 c = search needs
+
+unsigned-requires-2 : tie.Need-unsigned-requires-2
+unsigned-requires-2 c κs = search needs
+
+put-two-requires-2 : tie.Need-put-two-requires-2
+put-two-requires-2 c κs = search needs
+
+add-put-two-3 : tie.Need-add-put-two-3
+add-put-two-3 c = search needs
+
+unsigned-requires-3 : tie.Need-unsigned-requires-3
+unsigned-requires-3 c κs = search needs
+
+put-two-requires-3 : tie.Need-put-two-requires-3
+put-two-requires-3 c κs = search needs
+
+unsigned-requires-4 : tie.Need-unsigned-requires-4
+unsigned-requires-4 c κs = search needs
+
+cast-out : tie.Need-cast-out
+cast-out c = search needs
+
+add-out : tie.Need-add-out
+add-out c = search needs
+
+slice-write-out : tie.Need-slice-write-out
+slice-write-out c = search needs
+
+returns : tie.Need-returns
+returns c =
+    let p = c .before .before .before .before .before .before .before .before .before .before .before .before .before .before .before .before .before .before .before .before .before .args .p in
+    let fx : SFits w64 (p .x) = search needs in
+    let fy : SFits w64 (p .y) = search needs in
+    let fz : SFits w64 (p .z) = search needs in
+    let fw : SFits w64 (p .w) = search needs in
+    row-stored _ _ p (c .before .before .before .before .before .before .before .before .before .before .before .before .before .before .before .before .put-two .ensures) (c .before .before .before .before .before .before .before .before .before .before .put-two2 .ensures) (c .before .before .before .before .put-two3 .ensures)
+    (c .before .before .before .before .before .before .before .before .before .before .before .before .before .before .before .before .before .unsigned .ensures .0 ∙ ap (unsigned 32768) (toZ-ofZ fx)) (c .before .before .before .before .before .before .before .before .before .before .before .unsigned2 .ensures .0 ∙ ap (unsigned 32768) (toZ-ofZ fy))
+    (c .before .before .before .before .before .unsigned3 .ensures .0 ∙ ap (unsigned 32768) (toZ-ofZ fz)) (c .unsigned4 .ensures .0 ∙ ap (unsigned 128) (toZ-ofZ fw))
+
+same-length : tie.Need-same-length
+same-length c = ap length (returns c) ∙ row-length _ _ _
+
+pub put-row-spec : {M : Type 1} → statement M
+put-row-spec =
+    tie.close
+    (tie.spec
+    mul-at
+    add-at
+    add-put-two
+    unsigned-requires
+    put-two-requires
+    add-put-two-2
+    unsigned-requires-2
+    put-two-requires-2
+    add-put-two-3
+    unsigned-requires-3
+    put-two-requires-3
+    unsigned-requires-4
+    cast-out
+    add-out
+    slice-write-out
+    same-length
+    returns)

@@ -1,0 +1,70 @@
+-- Each turn stores the plane of one more face.
+use borrow.Author.Needs.{needs}
+use mathlib.Core.Path.{_≡_, ap, _∙_}
+use Prim.Native.Nat.{_+_, _-_, _≤_}
+use native.Mathlib.Omega.{arith}
+use Rattle.laws.specs.Filled.{filled, filled-more}
+use Rattle.scene.specs.Arrays.{rowIn, faceIn}
+use Rattle.scene.specs.Decode.{rowSet}
+use Rattle.sides.specs.Planes.{planeFor}
+use Rattle.sides.proofs.planes.fill.Statement.{statement}
+use Rattle.sides.proofs.planes.fill.Tie as tie
+
+abbrev Inv-loop : tie.InvT-loop
+Inv-loop rows corners n planes₀ e k₀ planes k = (k ≤ e) × (planes ≡ filled rowSet (λ j. planeFor (rowIn rows) (faceIn corners j)) k planes₀)
+
+abbrev μ-loop : tie.MeasureT-loop
+μ-loop rows corners n planes₀ e k₀ planes k = e - k
+
+add-e : tie.Need-add-e Inv-loop μ-loop
+add-e c = search needs
+
+loop-holds : tie.Need-loop-holds Inv-loop μ-loop
+unfolding filled
+loop-holds c = search needs
+
+face-in-requires : tie.Need-face-in-requires Inv-loop μ-loop
+face-in-requires c κs = search needs
+
+plane-requires : tie.Need-plane-requires Inv-loop μ-loop
+plane-requires c κs =
+    let p = c .before .before .before .before .pre in
+    (p .0 .0, rw (c .face-in .ensures) (p .0 .1 _))
+
+put-requires : tie.Need-put-requires Inv-loop μ-loop
+put-requires c κs = search needs
+
+add-k : tie.Need-add-k Inv-loop μ-loop
+add-k c = search needs
+
+loop-less : tie.Need-loop-less Inv-loop μ-loop
+loop-less c = search needs
+
+loop-again : tie.Need-loop-again Inv-loop μ-loop
+loop-again c =
+    let d = c .before in (
+      omega arith,
+      c .put .ensures ∙ filled-more rowSet _ _ _ (d .before .before .before .before .loop .inv .1)
+          (d .plane .ensures ∙ ap (planeFor _) (d .before .face-in .ensures)),
+    )
+
+returns : tie.Need-returns Inv-loop μ-loop
+returns c =
+    let e : c .before .loop .k ≡ c .before .before .args .n + 1 = omega arith in
+    cc (c .before .loop .inv .1)
+
+pub fill-spec : {M : Type 1} → statement M
+fill-spec =
+    tie.close
+    (tie.spec
+    Inv-loop
+    μ-loop
+    add-e
+    loop-holds
+    face-in-requires
+    plane-requires
+    put-requires
+    add-k
+    loop-less
+    loop-again
+    returns)

@@ -1,0 +1,63 @@
+-- `sides::planes::join` meets its contract: each minor asks for no more than the rows promise. Assumes nothing.
+use borrow.Author.Needs.{needs}
+use Rattle.orient.specs.Bits.{RowFits, cross-ask, crossed}
+use Rattle.sides.proofs.planes.join.Statement.{statement}
+use Rattle.sides.proofs.planes.join.Tie as tie
+
+a-fits : (c : tie.Start) → RowFits (c .args .a)
+a-fits c = search needs
+
+b-fits : (c : tie.Start) → RowFits (c .args .b)
+b-fits c = search needs
+
+cross-requires : tie.Need-cross-requires
+cross-requires c κs = search needs
+
+cross-requires-2 : tie.Need-cross-requires-2
+cross-requires-2 c κs = search needs
+
+cross-requires-3 : tie.Need-cross-requires-3
+cross-requires-3 c κs = search needs
+
+cross-requires-4 : tie.Need-cross-requires-4
+cross-requires-4 c κs = search needs
+
+cross-requires-5 : tie.Need-cross-requires-5
+cross-requires-5 c κs = search needs
+
+cross-requires-6 : tie.Need-cross-requires-6
+cross-requires-6 c κs =
+    let s = c .before .before .before .before .before .before .before .before .before .before .before .before .before in
+    cross-ask (a-fits s .z) (a-fits s .w) (b-fits s .z) (b-fits s .w) (s .pre .zw)
+
+returns : tie.Need-returns
+returns c =
+    let c5 = c .before in
+    let c4 = c5 .before in
+    let c3 = c4 .before in
+    let c2 = c3 .before in
+    let c1 = c2 .before in
+    let s = c1 .before .before .before .before .before .before .before .before .before in
+    let a = a-fits s in
+    let b = b-fits s in
+    λ i.
+    record {
+      xy = crossed (a .x) (a .y) (b .x) (b .y) (c1 .cross .ok) (c1 .cross .ensures) i;
+      xz = crossed (a .x) (a .z) (b .x) (b .z) (c2 .cross2 .ok) (c2 .cross2 .ensures) i;
+      xw = crossed (a .x) (a .w) (b .x) (b .w) (c3 .cross3 .ok) (c3 .cross3 .ensures) i;
+      yz = crossed (a .y) (a .z) (b .y) (b .z) (c4 .cross4 .ok) (c4 .cross4 .ensures) i;
+      yw = crossed (a .y) (a .w) (b .y) (b .w) (c5 .cross5 .ok) (c5 .cross5 .ensures) i;
+      zw = crossed (a .z) (a .w) (b .z) (b .w) (c .cross6 .ok) (c .cross6 .ensures) i;
+    }
+
+pub join-spec : {M : Type 1} → statement M
+join-spec =
+    tie.close
+    (tie.spec
+    cross-requires
+    cross-requires-2
+    cross-requires-3
+    cross-requires-4
+    cross-requires-5
+    cross-requires-6
+    returns)

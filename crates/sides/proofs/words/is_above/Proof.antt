@@ -1,0 +1,36 @@
+-- The plane at the point tells the sign, and where it is zero the tie does.
+use borrow.Author.Needs.{needs}
+use denote.Ref.{now}
+use Rattle.scene.specs.Arrays.{rowIn, faceIn}
+use Rattle.sides.specs.Told.{above-asked, above-told}
+use Rattle.sides.proofs.words.is_above.Statement.{statement}
+use Rattle.sides.proofs.words.is_above.Tie as tie
+
+plane-at-requires : tie.Need-plane-at-requires
+plane-at-requires c κs = search needs
+
+dot-requires : tie.Need-dot-requires
+dot-requires c κs =
+    let s = c .before in
+    let p = s .pre in
+    above-asked (rowIn (now (s .args .rows))) (faceIn (now (s .args .corners))) (rowIn (now (s .args .planes))) (s .args .t) (s .args .k)
+    (p .1 .1)
+    (c .plane-at .ensures) (p .1 .0 .2) (p .0 .0)
+
+returns : tie.Need-returns
+returns c =
+    let d = c .before in
+    let s = d .before .before in
+    let p = s .pre in
+    above-told (rowIn (now (s .args .rows))) (faceIn (now (s .args .corners))) (rowIn (now (s .args .planes))) (s .args .t) (s .args .k)
+    (p .1 .1)
+    (d .before .plane-at .ensures) (p .1 .0 .2) (d .dot .ok) (d .dot .ensures) (c .if1 .taken)
+
+tie-above-requires : tie.Need-tie-above-requires
+tie-above-requires c κs = search needs
+
+returns-2 : tie.Need-returns-2
+returns-2 c = search needs
+
+pub is-above-spec : {M : Type 1} → statement M
+is-above-spec = tie.close (tie.spec plane-at-requires dot-requires returns tie-above-requires returns-2)

@@ -1,0 +1,51 @@
+-- What the code reads back of the numbers that it holds as bits, on the way to a plane and to a plane at a row. Assumes nothing.
+use mathlib.Core.Path.{_≡_, sym, subst, _∙_}
+use Prim.Native.Nat.{ℕ, _+_, _*_, _^_, _≤_, _<_}
+use native.Mathlib.Nat.{lt-of-le-of-lt}
+use native.Mathlib.Omega.{arith}
+use lib.Dec.{lit<}
+use lib.IntN.{ℤ, _+ℤ_}
+use lib.Signed.{mag}
+use mir.Syntax.{w64}
+use mir.Val.{SFits}
+use Rattle.laws.specs.Size.{exactly, _⊗_, _⊖_, _⊕_, reread, Held, formed, called}
+use Rattle.scene.specs.declared.Row.{Row}
+use Rattle.orient.specs.Bits.{read, RowFits, crossed}
+use Rattle.orient.specs.Minors.{crossOf, threeOf}
+use Rattle.orient.specs.Formed.{mostFormed, crossSize, threeSize}
+use Rattle.sides.specs.Planes.{dotOf}
+use Rattle.sides.specs.Sizes.{dotSize}
+use Rattle.sides.specs.declared.planes.Line.{Line}
+
+-- six numbers handed on to `three`
+module _ {a b c d e f : ℤ} (p : SFits w64 a) (q : SFits w64 b) (s : SFits w64 c) (t : SFits w64 d) (u : SFits w64 e) (v : SFits w64 f) where
+  six-read : {X : Type 0} (F : ℤ → ℤ → ℤ → ℤ → ℤ → ℤ → X) → F (reread a) (reread b) (reread c) (reread d) (reread e) (reread f)
+      ≡ F a b c d e f
+  six-read F i = F (read p i) (read q i) (read s i) (read t i) (read u i) (read v i)
+
+  pub three-ask : threeSize a b c d e f ≤ mostFormed → threeSize (reread a) (reread b) (reread c) (reread d) (reread e)
+      (reread f) ≤ mostFormed
+  three-ask h = subst (λ (n : ℕ). n ≤ mostFormed) (sym (six-read threeSize)) h
+
+  pub three-got : {r : ℤ} → mag r < 2 ^ 63 → r ≡ threeOf (reread a) (reread b) (reread c) (reread d) (reread e) (reread f) → reread r
+      ≡ threeOf a b c d e f
+  three-got ok g = called ok (g ∙ six-read threeOf)
+
+pub record LineFits (l : Line) : Type 0 where
+  pub xy : SFits w64 (l .xy)
+  pub xz : SFits w64 (l .xz)
+  pub xw : SFits w64 (l .xw)
+  pub yz : SFits w64 (l .yz)
+  pub yw : SFits w64 (l .yw)
+  pub zw : SFits w64 (l .zw)
+
+-- the two halves of `dot`, and their sum
+module _ {p t : Row} (f : RowFits p) (g : RowFits t) (h : dotSize p t ≤ mostFormed) where
+  pub dot-held : {r s : ℤ} → mag r < 2 ^ 63 → r ≡ crossOf (reread (p .w)) (reread (p .z)) (reread (t .z)) (reread (t .w)) →
+      mag s < 2 ^ 63 → s ≡ crossOf (reread (p .y)) (reread (p .x)) (reread (t .x)) (reread (t .y)) →
+      Held (dotSize p t) (reread r +ℤ reread s) (dotOf p t)
+  dot-held ok e ko d =
+      formed (λ i. crossed (f .w) (f .z) (g .z) (g .w) ok e i +ℤ crossed (f .y) (f .x) (g .x) (g .y) ko d i)
+      ((exactly (p .w) ⊗ exactly (t .w) ⊖ exactly (p .z) ⊗ exactly (t .z)) ⊕ (exactly (p .y) ⊗ exactly (t .y) ⊖ exactly (p .x) ⊗ exactly
+      (t .x)))
+      (lt-of-le-of-lt h (lit< tt))

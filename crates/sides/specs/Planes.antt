@@ -1,0 +1,83 @@
+-- Lines and planes: the six minors of two rows, the four of three rows, and the determinant of four rows as the plane of the first three at
+-- the fourth. Assumes nothing.
+use mathlib.Core.Path.{_≡_, sym, _∙_}
+use mathlib.Core.List.{[], _∷_}
+use Prim.Native.Nat.{ℕ}
+use lib.IntN.{ℤ, _+ℤ_, _-ℤ_, _*ℤ_}
+use Rattle.laws.specs.Ring.{ring}
+use Rattle.laws.specs.Ring.Expr.{_⊕_, _⊖_, _⊗_}
+use Rattle.scene.specs.declared.Row.{Row}
+use Rattle.scene.specs.declared.Face.{Face}
+use Rattle.orient.specs.Determinant.{Entries, det4}
+use Rattle.orient.specs.Columns.{partOf, c0-parts}
+use Rattle.orient.specs.Minors.{crossOf, threeOf}
+use Rattle.orient.specs.Terms.{c0, pointAt}
+use Rattle.orient.specs.Variables.{row, rows, det}
+use Rattle.sides.specs.declared.planes.Line.{Line}
+
+-- the minors of two rows, by their columns
+abbrev pub joinOf : Row → Row → Line
+joinOf a b =
+    record {
+      xy = crossOf (a .x) (a .y) (b .x) (b .y);
+      xz = crossOf (a .x) (a .z) (b .x) (b .z);
+      xw = crossOf (a .x) (a .w) (b .x) (b .w);
+      yz = crossOf (a .y) (a .z) (b .y) (b .z);
+      yw = crossOf (a .y) (a .w) (b .y) (b .w);
+      zw = crossOf (a .z) (a .w) (b .z) (b .w);
+    }
+
+-- the minors of those two and a third: x has all columns but x, and so on
+abbrev pub spanOf : Line → Row → Row
+spanOf l r =
+    record {
+      x = threeOf (l .yz) (r .w) (l .yw) (r .z) (l .zw) (r .y);
+      y = threeOf (l .xz) (r .w) (l .xw) (r .z) (l .zw) (r .x);
+      z = threeOf (l .xy) (r .w) (l .xw) (r .y) (l .yw) (r .x);
+      w = threeOf (l .xy) (r .z) (l .xz) (r .y) (l .yz) (r .x);
+    }
+
+-- a plane at a row: its minors along the last row of a determinant
+abbrev pub dotOf : Row → Row → ℤ
+dotOf p t = crossOf (p .w) (p .z) (t .z) (t .w) +ℤ crossOf (p .y) (p .x) (t .x) (t .y)
+
+-- the plane of three rows, and that of a face's corners
+unfoldable pub planeOf : Row → Row → Row → Row
+planeOf a b c = spanOf (joinOf a b) c
+
+unfoldable pub planeFor : (ℕ → Row) → Face → Row
+planeFor row f = planeOf (row (f .p)) (row (f .q)) (row (f .r))
+
+-- ---- the plane of three rows at a fourth is their determinant
+
+module _ {R : Type 0} (_+_ _-_ _*_ : R → R → R) where
+  infixl 6 _+_ _-_
+  infixl 7 _*_
+  abbrev cross : R → R → R → R → R
+  cross a b c d = a * d - b * c
+
+  abbrev three : R → R → R → R → R → R → R
+  three a b c d e f = a * b - c * d + e * f
+
+  abbrev by-plane : Entries R → Entries R → Entries R → Entries R → R
+  by-plane a b c d =
+      let xy = cross (a .x) (a .y) (b .x) (b .y) in
+      let xz = cross (a .x) (a .z) (b .x) (b .z) in
+      let xw = cross (a .x) (a .w) (b .x) (b .w) in
+      let yz = cross (a .y) (a .z) (b .y) (b .z) in
+      let yw = cross (a .y) (a .w) (b .y) (b .w) in
+      let zw = cross (a .z) (a .w) (b .z) (b .w) in
+      cross (three xy (c .z) xz (c .y) yz (c .x)) (three xy (c .w) xw (c .y) yw (c .x)) (d .z) (d .w)
+      + cross (three xz (c .w) xw (c .z) zw (c .x)) (three yz (c .w) yw (c .z) zw (c .y)) (d .x) (d .y)
+
+pub plane-dot : (a b c d : Row) → dotOf (planeOf a b c) d ≡ det4 a b c d
+unfolding det4 planeOf
+plane-dot a b c d =
+    ring (rows (a ∷ b ∷ c ∷ d ∷ [])) (by-plane _⊕_ _⊖_ _⊗_ (row 0) (row 1) (row 2) (row 3)) (det (row 0) (row 1) (row 2) (row 3)) tt
+
+-- so it is the first term of four points
+pub plane-term : (row : ℕ → Row) (i j k m : ℕ) →
+    dotOf (planeOf (row i) (row j) (row k)) (row m) ≡ c0 (pointAt row i) (pointAt row j) (pointAt row k) (pointAt row m)
+unfolding partOf
+plane-term row i j k m = plane-dot (row i) (row j) (row k) (row m) ∙ sym (c0-parts (pointAt row i) (pointAt row j) (pointAt row k)
+    (pointAt row m))

@@ -1,0 +1,127 @@
+-- The sides of a solid's faces on which a point lies: A(t) of formula (13) for each face, as two words. Assumes nothing.
+use mathlib.Core.Path.{_≡_, sym, ap, ap₂, subst, _∙_}
+use mathlib.Core.Bool.{Bool}
+use Prim.Native.Nat.{ℕ, _+_, _*_, _-_, _^_, _≤_, _<_}
+use native.Mathlib.Omega.{arith}
+use native.Mathlib.Decide.{decLt}
+use Rattle.laws.specs.Mask.{maskOf, mask-join}
+use Rattle.scene.specs.Faces.{Vertex, FaceOf}
+use Rattle.scene.specs.declared.Row.{Row}
+use Rattle.scene.specs.declared.Face.{Face}
+use Rattle.orient.specs.Signs.{Four, Upto, ne-sym}
+use Rattle.orient.specs.Terms.{positiveAt}
+use Rattle.orient.specs.Weighted.{Weighted, Asked}
+use Rattle.pierce.specs.Beside.{BesideAll, in-scene, apart}
+use Rattle.pierce.specs.Faces.{maskBy, valueOf}
+use Rattle.pierce.specs.declared.faces.Mask.{Mask}
+use Rattle.sides.specs.Planes.{planeFor}
+
+-- the sign of the face's corners and t is plus
+unfoldable pub above : (ℕ → Row) → ℕ → Face → Bool
+above row t f = positiveAt row (f .p) (f .q) (f .r) t
+
+-- ---- as two words
+
+-- the faces that the first word holds, and the others
+abbrev pub first64 : ℕ → ℕ
+first64 count = count - (count - 64)
+
+unfoldable pub masksBy : (Face → Bool) → (ℕ → Face) → (first count : ℕ) → Mask
+masksBy passes face first count = record {
+  low = maskBy passes face first (first64 count);
+  high = maskBy passes face (first + 64)
+      (count - 64);
+}
+
+-- for a solid of `count` faces, numbered from first + 1 on
+abbrev pub sidesOf : (ℕ → Row) → (ℕ → Face) → (first count t : ℕ) → Mask
+sidesOf row face first count t = masksBy (above row t) face first count
+
+no-more : (g : ℕ → Bool) (x : ℕ) → x + 2 ^ 64 * maskOf g 0 ≡ x
+unfolding maskOf
+no-more g x = omega arith
+
+-- together they are one mask
+pub masks-value : (passes : Face → Bool) (face : ℕ → Face) (first count : ℕ) → valueOf (masksBy passes face first count)
+    ≡ maskBy passes face first count
+unfolding valueOf masksBy
+masks-value passes face first count = go (decLt 64 count)
+  where
+    next : (k : ℕ) → first + 64 + 1 + k ≡ first + 1 + (64 + k)
+    next k = omega arith
+
+    shifted : _≡_ {A = ℕ → Bool} (λ k. passes (face (first + 64 + 1 + k))) (λ k. passes (face (first + 1 + (64 + k))))
+    shifted i k = passes (face (next k i))
+
+    g : ℕ → Bool
+    g k = passes (face (first + 1 + k))
+
+    go : Dec (64 < count) → maskBy passes face first (first64 count) + 2 ^ 64 * maskBy passes face (first + 64) (count - 64)
+        ≡ maskBy passes face first count
+    go (yes h) =
+        let m : first64 count ≡ 64 = omega arith in
+        ap₂ (λ (x y : ℕ). x + 2 ^ 64 * y) (ap (maskOf g) m) (ap (λ (f : ℕ → Bool). maskOf f (count - 64)) shifted)
+        ∙ sym (mask-join g 64 (count - 64)) ∙ ap (maskOf g) (omega arith)
+    go (no h) =
+        let m : first64 count ≡ count = omega arith in
+        let z : count - 64 ≡ 0 = omega arith in
+        ap₂ (λ (x y : ℕ). x + 2 ^ 64 * y) (ap (maskOf g) m) (ap (maskBy passes face (first + 64)) z)
+        ∙ no-more (λ k. passes (face (first + 64 + 1 + k))) (maskOf g count)
+
+-- as the code makes them: one word holds all, or the second goes on from there
+module _ (passes : Face → Bool) (face : ℕ → Face) (first count : ℕ) where
+  pub masks-one : {w : ℕ} → count ≤ 64 → w ≡ maskBy passes face first count → _≡_ {A = Mask} (record { low = w; high = 0 })
+      (masksBy passes face first count)
+  unfolding masksBy maskOf
+  masks-one h e =
+      let m : count ≡ first64 count = omega arith in
+      let z : 0 ≡ count - 64 = omega arith in
+      λ i. record { low = (e ∙ ap (maskBy passes face first) m) i; high = maskBy passes face (first + 64) (z i) }
+
+  pub masks-two : {w v : ℕ} → 64 < count → w ≡ maskBy passes face first 64 → v ≡ maskBy passes face (first + 64) (count - 64) →
+      _≡_ {A = Mask} (record { low = w; high = v }) (masksBy passes face first count)
+  unfolding masksBy
+  masks-two h e d =
+      let m : 64 ≡ first64 count = omega arith in
+      λ i. record { low = (e ∙ ap (maskBy passes face first) m) i; high = d i }
+
+-- ---- what is asked before a point's sides are told: the planes are made, and each face's corners and the point differ
+
+pub record Ready (row : ℕ → Row) (face : ℕ → Face) (plane : ℕ → Row) (t k : ℕ) : Type 0 where
+  pub made : plane k ≡ planeFor row (face k)
+  pub asked : Asked row ((face k) .p) ((face k) .q) ((face k) .r) t
+
+abbrev pub ReadyAll : (ℕ → Row) → (ℕ → Face) → (ℕ → Row) → (t first count : ℕ) → Type 0
+ReadyAll row face plane t first count = (k : ℕ) → k < count → Ready row face plane t (first + 1 + k)
+
+module _ (row : ℕ → Row) (face : ℕ → Face) (plane : ℕ → Row) {t : ℕ} (first count : ℕ) (h : ReadyAll row face plane t first count) where
+  pub ready-low : (m : ℕ) → m ≤ count → ReadyAll row face plane t first m
+  ready-low m l k b = h k (omega arith)
+
+  pub ready-high : ReadyAll row face plane t (first + 64) (count - 64)
+  ready-high k b =
+      let e : first + 1 + (64 + k) ≡ first + 64 + 1 + k = omega arith in
+      subst (λ (i : ℕ). Ready row face plane t i) e (h (64 + k) (omega arith))
+
+-- the planes of a solid's faces are in a table
+abbrev pub Planed : (ℕ → Row) → (ℕ → Face) → (ℕ → Row) → (first count : ℕ) → Type 0
+Planed row face plane first count = (k : ℕ) → k < count → plane (first + 1 + k) ≡ planeFor row (face (first + 1 + k))
+
+module _ {n : ℕ} (row : ℕ → Row) (face : ℕ → Face) (plane : ℕ → Row) (first count : ℕ) (w : Weighted n row)
+    (p : Planed row face plane first count) where
+  -- a point that is no vertex of the solid
+  pub ready : {low high t : ℕ} → high ≤ n → Upto n t → (Vertex low high t → ⊥) →
+      ((k : ℕ) → k < count → FaceOf low high (face (first + 1 + k))) → ReadyAll row face plane t first count
+  ready {low} {high} {t} l i out h k b =
+      let f = h k b in
+      let d : Four (Upto n) ((face (first + 1 + k)) .p) ((face (first + 1 + k)) .q) ((face (first + 1 + k)) .r) t = search
+      (ne-sym, in-scene, apart) in
+      record { made = p k b; asked = record { points = n; weighted = w; four = d } }
+
+  -- the ends of an edge beside the solid's faces
+  pub ready-ends : {u v : ℕ} → BesideAll n u v face first count → ReadyAll row face plane u first count
+      × ReadyAll row face plane v first count
+  ready-ends h = (
+    λ k b. let d = h k b in record { made = p k b; asked = record { points = n; weighted = w; four = search ne-sym } },
+    λ k b. let d = h k b in record { made = p k b; asked = record { points = n; weighted = w; four = search ne-sym } },
+  )

@@ -1,0 +1,116 @@
+-- How large the numbers are that lines and planes are formed from: with coordinates up to C and weights up to W, a plane's coefficients are
+-- at most 6·C²·W, the fourth 6·C³, and a plane at a point is at most 24·C³·W. Assumes nothing.
+use Prim.Native.Nat.{ℕ, _+_, _*_, _≤_}
+use native.Mathlib.Nat.{le-trans, add-le-add, mul-le-mul}
+use native.Mathlib.Omega.{arith}
+use lib.Dec.{lit≤}
+use lib.IntN.{ℤ, natAbs}
+use Rattle.laws.specs.Size.{Small, _⊗_, _⊖_, _⊕_, below}
+use Rattle.scene.specs.Limits.{limits}
+use Rattle.scene.specs.Arrays.{RowWithin}
+use Rattle.scene.specs.declared.Row.{Row}
+use Rattle.orient.specs.Formed.{mostFormed, crossSize, threeSize, JoinWithin, RowSize}
+use Rattle.sides.specs.Planes.{joinOf, spanOf, planeOf}
+use Rattle.sides.specs.declared.planes.Line.{Line}
+
+-- what is formed on the way to a plane, and to a plane at a row
+pub record SpanWithin (k : ℕ) (l : Line) (r : Row) : Type 0 where
+  pub x : threeSize (l .yz) (r .w) (l .yw) (r .z) (l .zw) (r .y) ≤ k
+  pub y : threeSize (l .xz) (r .w) (l .xw) (r .z) (l .zw) (r .x) ≤ k
+  pub z : threeSize (l .xy) (r .w) (l .xw) (r .y) (l .yw) (r .x) ≤ k
+  pub w : threeSize (l .xy) (r .z) (l .xz) (r .y) (l .yz) (r .x) ≤ k
+
+abbrev pub dotSize : Row → Row → ℕ
+dotSize p t = crossSize (p .w) (p .z) (t .z) (t .w) + crossSize (p .y) (p .x) (t .x) (t .y)
+
+three-size : {A B D E F G : ℕ} {a b c d e f : ℤ} → Small A a → Small B b → Small D c → Small E d → Small F e → Small G f →
+    threeSize a b c d e f ≤ A * B + D * E + F * G
+three-size p q r s t u = add-le-add (add-le-add (mul-le-mul (p .size) (q .size)) (mul-le-mul (r .size) (s .size)))
+    (mul-le-mul (t .size) (u .size))
+
+cross-size : {A B D E : ℕ} {a b c d : ℤ} → Small A a → Small B b → Small D c → Small E d → crossSize a b c d ≤ A * E + B * D
+cross-size p q r s = add-le-add (mul-le-mul (p .size) (s .size)) (mul-le-mul (q .size) (r .size))
+
+module _ (C W : ℕ) where
+  record LineSize (l : Line) : Type 0 where
+    xy : Small (C * C + C * C) (l .xy)
+    xz : Small (C * C + C * C) (l .xz)
+    xw : Small (C * W + W * C) (l .xw)
+    yz : Small (C * C + C * C) (l .yz)
+    yw : Small (C * W + W * C) (l .yw)
+    zw : Small (C * W + W * C) (l .zw)
+
+  -- a row of a scene, and a plane
+  abbrev RowUpto : Row → Type 0
+  RowUpto = RowSize C C C W
+
+  abbrev pub PlaneUpto : Row → Type 0
+  PlaneUpto = RowSize (6 * (C * C * W)) (6 * (C * C * W)) (6 * (C * C * W)) (6 * (C * C * C))
+
+  line-size : {a b : Row} → RowUpto a → RowUpto b → LineSize (joinOf a b)
+  line-size p q =
+      record {
+        xy = p .x ⊗ q .y ⊖ p .y ⊗ q .x;
+        xz = p .x ⊗ q .z ⊖ p .z ⊗ q .x;
+        xw = p .x ⊗ q .w ⊖ p .w ⊗ q .x;
+        yz = p .y ⊗ q .z ⊖ p .z ⊗ q .y;
+        yw = p .y ⊗ q .w ⊖ p .w ⊗ q .y;
+        zw = p .z ⊗ q .w ⊖ p .w ⊗ q .z;
+      }
+
+  module _ {a b c : Row} (p : RowUpto a) (q : RowUpto b) (r : RowUpto c) where
+    span-within : SpanWithin (6 * (C * C * W) + 6 * (C * C * C)) (joinOf a b) c
+    span-within =
+        let l = line-size p q in
+        record {
+          x = le-trans (three-size (l .yz) (r .w) (l .yw) (r .z) (l .zw) (r .y)) (omega arith);
+          y = le-trans (three-size (l .xz) (r .w) (l .xw) (r .z) (l .zw) (r .x)) (omega arith);
+          z = le-trans (three-size (l .xy) (r .w) (l .xw) (r .y) (l .yw) (r .x)) (omega arith);
+          w = le-trans (three-size (l .xy) (r .z) (l .xz) (r .y) (l .yz) (r .x)) (omega arith);
+        }
+
+    pub plane-size : PlaneUpto (planeOf a b c)
+    unfolding planeOf
+    plane-size =
+        let l = line-size p q in
+        record {
+          x = below (l .yz ⊗ r .w ⊖ l .yw ⊗ r .z ⊕ l .zw ⊗ r .y) (omega arith);
+          y = below (l .xz ⊗ r .w ⊖ l .xw ⊗ r .z ⊕ l .zw ⊗ r .x) (omega arith);
+          z = below (l .xy ⊗ r .w ⊖ l .xw ⊗ r .y ⊕ l .yw ⊗ r .x) (omega arith);
+          w = below (l .xy ⊗ r .z ⊖ l .xz ⊗ r .y ⊕ l .yz ⊗ r .x) (omega arith);
+        }
+
+    pub dot-size : {d : Row} → RowUpto d → dotSize (planeOf a b c) d ≤ 24 * (C * C * C * W)
+    dot-size s =
+        let m = plane-size in
+        le-trans (add-le-add (cross-size (m .w) (m .z) (s .z) (s .w)) (cross-size (m .y) (m .x) (s .x) (s .y))) (omega arith)
+
+-- ---- at the limits of a scene
+
+row-upto : {r : Row} → RowWithin limits r → RowSize (limits .mostCoordinate) (limits .mostCoordinate) (limits .mostCoordinate)
+    (limits .mostWeight) r
+row-upto h = omega arith
+
+module _ {a b : Row} (p : RowWithin limits a) (q : RowWithin limits b) where
+  pub join-formed : JoinWithin mostFormed a b
+  join-formed =
+      let s = row-upto p in
+      let t = row-upto q in
+      record {
+        xy = le-trans (cross-size (s .x) (s .y) (t .x) (t .y)) (lit≤ tt);
+        xz = le-trans (cross-size (s .x) (s .z) (t .x) (t .z)) (lit≤ tt);
+        xw = le-trans (cross-size (s .x) (s .w) (t .x) (t .w)) (lit≤ tt);
+        yz = le-trans (cross-size (s .y) (s .z) (t .y) (t .z)) (lit≤ tt);
+        yw = le-trans (cross-size (s .y) (s .w) (t .y) (t .w)) (lit≤ tt);
+        zw = le-trans (cross-size (s .z) (s .w) (t .z) (t .w)) (lit≤ tt);
+      }
+
+  module _ {c : Row} (r : RowWithin limits c) where
+    pub span-formed : SpanWithin mostFormed (joinOf a b) c
+    span-formed =
+        let v = span-within (limits .mostCoordinate) (limits .mostWeight) (row-upto p) (row-upto q) (row-upto r) in
+        omega arith
+
+    pub dot-formed : {d : Row} → RowWithin limits d → dotSize (planeOf a b c) d ≤ mostFormed
+    dot-formed s = le-trans (dot-size (limits .mostCoordinate) (limits .mostWeight) (row-upto p) (row-upto q) (row-upto r) (row-upto s))
+        (lit≤ tt)

@@ -1,0 +1,129 @@
+-- The tables that are made once a scene: the planes of its faces, and two words a point, the sides of the other solid's faces. What they
+-- hold after they are filled, at every number. Assumes nothing.
+use mathlib.Core.Path.{_≡_, refl, sym, ap, _∙_}
+use mathlib.Core.Bool.{Bool, true, false, cond}
+use mathlib.Core.List.{List}
+use Prim.Native.Nat.{ℕ, zero, suc, _+_, _-_, _*_, _≤_, _<_}
+use native.Mathlib.Omega.{arith}
+use borrow.Author.Tests.{lt-ltb, le-ltb}
+use lib.Dec.{ltb}
+use lib.IntN.{ℤ, pos}
+use lib.ListN.{length, getD, set, length-set, replicate}
+use lib.Seq.{getD-set-same, getD-set-other}
+use Rattle.laws.specs.Filled.{filled, filled-more, filled-at}
+use Rattle.scene.specs.Limits.{limits}
+use Rattle.scene.specs.Arrays.{rowIn}
+use Rattle.scene.specs.Decode.{rowSet, rows-decoded}
+use Rattle.scene.specs.Tables.{noRow}
+use Rattle.scene.specs.declared.Row.{Row}
+use Rattle.scene.specs.declared.Face.{Face}
+use Rattle.scene.specs.declared.Solid.{Solid}
+use Rattle.pierce.specs.declared.faces.Mask.{Mask}
+use Rattle.sides.specs.Planes.{planeFor}
+use Rattle.sides.specs.Sides.{sidesOf, ReadyAll, Planed}
+
+-- ---- planes: four numbers a face
+
+module _ {A B : Type 0} (put : List A → ℕ → B → List A) where
+  filled-same : (g h : ℕ → B) (n : ℕ) (l : List A) → ((k : ℕ) → k < n → g k ≡ h k) → filled put g n l ≡ filled put h n l
+  unfolding filled
+  filled-same g h zero l e = refl
+  filled-same g h (suc n) l e = λ i. put (filled-same g h n l (λ k b. e k (omega arith)) i) n (e n (omega arith) i)
+
+-- a table of zeros, filled with the planes of the faces below n
+pub planes-filled : (row : ℕ → Row) (face : ℕ → Face) (n m : ℕ) {l : List ℤ} → l
+    ≡ filled rowSet (λ k. planeFor row (face k)) n (replicate m (pos 0)) → 4 * n ≤ m →
+    (k : ℕ) → k < n → rowIn l k ≡ planeFor row (face k)
+planes-filled row face n m e h k b =
+    ap (λ (f : ℕ → Row). f k) (rows-decoded upto n m (e ∙ filled-same rowSet (λ j. planeFor row (face j)) upto n
+    (replicate m (pos 0)) same) h beyond) ∙ sym (same k b)
+  where
+    upto : ℕ → Row
+    upto j = cond (ltb j n) (planeFor row (face j)) noRow
+
+    same : (j : ℕ) → j < n → planeFor row (face j) ≡ upto j
+    same j b = rw (lt-ltb j n b)
+
+    beyond : (j : ℕ) → n ≤ j → upto j ≡ noRow
+    beyond j b = rw (le-ltb j n b)
+
+pub planed : (row : ℕ → Row) (face : ℕ → Face) (n m : ℕ) {l : List ℤ} → l ≡ filled rowSet (λ k. planeFor row (face k)) n (replicate m
+    (pos 0)) → 4 * n ≤ m →
+    (first count : ℕ) → first + count < n → Planed row face (rowIn l) first count
+planed row face n m e h first count b k c = planes-filled row face n m e h (first + 1 + k) (omega arith)
+
+-- ---- words: two a point
+
+abbrev pub maskIn : List ℕ → ℕ → Mask
+maskIn l t = record { low = getD l (2 * t) 0; high = getD l (2 * t + 1) 0 }
+
+abbrev pub wordSet : List ℕ → ℕ → Mask → List ℕ
+wordSet l t m = set (set l (2 * t) (m .low)) (2 * t + 1) (m .high)
+
+-- g at each of the n numbers above low
+unfoldable pub masksFrom : (ℕ → Mask) → (low n : ℕ) → List ℕ → List ℕ
+masksFrom g low = filled (λ l i m. wordSet l (low + 1 + i) m) (λ i. g (low + 1 + i))
+
+-- the sides of a solid's vertices against the other solid's faces
+abbrev pub wordsFor : (ℕ → Row) → (ℕ → Face) → Solid → List ℕ → List ℕ
+wordsFor row face k = masksFrom (sidesOf row face (k .other) (k .others)) (k .low) (k .verts)
+
+abbrev pub ReadyFor : (ℕ → Row) → (ℕ → Face) → (ℕ → Row) → Solid → Type 0
+ReadyFor row face plane k = (i : ℕ) → i < k .verts → ReadyAll row face plane (k .low + 1 + i) (k .other) (k .others)
+
+word-keeps : (l : List ℕ) (t : ℕ) (m : Mask) → length (wordSet l t m) ≡ length l
+word-keeps l t m = simp length-set
+
+word-same : (l : List ℕ) (t : ℕ) (m : Mask) → 2 * t + 1 < length l → maskIn (wordSet l t m) t ≡ m
+word-same l t m h =
+    let l1 : List ℕ = set l (2 * t) (m .low) in
+    let e1 : length l1 ≡ length l = simp length-set in
+    let low : getD (wordSet l t m) (2 * t) 0 ≡ m .low =
+    getD-set-other l1 (2 * t + 1) (2 * t) (m .high) 0 (λ e. omega (arith, e)) ∙ getD-set-same l (2 * t) (m .low) 0 (omega arith) in
+    let high : getD (wordSet l t m) (2 * t + 1) 0 ≡ m .high = getD-set-same l1 (2 * t + 1) (m .high) 0 (omega arith) in
+    λ i. record { low = low i; high = high i }
+
+word-other : (l : List ℕ) (t j : ℕ) (m : Mask) → (j ≡ t → ⊥) → maskIn (wordSet l t m) j ≡ maskIn l j
+word-other l t j m d = λ i. record {
+  low = at (2 * j) (λ e. omega (arith, e)) (λ e. omega (arith, e)) i;
+  high = at (2 * j + 1)
+      (λ e. omega (arith, e)) (λ e. omega (arith, e)) i;
+}
+  where
+    at : (b : ℕ) → (b ≡ 2 * t → ⊥) → (b ≡ 2 * t + 1 → ⊥) → getD (wordSet l t m) b 0 ≡ getD l b 0
+    at b h0 h1 = getD-set-other (set l (2 * t) (m .low)) (2 * t + 1) b (m .high) 0 h1 ∙ getD-set-other l (2 * t) b (m .low) 0 h0
+
+module _ (g : ℕ → Mask) (low : ℕ) where
+  abbrev at : ℕ → ℕ
+  at i = low + 1 + i
+
+  abbrev made : ℕ → List ℕ → List ℕ
+  made = masksFrom g low
+
+  -- one turn of the loop that fills them
+  pub masks-more : (i : ℕ) (l : List ℕ) {ws : List ℕ} {m : Mask} → ws ≡ made i l → m ≡ g (at i) → wordSet ws (at i) m ≡ made (i + 1) l
+  unfolding masksFrom
+  masks-more i l e d = filled-more (λ l i m. wordSet l (at i) m) (λ i. g (at i)) i l e d
+
+  pub masks-length : (n : ℕ) (l : List ℕ) → length (made n l) ≡ length l
+  unfolding masksFrom filled
+  masks-length zero l = refl
+  masks-length (suc n) l = word-keeps (made n l) (at n) (g (at n)) ∙ masks-length n l
+
+  -- at each of the n numbers, and at every other
+  pub masks-at : (n : ℕ) (l : List ℕ) → 2 * (low + n) + 1 < length l → (t : ℕ) → low < t → t ≤ low + n → maskIn (made n l) t ≡ g t
+  unfolding masksFrom
+  masks-at n l r t a b =
+      let e : t ≡ at (t - (low + 1)) = omega arith in
+      ap (maskIn (made n l)) e
+      ∙ filled-at (λ x i m. wordSet x (at i) m) (λ x i. maskIn x (at i)) (λ i s. 2 * at i + 1 < s) (λ x i m. word-keeps x (at i) m)
+      (λ x i m. word-same x (at i) m)
+      (λ x i j m d. word-other x (at i) (at j) m (λ f. d (omega (arith, f)))) (λ i. g (at i)) n l (λ i s. omega arith) (t - (low + 1))
+      (omega arith)
+      ∙ ap g (sym e)
+
+  pub masks-kept : (n : ℕ) (l : List ℕ) (t : ℕ) → (low < t → t ≤ low + n → ⊥) → maskIn (made n l) t ≡ maskIn l t
+  unfolding masksFrom filled
+  masks-kept zero l t out = refl
+  masks-kept (suc n) l t out =
+      word-other (made n l) (at n) t (g (at n)) (λ e. out (omega arith) (omega arith)) ∙ masks-kept n l t (λ a b. out a (omega arith))

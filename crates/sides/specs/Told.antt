@@ -1,0 +1,53 @@
+-- A sign told by a plane at a point: where that is not zero it is the sign of the four points. Assumes nothing.
+use mathlib.Core.Path.{_≡_, sym, subst, _∙_}
+use Prim.Native.Nat.{ℕ, _^_, _<_, _≤_}
+use lib.IntN.{ℤ, pos}
+use lib.Signed.{mag, ltZ}
+use mir.Syntax.{w64}
+use mir.Val.{ofZ}
+use Rattle.laws.specs.Size.{reread}
+use Rattle.scene.specs.Limits.{limits}
+use Rattle.scene.specs.Arrays.{AllWithin}
+use Rattle.scene.specs.declared.Row.{Row}
+use Rattle.scene.specs.declared.Face.{Face}
+use Rattle.orient.specs.Bits.{decides}
+use Rattle.orient.specs.Formed.{mostFormed}
+use Rattle.orient.specs.Terms.{orientation, positiveAt}
+use Rattle.sides.specs.Planes.{joinOf, spanOf, planeOf, planeFor, dotOf, plane-term}
+use Rattle.sides.specs.Sides.{above, Ready}
+use Rattle.sides.specs.Sizes.{SpanWithin, dotSize, span-formed, dot-formed}
+use Rattle.sides.specs.declared.planes.Line.{Line}
+
+-- the plane of points i, j and k, spanned by the line l of the first two and the row y of the third
+module _ (row : ℕ → Row) (i j k : ℕ) {l : Line} {y : Row} (p : l ≡ joinOf (row i) (row j)) (q : y ≡ row k) where
+  pub span-asked : AllWithin limits row → SpanWithin mostFormed l y
+  span-asked h =
+      subst (λ (m : Line). SpanWithin mostFormed m y) (sym p) (subst (λ (z : Row). SpanWithin mostFormed (joinOf (row i) (row j)) z) (sym q)
+      (span-formed (h i) (h j) (h k)))
+
+  pub spanned : {x : Row} → x ≡ spanOf l y → x ≡ planeOf (row i) (row j) (row k)
+  unfolding planeOf
+  spanned e = e ∙ (λ o. spanOf (p o) (q o))
+
+-- x is the plane of points i, j and k, and y the row of point m
+module _ (row : ℕ → Row) (i j k m : ℕ) {x y : Row} (p : x ≡ planeOf (row i) (row j) (row k)) (q : y ≡ row m) where
+  pub dot-asked : AllWithin limits row → dotSize x y ≤ mostFormed
+  dot-asked h = subst (λ (s : ℕ). s ≤ mostFormed) (λ o. dotSize (sym p o) (sym q o)) (dot-formed (h i) (h j) (h k) (h m))
+
+  pub sign-told : {d : ℤ} → mag d < 2 ^ 63 → d ≡ dotOf x y → (ofZ w64 d ≡ 0 → ⊥) → ltZ (pos 0) (reread d) ≡ positiveAt row i j k m
+  unfolding positiveAt orientation
+  sign-told ok e h = decides _ ok (e ∙ (λ o. dotOf (p o) (q o)) ∙ plane-term row i j k m) h
+
+-- the same for a face whose plane is in the table, and a point
+module _ (row : ℕ → Row) (face : ℕ → Face) (plane : ℕ → Row) (t k : ℕ) {x y : Row} (ready : Ready row face plane t k) (p : x ≡ plane k)
+    (q : y ≡ row t) where
+  corners : x ≡ planeOf (row ((face k) .p)) (row ((face k) .q)) (row ((face k) .r))
+  unfolding planeFor
+  corners = p ∙ ready .made
+
+  pub above-asked : AllWithin limits row → dotSize x y ≤ mostFormed
+  above-asked = dot-asked row ((face k) .p) ((face k) .q) ((face k) .r) t corners q
+
+  pub above-told : {d : ℤ} → mag d < 2 ^ 63 → d ≡ dotOf x y → (ofZ w64 d ≡ 0 → ⊥) → ltZ (pos 0) (reread d) ≡ above row t (face k)
+  unfolding above
+  above-told = sign-told row ((face k) .p) ((face k) .q) ((face k) .r) t corners q

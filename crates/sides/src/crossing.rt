@@ -1,0 +1,58 @@
+// An edge and one face whose plane parts its ends: whether the edge passes the face's three sides on one hand.
+ghost use mathlib.Core.Path.{_≡_};
+ghost use Prim.Native.Nat.{_≤_};
+ghost use Rattle.scene.specs.Limits.{limits, mostPoints};
+ghost use Rattle.scene.specs.Arrays.{rowIn, AllWithin, FaceWithin};
+ghost use Rattle.orient.specs.Terms.{positiveAt};
+ghost use Rattle.sides.specs.Planes.{joinOf};
+ghost use Rattle.sides.specs.Crossing.{crosses, Faced};
+use crate::planes::Line;
+use crate::planes::dot;
+use crate::planes::row_at;
+use crate::planes::span;
+use orient::positive_at;
+use scene::Face;
+use scene::Rows;
+
+// By c0 of the edge's line, made once an edge, and two corners at a time; where one is zero, by the shift.
+pub fn crosses(rows: &Rows, l: Line, u: usize, v: usize, f: Face) -> bool
+    requires points { ⌜ AllWithin limits (rowIn (now rows)) × (u ≤ mostPoints limits) × (v ≤ mostPoints limits) × FaceWithin limits f ⌝ }
+    requires edge { ⌜ (l ≡ joinOf (rowIn (now rows) u) (rowIn (now rows) v)) × Faced (rowIn (now rows)) u v f ⌝ }
+    ensures { λ r. ⌜ r ≡ crosses (positiveAt (rowIn (now (rows .entry)))) u v f ⌝ }
+{
+    let p = row_at(rows, f.p);
+    let q = row_at(rows, f.q);
+    let r = row_at(rows, f.r);
+    let at_q = span(l, q);
+    let qp = dot(at_q, p);
+    if qp == 0 {
+        return tie_crosses(rows, u, v, f);
+    }
+    let qr = dot(at_q, r);
+    if qr == 0 {
+        return tie_crosses(rows, u, v, f);
+    }
+    if (0 < qp) == (0 < qr) {
+        return false;
+    }
+    let pr = dot(span(l, p), r);
+    if pr == 0 {
+        return tie_crosses(rows, u, v, f);
+    }
+    (0 < qr) != (0 < pr)
+}
+
+// The same by the three signs.
+fn tie_crosses(rows: &Rows, u: usize, v: usize, f: Face) -> bool
+    requires points { ⌜ AllWithin limits (rowIn (now rows)) × (u ≤ mostPoints limits) × (v ≤ mostPoints limits) × FaceWithin limits f ⌝ }
+    requires edge { ⌜ Faced (rowIn (now rows)) u v f ⌝ }
+    ensures { λ r. ⌜ r ≡ crosses (positiveAt (rowIn (now (rows .entry)))) u v f ⌝ }
+{
+    let p = f.p;
+    let q = f.q;
+    let r = f.r;
+    let qp = positive_at(rows, u, v, q, p);
+    let qr = positive_at(rows, u, v, q, r);
+    let pr = positive_at(rows, u, v, p, r);
+    (qp != qr) & (qr != pr)
+}

@@ -1,0 +1,166 @@
+// The planes of a scene's faces: each face's four minors, made once, give the determinant of its corners and a point by four products.
+ghost use mathlib.Core.Path.{_≡_};
+ghost use Prim.Native.Nat.{_+_, _*_, _≤_};
+ghost use Rattle.laws.specs.Filled.{filled};
+ghost use Rattle.scene.specs.Limits.{limits, mostPoints};
+ghost use Rattle.scene.specs.Arrays.{rowIn, faceIn, AllWithin, FaceWithin, FacesWithin};
+ghost use Rattle.scene.specs.Decode.{rowSet};
+ghost use Rattle.orient.specs.Minors.{crossOf, threeOf};
+ghost use Rattle.orient.specs.Formed.{mostFormed, crossSize, threeSize, JoinWithin};
+ghost use Rattle.sides.specs.Planes.{joinOf, spanOf, dotOf, planeFor};
+ghost use Rattle.sides.specs.Sizes.{SpanWithin, dotSize};
+use scene::Corners;
+use scene::Face;
+use scene::Row;
+use scene::Rows;
+use scene::Scene;
+use scene::decode::face_in;
+
+// The six 2×2 minors of two rows.
+pub struct Line {
+    pub xy: i64,
+    pub xz: i64,
+    pub xw: i64,
+    pub yz: i64,
+    pub yw: i64,
+    pub zw: i64,
+}
+
+// A plane for each face, at its number.
+pub type Planes = [i64; 4 * (2 * Scene::MOST_FACES + 1)];
+
+// The planes of the faces up to n.
+pub fn fill(rows: &Rows, corners: &Corners, n: usize, planes: &mut Planes)
+    requires rows { ⌜ AllWithin limits (rowIn (now rows)) × FacesWithin limits (faceIn (now corners)) ⌝ }
+    requires faces { ⌜ n ≤ 2 * limits .mostFaces ⌝ }
+    ensures { λ r. ⌜ now (planes .exit) ≡ filled rowSet (λ k. planeFor (rowIn (now (rows .entry))) (faceIn (now (corners .entry)) k)) (n + 1) (now (planes .entry)) ⌝ }
+{
+    let e = n + 1;
+    let mut k: usize = 0;
+    while k < e {
+        put(planes, k, plane(rows, face_in(corners, k)));
+        k += 1;
+    }
+}
+
+// The plane of one face.
+fn plane(rows: &Rows, f: Face) -> Row
+    requires { ⌜ AllWithin limits (rowIn (now rows)) × FaceWithin limits f ⌝ }
+    ensures { λ r. ⌜ r ≡ planeFor (rowIn (now (rows .entry))) f ⌝ }
+{
+    let p = row_at(rows, f.p);
+    let q = row_at(rows, f.q);
+    span(join(p, q), row_at(rows, f.r))
+}
+
+fn put(planes: &mut Planes, k: usize, p: Row)
+    requires { ⌜ k ≤ 2 * limits .mostFaces ⌝ }
+    ensures { λ r. ⌜ now (planes .exit) ≡ rowSet (now (planes .entry)) k p ⌝ }
+{
+    let i = 4 * k;
+    let x = p.x;
+    let y = p.y;
+    let z = p.z;
+    let w = p.w;
+    planes[i] = x;
+    planes[i + 1] = y;
+    planes[i + 2] = z;
+    planes[i + 3] = w;
+}
+
+// The plane of face k, of planes that were filled.
+pub fn plane_at(planes: &Planes, k: usize) -> Row
+    requires { ⌜ k ≤ 2 * limits .mostFaces ⌝ }
+    ensures { λ r. ⌜ r ≡ rowIn (now (planes .entry)) k ⌝ }
+{
+    let i = 4 * k;
+    Row {
+        x: planes[i],
+        y: planes[i + 1],
+        z: planes[i + 2],
+        w: planes[i + 3],
+    }
+}
+
+// The row of point i.
+pub fn row_at(rows: &Rows, i: usize) -> Row
+    requires { ⌜ i ≤ mostPoints limits ⌝ }
+    ensures { λ r. ⌜ r ≡ rowIn (now (rows .entry)) i ⌝ }
+{
+    let at = 4 * i;
+    Row {
+        x: rows[at],
+        y: rows[at + 1],
+        z: rows[at + 2],
+        w: rows[at + 3],
+    }
+}
+
+pub fn join(a: Row, b: Row) -> Line
+    requires { ⌜ JoinWithin mostFormed a b ⌝ }
+    ensures { λ r. ⌜ r ≡ joinOf a b ⌝ }
+{
+    let ax = a.x;
+    let ay = a.y;
+    let az = a.z;
+    let aw = a.w;
+    let bx = b.x;
+    let by = b.y;
+    let bz = b.z;
+    let bw = b.w;
+    Line {
+        xy: cross(ax, ay, bx, by),
+        xz: cross(ax, az, bx, bz),
+        xw: cross(ax, aw, bx, bw),
+        yz: cross(ay, az, by, bz),
+        yw: cross(ay, aw, by, bw),
+        zw: cross(az, aw, bz, bw),
+    }
+}
+
+// The four minors of a line and a row.
+pub fn span(l: Line, r: Row) -> Row
+    requires { ⌜ SpanWithin mostFormed l r ⌝ }
+    ensures { λ p. ⌜ p ≡ spanOf l r ⌝ }
+{
+    let rx = r.x;
+    let ry = r.y;
+    let rz = r.z;
+    let rw = r.w;
+    let xy = l.xy;
+    let xz = l.xz;
+    let xw = l.xw;
+    let yz = l.yz;
+    let yw = l.yw;
+    let zw = l.zw;
+    Row {
+        x: three(yz, rw, yw, rz, zw, ry),
+        y: three(xz, rw, xw, rz, zw, rx),
+        z: three(xy, rw, xw, ry, yw, rx),
+        w: three(xy, rz, xz, ry, yz, rx),
+    }
+}
+
+// A plane at a row: the determinant of the plane's three rows and this one.
+pub fn dot(p: Row, t: Row) -> i64
+    requires { ⌜ dotSize p t ≤ mostFormed ⌝ }
+    ensures { λ r. ⌜ r ≡ dotOf p t ⌝ }
+{
+    cross(p.w, p.z, t.z, t.w) + cross(p.y, p.x, t.x, t.y)
+}
+
+// One minor.
+fn cross(a: i64, b: i64, c: i64, d: i64) -> i64
+    requires { ⌜ crossSize a b c d ≤ mostFormed ⌝ }
+    ensures { λ r. ⌜ r ≡ crossOf a b c d ⌝ }
+{
+    a * d - b * c
+}
+
+// Three products, the middle one with a minus.
+fn three(a: i64, b: i64, c: i64, d: i64, e: i64, f: i64) -> i64
+    requires { ⌜ threeSize a b c d e f ≤ mostFormed ⌝ }
+    ensures { λ r. ⌜ r ≡ threeOf a b c d e f ⌝ }
+{
+    a * b - c * d + e * f
+}

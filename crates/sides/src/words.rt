@@ -1,0 +1,150 @@
+// The sides of a solid's faces on which points lie: two words a point, made once a scene.
+ghost use mathlib.Core.Path.{_≡_};
+ghost use Prim.Native.Nat.{_+_, _*_, _≤_};
+ghost use Rattle.laws.specs.Mask.{digit};
+ghost use Rattle.scene.specs.Limits.{limits, mostPoints};
+ghost use Rattle.scene.specs.Arrays.{rowIn, faceIn, AllWithin, FacesWithin};
+ghost use Rattle.orient.specs.Weighted.{Asked};
+ghost use Rattle.pierce.specs.Faces.{maskBy};
+ghost use Rattle.sides.specs.Sides.{above, sidesOf, Ready, ReadyAll};
+ghost use Rattle.sides.specs.Tables.{maskIn, wordSet, wordsFor, ReadyFor};
+use crate::planes::Planes;
+use crate::planes::dot;
+use crate::planes::plane_at;
+use crate::planes::row_at;
+use orient::positive_at;
+use pierce::faces::Mask;
+use pierce::faces::WORD;
+use scene::Corners;
+use scene::Row;
+use scene::Rows;
+use scene::Scene;
+use scene::Solid;
+use scene::decode::face_in;
+
+// Two words a point, at its number.
+pub type Words = [u64; 2 * (Scene::MOST_POINTS + 1)];
+
+// The sides of the other solid's faces on which each vertex of a solid lies.
+pub fn fill(rows: &Rows, corners: &Corners, planes: &Planes, k: Solid, words: &mut Words)
+    requires rows { ⌜ AllWithin limits (rowIn (now rows)) × FacesWithin limits (faceIn (now corners)) ⌝ }
+    requires solid { ⌜ (k .low + k .verts ≤ mostPoints limits) × (k .other + k .others ≤ 2 * limits .mostFaces) × (k .others ≤ limits .mostFaces) ⌝ }
+    requires ready { ⌜ ReadyFor (rowIn (now rows)) (faceIn (now corners)) (rowIn (now planes)) k ⌝ }
+    ensures { λ r. ⌜ now (words .exit) ≡ wordsFor (rowIn (now (rows .entry))) (faceIn (now (corners .entry))) k (now (words .entry)) ⌝ }
+{
+    let low = k.low;
+    let verts = k.verts;
+    let other = k.other;
+    let others = k.others;
+    let mut i: usize = 0;
+    while i < verts {
+        let t = low + 1 + i;
+        put(words, t, sides(rows, corners, planes, other, others, t));
+        i += 1;
+    }
+}
+
+fn put(words: &mut Words, t: usize, m: Mask)
+    requires { ⌜ t ≤ mostPoints limits ⌝ }
+    ensures { λ r. ⌜ now (words .exit) ≡ wordSet (now (words .entry)) t m ⌝ }
+{
+    let i = 2 * t;
+    let low = m.low;
+    let high = m.high;
+    words[i] = low;
+    words[i + 1] = high;
+}
+
+// The words of point t.
+pub fn mask_at(words: &Words, t: usize) -> Mask
+    requires { ⌜ t ≤ mostPoints limits ⌝ }
+    ensures { λ r. ⌜ r ≡ maskIn (now (words .entry)) t ⌝ }
+{
+    let i = 2 * t;
+    Mask {
+        low: words[i],
+        high: words[i + 1],
+    }
+}
+
+// Of the `count` faces of a solid, numbered from first + 1 on, those that point t lies above.
+pub fn sides(
+    rows: &Rows,
+    corners: &Corners,
+    planes: &Planes,
+    first: usize,
+    count: usize,
+    t: usize,
+) -> Mask
+    requires rows { ⌜ AllWithin limits (rowIn (now rows)) × FacesWithin limits (faceIn (now corners)) × (t ≤ mostPoints limits) ⌝ }
+    requires faces { ⌜ (first + count ≤ 2 * limits .mostFaces) × (count ≤ limits .mostFaces) ⌝ }
+    requires ready { ⌜ ReadyAll (rowIn (now rows)) (faceIn (now corners)) (rowIn (now planes)) t first count ⌝ }
+    ensures { λ r. ⌜ r ≡ sidesOf (rowIn (now (rows .entry))) (faceIn (now (corners .entry))) first count t ⌝ }
+{
+    if count <= WORD {
+        let low = word(rows, corners, planes, first, count, t);
+        return Mask { low: low, high: 0 };
+    }
+    let low = word(rows, corners, planes, first, WORD, t);
+    let high = word(rows, corners, planes, first + WORD, count - WORD, t);
+    Mask {
+        low: low,
+        high: high,
+    }
+}
+
+// The same for so few faces that one word holds it.
+fn word(
+    rows: &Rows,
+    corners: &Corners,
+    planes: &Planes,
+    first: usize,
+    count: usize,
+    t: usize,
+) -> u64
+    requires rows { ⌜ AllWithin limits (rowIn (now rows)) × FacesWithin limits (faceIn (now corners)) × (t ≤ mostPoints limits) ⌝ }
+    requires faces { ⌜ (first + count ≤ 2 * limits .mostFaces) × (count ≤ 64) ⌝ }
+    requires ready { ⌜ ReadyAll (rowIn (now rows)) (faceIn (now corners)) (rowIn (now planes)) t first count ⌝ }
+    ensures { λ r. ⌜ r ≡ maskBy (above (rowIn (now (rows .entry))) t) (faceIn (now (corners .entry))) first count ⌝ }
+{
+    let r = row_at(rows, t);
+    let mut word: u64 = 0;
+    let mut k: usize = 0;
+    while k < count {
+        word = word | bit(is_above(rows, corners, planes, first + 1 + k, t, r)) << k;
+        k += 1;
+    }
+    word
+}
+
+// Point t, whose row is r, lies above face k: by the face's plane, unless t lies in it.
+fn is_above(rows: &Rows, corners: &Corners, planes: &Planes, k: usize, t: usize, r: Row) -> bool
+    requires rows { ⌜ AllWithin limits (rowIn (now rows)) × FacesWithin limits (faceIn (now corners)) ⌝ }
+    requires numbers { ⌜ (k ≤ 2 * limits .mostFaces) × (t ≤ mostPoints limits) × (r ≡ rowIn (now rows) t) ⌝ }
+    requires ready { ⌜ Ready (rowIn (now rows)) (faceIn (now corners)) (rowIn (now planes)) t k ⌝ }
+    ensures { λ a. ⌜ a ≡ above (rowIn (now (rows .entry))) t (faceIn (now (corners .entry)) k) ⌝ }
+{
+    let d = dot(plane_at(planes, k), r);
+    if d != 0 {
+        return 0 < d;
+    }
+    tie_above(rows, corners, k, t)
+}
+
+// The same by the shift.
+fn tie_above(rows: &Rows, corners: &Corners, k: usize, t: usize) -> bool
+    requires rows { ⌜ AllWithin limits (rowIn (now rows)) × FacesWithin limits (faceIn (now corners)) ⌝ }
+    requires numbers { ⌜ (k ≤ 2 * limits .mostFaces) × (t ≤ mostPoints limits) ⌝ }
+    requires asked { ⌜ Asked (rowIn (now rows)) ((faceIn (now corners) k) .p) ((faceIn (now corners) k) .q) ((faceIn (now corners) k) .r) t ⌝ }
+    ensures { λ a. ⌜ a ≡ above (rowIn (now (rows .entry))) t (faceIn (now (corners .entry)) k) ⌝ }
+{
+    let f = face_in(corners, k);
+    positive_at(rows, f.p, f.q, f.r, t)
+}
+
+// The digit of a test.
+pub fn bit(c: bool) -> u64
+    ensures { λ r. ⌜ r ≡ digit c ⌝ }
+{
+    if c { 1 } else { 0 }
+}

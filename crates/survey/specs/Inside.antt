@@ -1,0 +1,68 @@
+-- The word of the enclosed vertices: its ones are their number, its lowest one is the lowest of them. Assumes nothing.
+use mathlib.Core.Path.{_≡_, refl, sym, ap, _∙_}
+use mathlib.Core.Bool.{Bool, true, false, cond}
+use Prim.Native.Nat.{ℕ, zero, suc, _+_, _-_, _*_, _^_, _≤_, _<_}
+use native.Mathlib.Decide.{ℕ-discrete}
+use native.Mathlib.Omega.{arith}
+use borrow.Author.Tests.{eq-eqb, ne-eqb}
+use lib.Count.{ones, trailingZeros}
+use lib.Dec.{eqb}
+use Rattle.laws.specs.Lists.{run, count-run}
+use Rattle.laws.specs.Mask.{maskOf, mask-ones, mask-test, testBit}
+use Rattle.laws.specs.Range.{fold, over, countOf, lowestOf, lowest-same}
+use Rattle.laws.specs.Walk.{First, mask-first}
+use Rattle.links.specs.Bits.{test-zero}
+use Rattle.scene.specs.declared.Solid.{Solid}
+use Rattle.listing.specs.Hits.{Seen, isInside, insideCount, lowestInside}
+use Rattle.spread.specs.Walk.{insideWord}
+
+-- the lowest vertex of the word w, of the n points above low; the number behind the last where there is none
+abbrev pub lowestOfWord : (w low n : ℕ) → ℕ
+lowestOfWord w low n = cond (eqb w 0) (low + 1 + n) (low + 1 + trailingZeros 64 w)
+
+lowest-none : (p : ℕ → Bool) (z a n : ℕ) → ((j : ℕ) → a ≤ j → j < a + n → p j ≡ false) → fold (λ k rest. cond (p k) k rest) z a n ≡ z
+lowest-none p z a zero h = refl
+lowest-none p z a (suc n) h = rw (h a (omega arith) (omega arith)) (lowest-none p z (suc a) n (λ j b c. h j (omega arith) (omega arith)))
+
+lowest-at : (p : ℕ → Bool) (z a n d : ℕ) → d < n → p (a + d) ≡ true → ((j : ℕ) → a ≤ j → j < a + d → p j ≡ false) → fold (λ k rest. cond (p k) k rest) z a n ≡ a + d
+lowest-at p z a zero d l t h = absurd (omega arith)
+lowest-at p z a (suc n) zero l t h =
+    let e : a + 0 ≡ a = omega arith in
+    rw (sym (ap p e) ∙ t) (sym e)
+lowest-at p z a (suc n) (suc d) l t h =
+    let e : a + suc d ≡ suc a + d = omega arith in
+    rw (h a (omega arith) (omega arith)) (lowest-at p z (suc a) n d (omega arith) (ap p (sym e) ∙ t) (λ j b c. h j (omega arith) (omega arith)) ∙ sym e)
+
+module _ (s : Seen) (k : Solid) {w : ℕ} (e : w ≡ insideWord s k) where
+  pub inside-ones : ones w ≡ insideCount s k
+  unfolding insideWord insideCount
+  inside-ones =
+      ap ones e ∙ mask-ones (isInside s k) (λ u. u) (k .low + 1) (k .verts)
+      ∙ sym (count-run (λ u. u) (isInside s k) (isInside s k) (k .low + 1) (k .low + 1 + k .verts) (k .verts) (omega arith) (λ u. refl))
+
+  pub inside-lowest : k .verts ≤ 64 → lowestOfWord w (k .low) (k .verts) ≡ lowestInside s k
+  unfolding insideWord lowestInside lowestOf over
+  inside-lowest few = by (ℕ-discrete w 0)
+    where
+      high : ℕ
+      high = k .low + 1 + k .verts
+
+      off : w ≡ 0 → (j : ℕ) → k .low + 1 ≤ j → j < k .low + 1 + (high - (k .low + 1)) → isInside s k j ≡ false
+      off z j a b =
+          let m : ℕ = j - (k .low + 1) in
+          let at : k .low + 1 + m ≡ j = omega arith in
+          sym (ap (isInside s k) at) ∙ sym (mask-test (λ m. isInside s k (k .low + 1 + m)) (k .verts) m (omega arith))
+          ∙ ap (λ (x : ℕ). testBit x m) (sym e ∙ z) ∙ test-zero m
+
+      place : (j : ℕ) → k .low + 1 ≤ j → k .low + 1 + (j - (k .low + 1)) ≡ j
+      place j a = omega arith
+
+      by : Dec (w ≡ 0) → lowestOfWord w (k .low) (k .verts) ≡ fold (λ u rest. cond (isInside s k u) u rest) high (k .low + 1) (high - (k .low + 1))
+      by (yes z) =
+          ap (λ (b : Bool). cond b high (k .low + 1 + trailingZeros 64 w)) (eq-eqb w 0 z)
+          ∙ sym (lowest-none (isInside s k) high (k .low + 1) (high - (k .low + 1)) (off z))
+      by (no d) =
+          let f = mask-first (λ m. isInside s k (k .low + 1 + m)) 64 (k .verts) few e (omega arith) in
+          ap (λ (b : Bool). cond b high (k .low + 1 + trailingZeros 64 w)) (ne-eqb w 0 d)
+          ∙ sym (lowest-at (isInside s k) high (k .low + 1) (high - (k .low + 1)) (trailingZeros 64 w) (omega (arith, f .below)) (f .passes)
+          (λ j a b. sym (ap (isInside s k) (place j a)) ∙ f .none (j - (k .low + 1)) (omega arith) (omega arith)))

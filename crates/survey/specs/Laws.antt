@@ -1,0 +1,107 @@
+-- What was surveyed is the listing; and the first of two runs. Assumes nothing.
+use mathlib.Core.Path.{_≡_, refl, sym, ap, ap₂, _∙_, subst}
+use mathlib.Core.Bool.{Bool, true, false, _&&_}
+use mathlib.Core.List.{List, [], _∷_, _++_}
+use Prim.Native.Nat.{ℕ, zero, suc, _+_, _-_, _*_, _≤_, _<_}
+use native.Mathlib.Decide.{ℕ-discrete}
+use native.Mathlib.Omega.{arith}
+use lib.Dec.{ltb}
+use lib.ListN.{length, length-append}
+use Rattle.laws.specs.Lists.{Each, each-append}
+use Rattle.scene.specs.Faces.{Vertex}
+use Rattle.edges.specs.Edges.{joined}
+use Rattle.scene.specs.declared.Solid.{Solid}
+use Rattle.listing.specs.Hits.{Seen, Hit, Sound, upTo, only, solidHits}
+use Rattle.listing.specs.First.{firstOf}
+use Rattle.listing.specs.declared.find.Found.{Found}
+use Rattle.listing.specs.declared.find.Found.the-variants.{Nothing, Pair}
+use Rattle.pierce.specs.Faces.{width}
+use Rattle.listing.specs.Laws.{bounded}
+use Rattle.table.specs.Table.{Entry, entryIn, entriesIn, entryHits, tableHits}
+use Rattle.table.specs.Entries.{entry-most}
+use Rattle.edge_masks.specs.Edges.{entry, vertexEdges, solidEdges, Filled}
+use Rattle.edge_masks.specs.Order.{table-hits}
+use Rattle.spread.specs.Odds.{EndsIn, Marked}
+use Rattle.survey.specs.Survey.{Surveyed, pairsOf}
+use Rattle.survey.specs.declared.Part.{Part}
+use Rattle.survey.specs.declared.Survey.{Survey}
+
+-- ---- what was filled
+
+pub filled-edges : {l : List Entry} {ends masks e m : List ℕ} {r : ℕ} → Filled l 0 ends masks e m r → entriesIn e m r ≡ l
+unfolding entriesIn upTo
+filled-edges f = f .entries
+
+pub marked-edges : (low n : ℕ) {l m : List Entry} {odds : List ℕ} → l ≡ m → Marked low n l odds → Marked low n m odds
+marked-edges low n {l} {m} {odds} e h = subst (λ (x : List Entry). Marked low n x odds) e h
+
+-- ---- the listing
+
+pub surveyed-pairs : (s : Seen) (a b : Solid) (t : Survey) (ends-a masks-a ends-b masks-b : List ℕ) → Sound s a → Sound s b →
+    Surveyed s a ends-a masks-a (t .a) → Surveyed s b ends-b masks-b (t .b) →
+    pairsOf t (a .other) (b .other) ends-a masks-a ends-b masks-b ≡ solidHits s a ++ solidHits s b
+unfolding pairsOf
+surveyed-pairs s a b t ends-a masks-a ends-b masks-b sa sb p q =
+    ap₂ _++_ (table-hits s a sa ends-a masks-a (t .a .edges) (p .edges)) (table-hits s b sb ends-b masks-b (t .b .edges) (q .edges))
+
+pub table-most : (first : ℕ) (ends masks : List ℕ) (n : ℕ) → length (tableHits first ends masks n) ≤ n * width
+table-most first ends masks n = bounded (λ j. entryHits first (entryIn ends masks j)) width n (λ j. entry-most first (entryIn ends masks j))
+
+pub pairs-count : (t : Survey) (a b : ℕ) (ends-a masks-a ends-b masks-b : List ℕ) {x y : ℕ} → x ≡ length (tableHits a ends-a masks-a (t .a .edges)) →
+    y ≡ length (tableHits b ends-b masks-b (t .b .edges)) → x + y ≡ length (pairsOf t a b ends-a masks-a ends-b masks-b)
+unfolding pairsOf
+pairs-count t a b ends-a masks-a ends-b masks-b p q =
+    ap₂ _+_ p q ∙ sym (length-append (tableHits a ends-a masks-a (t .a .edges)) (tableHits b ends-b masks-b (t .b .edges)))
+
+-- ---- the first of two runs
+
+pub first-left : (l m : List Hit) {o : Found} {a b f : ℕ} → o ≡ firstOf l → o ≡ Pair a b f → Pair a b f ≡ firstOf (l ++ m)
+unfolding firstOf
+first-left [] m p q = cc
+first-left (h ∷ l) m p q = sym q ∙ p
+
+pub first-right : (l m : List Hit) {o r : Found} → o ≡ firstOf l → o ≡ Nothing → r ≡ firstOf m → r ≡ firstOf (l ++ m)
+unfolding firstOf
+first-right [] m p q e = e
+first-right (h ∷ l) m p q e = cc
+
+-- ---- the ends of a table's edges
+
+module _ (P : Entry → Type 0) where
+  each-upTo : (g : ℕ → List Entry) (n : ℕ) → ((i : ℕ) → i < n → Each P (g i)) → Each P (upTo g n)
+  unfolding upTo
+  each-upTo g zero h = tt
+  each-upTo g (suc n) h = each-append P (upTo g n) (g n) (each-upTo g n (λ i b. h i (omega arith))) (h n (omega arith))
+
+  each-left : (l r : List Entry) → Each P (l ++ r) → Each P l
+  each-left [] r h = tt
+  each-left (x ∷ l) r h = (h .0, each-left l r (h .1))
+
+  each-right : (l r : List Entry) → Each P (l ++ r) → Each P r
+  each-right [] r h = h
+  each-right (x ∷ l) r h = each-right l r (h .1)
+
+  each-at : (f : ℕ → Entry) (n j : ℕ) → Each P (upTo (λ i. f i ∷ []) n) → j < n → P (f j)
+  unfolding upTo
+  each-at f zero j h b = absurd (omega arith)
+  each-at f (suc n) j h b = by (ℕ-discrete j n) (λ c. each-at f n j (each-left (upTo (λ i. f i ∷ []) n) (f n ∷ []) h) c)
+    where
+      by : Dec (j ≡ n) → (j < n → P (f j)) → P (f j)
+      by (yes e) before = rw e (each-right (upTo (λ i. f i ∷ []) n) (f n ∷ []) h .0)
+      by (no d) before = before (omega arith)
+
+  each-only : (b : Bool) (e : Entry) → P e → Each P (only b (e ∷ []))
+  each-only true e h = (h, tt)
+  each-only false e h = tt
+
+pub ends-in : (s : Seen) (k : Solid) (ends masks : List ℕ) (n : ℕ) → entriesIn ends masks n ≡ solidEdges s k →
+    (j : ℕ) → j < n → EndsIn (k .low) (k .verts) (entryIn ends masks j)
+unfolding entriesIn solidEdges vertexEdges
+ends-in s k ends masks n e j b =
+    let P : Entry → Type 0 = EndsIn (k .low) (k .verts) in
+    let all : Each P (solidEdges s k) =
+    each-upTo P (λ i. vertexEdges s k (k .low + 1 + i)) (k .verts)
+    (λ i h. each-upTo P _ (k .verts)
+    (λ m c. each-only P (ltb (k .low + 1 + i) (k .low + 1 + m) && joined (s .face) k (k .low + 1 + i) (k .low + 1 + m)) (entry s k (k .low + 1 + i) (k .low + 1 + m))
+    (record { low-end = (omega arith, omega arith); high-end = (omega arith, omega arith) }))) in
+    each-at P (entryIn ends masks) n j (rw e all) b

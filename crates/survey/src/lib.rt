@@ -1,0 +1,187 @@
+// The survey of a scene: everything of it is worked out once, and all answers are read off tables.
+ghost use Rattle.edge_masks.specs.Sides.{Told, Parted};
+ghost use Rattle.listing.specs.Hits.{seenIn};
+ghost use Rattle.spread.specs.Ready.{Ready};
+ghost use Rattle.survey.specs.Survey.{Surveyed, Sized};
+use crate::told::mirrors;
+use crate::told::tell_sides;
+use edge_masks::fill_solid;
+use engine::Engine;
+use links::WORDS;
+use links::Words;
+use links::fill_links;
+use narrow::cuts::Cuts;
+use scene::Corners;
+use scene::Rows;
+use scene::Scene;
+use scene::Solid;
+use spread::enclosed_word;
+use spread::odds::fill_odds;
+use table::Ends;
+use table::Masks;
+
+pub mod answers;
+mod told;
+
+// Of one solid: how many edges it has, and the word of its enclosed vertices.
+pub struct Part {
+    pub edges: usize,
+    pub inside: u64,
+}
+
+// Of both.
+pub struct Survey {
+    pub a: Part,
+    pub b: Part,
+}
+
+// The edges of the solid go into the lent table.
+pub fn survey_solid(
+    engine: Engine,
+    rows: &Rows,
+    corners: &Corners,
+    n: usize,
+    k: Solid,
+    ends: &mut Ends,
+    masks: &mut Masks,
+) -> Part
+    requires { ⌜ Ready (seenIn n (now rows) (now corners)) k × Sized (now ends) (now masks) ⌝ }
+    ensures { λ r. ⌜ Surveyed (seenIn n (now (rows .entry)) (now (corners .entry))) k (now (ends .exit)) (now (masks .exit)) r ⌝ }
+{
+    let mut words: sides::words::Words = [0; 2 * (Scene::MOST_POINTS + 1)];
+    let own: sides::words::Words = [0; 2 * (Scene::MOST_POINTS + 1)];
+    let cuts: Cuts = [0; 2 * (2 * Scene::MOST_FACES + 1)];
+    tell_sides(rows, corners, n, k, &mut words);
+    survey_part(
+        engine,
+        rows,
+        corners,
+        n,
+        k,
+        &words,
+        &own,
+        &cuts,
+        ends,
+        masks,
+    )
+}
+
+// The same by the tables of its masks.
+fn survey_part(
+    engine: Engine,
+    rows: &Rows,
+    corners: &Corners,
+    n: usize,
+    k: Solid,
+    words: &sides::words::Words,
+    own: &sides::words::Words,
+    cuts: &Cuts,
+    ends: &mut Ends,
+    masks: &mut Masks,
+) -> Part
+    requires solid { ⌜ Ready (seenIn n (now rows) (now corners)) k × Sized (now ends) (now masks) ⌝ }
+    requires tables { ⌜ Told (seenIn n (now rows) (now corners)) k (now words) × Parted (seenIn n (now rows) (now corners)) k (now own) (now cuts) ⌝ }
+    ensures { λ r. ⌜ Surveyed (seenIn n (now (rows .entry)) (now (corners .entry))) k (now (ends .exit)) (now (masks .exit)) r ⌝ }
+{
+    let low = k.low;
+    let verts = k.verts;
+    let mut links: Words = [0; WORDS];
+    let mut odds: Words = [0; WORDS];
+    fill_links(corners, k, &mut links);
+    let edges = fill_solid(
+        engine,
+        rows,
+        corners,
+        n,
+        k,
+        &links,
+        words,
+        own,
+        cuts,
+        ends,
+        masks,
+    );
+    fill_odds(ends, masks, edges, low, verts, &mut odds);
+    let inside = enclosed_word(engine, rows, corners, n, k, &links, &odds, words);
+    Part {
+        edges: edges,
+        inside: inside,
+    }
+}
+
+// The same beside the other solid o, whose words are `others`: where each has the other's faces opposite, they narrow the questions.
+fn survey_beside(
+    engine: Engine,
+    rows: &Rows,
+    corners: &Corners,
+    n: usize,
+    k: Solid,
+    o: Solid,
+    words: &sides::words::Words,
+    others: &sides::words::Words,
+    ends: &mut Ends,
+    masks: &mut Masks,
+) -> Part
+    requires solid { ⌜ Ready (seenIn n (now rows) (now corners)) k × Sized (now ends) (now masks) ⌝ }
+    requires beside { ⌜ Ready (seenIn n (now rows) (now corners)) o ⌝ }
+    requires tables { ⌜ Told (seenIn n (now rows) (now corners)) k (now words) × Told (seenIn n (now rows) (now corners)) o (now others) ⌝ }
+    ensures { λ r. ⌜ Surveyed (seenIn n (now (rows .entry)) (now (corners .entry))) k (now (ends .exit)) (now (masks .exit)) r ⌝ }
+{
+    let mut own: sides::words::Words = [0; 2 * (Scene::MOST_POINTS + 1)];
+    let mut cuts: Cuts = [0; 2 * (2 * Scene::MOST_FACES + 1)];
+    if !mirrors(k, o) {
+        return survey_part(engine, rows, corners, n, k, words, &own, &cuts, ends, masks);
+    }
+    narrow::own::fill(corners, k.first, k.count, &mut own);
+    narrow::cuts::fill(corners, others, k.other, k.others, &mut cuts);
+    survey_part(engine, rows, corners, n, k, words, &own, &cuts, ends, masks)
+}
+
+// Of both solids, each into its own table.
+pub fn survey_scene(
+    engine: Engine,
+    rows: &Rows,
+    corners: &Corners,
+    n: usize,
+    a: Solid,
+    b: Solid,
+    aends: &mut Ends,
+    amasks: &mut Masks,
+    bends: &mut Ends,
+    bmasks: &mut Masks,
+) -> Survey
+    requires { ⌜ Ready (seenIn n (now rows) (now corners)) a × Ready (seenIn n (now rows) (now corners)) b ⌝ }
+    requires { ⌜ Sized (now aends) (now amasks) × Sized (now bends) (now bmasks) ⌝ }
+    ensures { λ r. ⌜ Surveyed (seenIn n (now (rows .entry)) (now (corners .entry))) a (now (aends .exit)) (now (amasks .exit)) (r .a) ⌝ }
+    ensures { λ r. ⌜ Surveyed (seenIn n (now (rows .entry)) (now (corners .entry))) b (now (bends .exit)) (now (bmasks .exit)) (r .b) ⌝ }
+{
+    let mut words: sides::words::Words = [0; 2 * (Scene::MOST_POINTS + 1)];
+    let mut others: sides::words::Words = [0; 2 * (Scene::MOST_POINTS + 1)];
+    tell_sides(rows, corners, n, a, &mut words);
+    tell_sides(rows, corners, n, b, &mut others);
+    let of_a = survey_beside(
+        engine,
+        rows,
+        corners,
+        n,
+        a,
+        b,
+        &words,
+        &others,
+        aends,
+        amasks,
+    );
+    let of_b = survey_beside(
+        engine,
+        rows,
+        corners,
+        n,
+        b,
+        a,
+        &others,
+        &words,
+        bends,
+        bmasks,
+    );
+    Survey { a: of_a, b: of_b }
+}
