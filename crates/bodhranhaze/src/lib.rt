@@ -10,6 +10,7 @@ use kernel::inside::Enclosing;
 use kernel::lists::Listed;
 use kernel::verdict::Verdict;
 
+mod moves;
 mod refusals;
 
 // The number of the scene's refusal, 0 for an accepted scene.

@@ -1,0 +1,57 @@
+use mathlib.Core.Path.{sym, _∙_}
+use native.Mathlib.Omega.{arith}
+use lib.Seq.{length-take-le}
+use Rattle.session.specs.Session.{movedOf}
+use Rattle.session.specs.Laws.{row-fits, vertex-free, changed-not, changed-so}
+use borrow.Author.Needs.{needs}
+use Rattle.session.proofs.Session.move_vertex.Statement.{statement}
+use Rattle.session.proofs.Session.move_vertex.Tie as tie
+
+size-requires : tie.Need-size-requires
+size-requires c κs = search needs
+
+array-share-prefix-b : tie.Need-array-share-prefix-b
+array-share-prefix-b c = search needs
+
+slice-aggregate-vertex-fault : tie.Need-slice-aggregate-vertex-fault
+slice-aggregate-vertex-fault c = sym (length-take-le _ _ (c .before .before .size .ensures .within))
+
+vertex-fault-requires : tie.Need-vertex-fault-requires
+vertex-fault-requires c κs = search needs
+
+enum-known-j : tie.Need-enum-known-j
+enum-known-j c = search needs
+
+enum-told : tie.Need-enum-told
+enum-told c = search needs
+
+with-row-requires : tie.Need-with-row-requires
+with-row-requires c κs =
+    let w = c .before .before .before .before .before .size .ensures in
+    let l = length-take-le (c .before .before .before .before .before .size .result) (c .before .before .before .before .before .before .args .self .bytes) (w .within) in
+    let f = vertex-free _ _ _ (sym (c .before .before .vertex-fault .ensures) ∙ c .enum-told .given .1) in
+    (row-fits (f .row), omega (arith, f .whole, f .high, w .fits, l), w .fits)
+
+returns : tie.Need-returns
+unfolding movedOf
+returns c = changed-not _ _ (rw (c .before .before .before .before .before .before .size .ensures .same) at (c .before .before .before .vertex-fault .ensures)) (c .before .j .given .1)
+
+returns-2 : tie.Need-returns-2
+unfolding movedOf
+returns-2 c =
+    let w = c .before .before .before .before .before .before .size .ensures in
+    changed-so _ _ (rw (w .same) at (c .before .before .before .vertex-fault .ensures)) (c .before .enum-told .given .1) (w .long) (c .with-row .ensures)
+
+pub move-vertex-spec : {M : Type 1} → statement M
+move-vertex-spec =
+    tie.close
+    (tie.spec
+    size-requires
+    array-share-prefix-b
+    slice-aggregate-vertex-fault
+    vertex-fault-requires
+    enum-known-j
+    enum-told
+    with-row-requires
+    returns
+    returns-2)

@@ -1,0 +1,61 @@
+use mathlib.Core.Path.{sym, _∙_}
+use native.Mathlib.Omega.{arith}
+use lib.Seq.{length-take-le}
+use Rattle.session.specs.Session.{reversedOf}
+use Rattle.session.specs.Laws.{turn-free, changed-not, changed-so}
+use borrow.Author.Needs.{needs}
+use Rattle.session.proofs.Session.reverse.Statement.{statement}
+use Rattle.session.proofs.Session.reverse.Tie as tie
+
+size-requires : tie.Need-size-requires
+size-requires c κs = search needs
+
+array-share-prefix-b : tie.Need-array-share-prefix-b
+array-share-prefix-b c = search needs
+
+slice-aggregate-turn-fault : tie.Need-slice-aggregate-turn-fault
+slice-aggregate-turn-fault c = sym (length-take-le _ _ (c .before .before .size .ensures .within))
+
+turn-fault-requires : tie.Need-turn-fault-requires
+turn-fault-requires c κs = search needs
+
+enum-known-j : tie.Need-enum-known-j
+enum-known-j c = search needs
+
+enum-told : tie.Need-enum-told
+enum-told c = search needs
+
+sub-with-face : tie.Need-sub-with-face
+sub-with-face c = let f = turn-free _ _ (sym (c .before .before .turn-fault .ensures) ∙ c .enum-told .given .1) in omega (arith, f .low)
+
+with-face-requires : tie.Need-with-face-requires
+with-face-requires c κs =
+    let w = c .before .before .before .before .before .size .ensures in
+    let l = length-take-le (c .before .before .before .before .before .size .result) (c .before .before .before .before .before .before .args .self .bytes) (w .within) in
+    let f = turn-free _ _ (sym (c .before .before .turn-fault .ensures) ∙ c .enum-told .given .1) in
+    (omega (arith, f .whole, f .low, f .high, w .fits, l), w .fits, omega (arith, f .whole, f .low, f .high, w .fits, l))
+
+returns : tie.Need-returns
+unfolding reversedOf
+returns c = changed-not _ _ (rw (c .before .before .before .before .before .before .size .ensures .same) at (c .before .before .before .turn-fault .ensures)) (c .before .j .given .1)
+
+returns-2 : tie.Need-returns-2
+unfolding reversedOf
+returns-2 c =
+    let w = c .before .before .before .before .before .before .size .ensures in
+    changed-so _ _ (rw (w .same) at (c .before .before .before .turn-fault .ensures)) (c .before .enum-told .given .1) (w .long) (rw (w .same) at (c .with-face .ensures))
+
+pub reverse-spec : {M : Type 1} → statement M
+reverse-spec =
+    tie.close
+    (tie.spec
+    size-requires
+    array-share-prefix-b
+    slice-aggregate-turn-fault
+    turn-fault-requires
+    enum-known-j
+    enum-told
+    sub-with-face
+    with-face-requires
+    returns
+    returns-2)

@@ -1,0 +1,73 @@
+-- Each rule that fails decides.
+use mathlib.Core.Path.{ap, ap₂, _∙_}
+use Prim.Native.Nat.{ℕ, _+_}
+use Rattle.scene.specs.declared.Refusal.the-variants.{Nowhere}
+use Rattle.judge.specs.Laws.{rules, rule-passed, then-refused, then-accepted}
+use Rattle.session.specs.Session.{rowFault, isNowhere, farFault}
+use Rattle.session.specs.Laws.{refused-where, passed-where}
+use borrow.Author.Needs.{needs}
+use Rattle.session.proofs.faults.far_fault.Statement.{statement}
+use Rattle.session.proofs.faults.far_fault.Tie as tie
+
+is-whole-requires : tie.Need-is-whole-requires
+is-whole-requires c κs = search needs
+
+returns : tie.Need-returns
+unfolding farFault
+returns c = search rules depth 16
+
+vertices-requires : tie.Need-vertices-requires
+vertices-requires c κs = search needs
+
+add-p : tie.Need-add-p
+add-p c = search needs
+
+sizes-of-requires : tie.Need-sizes-of-requires
+sizes-of-requires c κs = search needs
+
+row-fault-requires : tie.Need-row-fault-requires
+row-fault-requires c κs = search needs
+
+enum-known-r : tie.Need-enum-known-r
+enum-known-r c = search needs
+
+returns-2 : tie.Need-returns-2
+unfolding farFault
+returns-2 c = rule-passed _ (c .before .before .before .before .before .before .before .is-whole .ensures) (c .before .before .before .before .before .before .if1 .left) (then-refused _ (c .before .before .before .row-fault .ensures ∙ ap₂ (rowFault 0) (ap (λ (n : ℕ). n + 1) (c .before .before .before .before .before .vertices .ensures .0)) (c .before .before .before .before .sizes-of .ensures)) (c .before .r .given .1))
+
+enum-told : tie.Need-enum-told
+enum-told c = search needs
+
+is-nowhere-requires : tie.Need-is-nowhere-requires
+is-nowhere-requires c κs = search needs
+
+returns-3 : tie.Need-returns-3
+unfolding farFault
+returns-3 c =
+    rule-passed _ (c .before .before .before .before .before .before .before .before .is-whole .ensures) (c .before .before .before .before .before .before .before .if1 .left)
+    (then-accepted (c .before .before .before .before .row-fault .ensures ∙ ap₂ (rowFault 0) (ap (λ (n : ℕ). n + 1) (c .before .before .before .before .before .before .vertices .ensures .0)) (c .before .before .before .before .before .sizes-of .ensures)) (c .before .before .enum-told .given .1)
+    (refused-where Nowhere (c .before .is-nowhere .ensures ∙ ap isNowhere (c .before .before .before .before .before .sizes-of .ensures)) (c .if2 .taken) (ap (λ (n : ℕ). n + 1) (c .before .before .before .before .before .before .vertices .ensures .0))))
+
+returns-4 : tie.Need-returns-4
+unfolding farFault
+returns-4 c =
+    rule-passed _ (c .before .before .before .before .before .before .before .before .is-whole .ensures) (c .before .before .before .before .before .before .before .if1 .left)
+    (then-accepted (c .before .before .before .before .row-fault .ensures ∙ ap₂ (rowFault 0) (ap (λ (n : ℕ). n + 1) (c .before .before .before .before .before .before .vertices .ensures .0)) (c .before .before .before .before .before .sizes-of .ensures)) (c .before .before .enum-told .given .1)
+    (passed-where _ (c .before .is-nowhere .ensures ∙ ap isNowhere (c .before .before .before .before .before .sizes-of .ensures)) (c .if2 .left)))
+
+pub far-fault-spec : {M : Type 1} → statement M
+far-fault-spec =
+    tie.close
+    (tie.spec
+    is-whole-requires
+    returns
+    vertices-requires
+    add-p
+    sizes-of-requires
+    row-fault-requires
+    enum-known-r
+    returns-2
+    enum-told
+    is-nowhere-requires
+    returns-3
+    returns-4)

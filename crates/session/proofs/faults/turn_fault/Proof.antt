@@ -1,0 +1,35 @@
+-- Each rule that fails decides.
+use mathlib.Core.Path.{refl, ap, _∙_}
+use Prim.Native.Nat.{ℕ}
+use Rattle.scene.specs.Limits.{within}
+use Rattle.judge.specs.Laws.{rules, rule-refused, rule-passed}
+use Rattle.session.specs.Session.{turnFault}
+use borrow.Author.Needs.{needs}
+use Rattle.session.proofs.faults.turn_fault.Statement.{statement}
+use Rattle.session.proofs.faults.turn_fault.Tie as tie
+
+is-whole-requires : tie.Need-is-whole-requires
+is-whole-requires c κs = search needs
+
+returns : tie.Need-returns
+unfolding turnFault
+returns c = search rules depth 16
+
+faces-requires : tie.Need-faces-requires
+faces-requires c κs = search needs
+
+is-within-requires : tie.Need-is-within-requires
+is-within-requires c κs = search needs
+
+returns-2 : tie.Need-returns-2
+unfolding turnFault
+returns-2 c = rule-passed _ (c .before .before .before .before .is-whole .ensures) (c .before .before .before .if1 .left) (rule-refused _ (c .before .is-within .ensures ∙ ap (λ (n : ℕ). within 1 n (c .before .before .before .before .before .before .args .f)) (c .before .before .faces .ensures .0)) (c .if2 .taken))
+
+returns-3 : tie.Need-returns-3
+unfolding turnFault
+returns-3 c = rule-passed _ (c .before .before .before .before .is-whole .ensures) (c .before .before .before .if1 .left) (rule-passed _ (c .before .is-within .ensures ∙ ap (λ (n : ℕ). within 1 n (c .before .before .before .before .before .before .args .f)) (c .before .before .faces .ensures .0)) (c .if2 .left) refl)
+
+pub turn-fault-spec : {M : Type 1} → statement M
+turn-fault-spec =
+    tie.close
+    (tie.spec is-whole-requires returns faces-requires is-within-requires returns-2 returns-3)

@@ -1,0 +1,52 @@
+-- Each rule that fails decides.
+use mathlib.Core.Path.{ap, _∙_}
+use Prim.Native.Nat.{ℕ}
+use Rattle.scene.specs.Limits.{within}
+use Rattle.judge.specs.Laws.{rules, rule-refused, rule-passed}
+use Rattle.session.specs.Session.{rowFault, vertexFault}
+use borrow.Author.Needs.{needs}
+use Rattle.session.proofs.faults.vertex_fault.Statement.{statement}
+use Rattle.session.proofs.faults.vertex_fault.Tie as tie
+
+is-whole-requires : tie.Need-is-whole-requires
+is-whole-requires c κs = search needs
+
+returns : tie.Need-returns
+unfolding vertexFault
+returns c = search rules depth 16
+
+vertices-requires : tie.Need-vertices-requires
+vertices-requires c κs = search needs
+
+is-within-requires : tie.Need-is-within-requires
+is-within-requires c κs = search needs
+
+returns-2 : tie.Need-returns-2
+unfolding vertexFault
+returns-2 c = rule-passed _ (c .before .before .before .before .is-whole .ensures) (c .before .before .before .if1 .left) (rule-refused _ (c .before .is-within .ensures ∙ ap (λ (n : ℕ). within 1 n (c .before .before .before .before .before .before .args .p)) (c .before .before .vertices .ensures .0)) (c .if2 .taken))
+
+sizes-of-requires : tie.Need-sizes-of-requires
+sizes-of-requires c κs = search needs
+
+row-fault-requires : tie.Need-row-fault-requires
+row-fault-requires c κs = search needs
+
+returns-3 : tie.Need-returns-3
+unfolding vertexFault
+returns-3 c =
+    rule-passed _ (c .before .before .before .before .before .before .is-whole .ensures) (c .before .before .before .before .before .if1 .left)
+    (rule-passed _ (c .before .before .before .is-within .ensures ∙ ap (λ (n : ℕ). within 1 n (c .before .before .before .before .before .before .before .before .args .p)) (c .before .before .before .before .vertices .ensures .0)) (c .before .before .if2 .left)
+    (c .row-fault .ensures ∙ ap (rowFault 1 _) (c .before .sizes-of .ensures)))
+
+pub vertex-fault-spec : {M : Type 1} → statement M
+vertex-fault-spec =
+    tie.close
+    (tie.spec
+    is-whole-requires
+    returns
+    vertices-requires
+    is-within-requires
+    returns-2
+    sizes-of-requires
+    row-fault-requires
+    returns-3)

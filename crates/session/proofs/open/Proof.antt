@@ -1,0 +1,47 @@
+-- The judge decides; an accepted scene is copied and counted.
+use mathlib.Core.Path.{sym, _∙_}
+use Rattle.session.specs.Laws.{accepted-short, opened-not, opened-so}
+use borrow.Author.Needs.{needs}
+use Rattle.session.proofs.open.Statement.{statement}
+use Rattle.session.proofs.open.Tie as tie
+
+judge-requires : tie.Need-judge-requires
+judge-requires c κs = search needs
+
+enum-known-r : tie.Need-enum-known-r
+enum-known-r c = search needs
+
+empty-requires : tie.Need-empty-requires
+empty-requires c κs = search needs
+
+returns : tie.Need-returns
+returns c = opened-not _ (c .before .before .before .before .judge .ensures) (c .before .before .r .given .1) (c .empty .ensures)
+
+enum-told : tie.Need-enum-told
+enum-told c = search needs
+
+slice-aggregate-copy-in : tie.Need-slice-aggregate-copy-in
+slice-aggregate-copy-in c = search needs
+
+copy-in-requires : tie.Need-copy-in-requires
+copy-in-requires c κs = accepted-short _ (sym (c .before .before .before .judge .ensures) ∙ c .before .enum-told .given .1)
+
+fresh-requires : tie.Need-fresh-requires
+fresh-requires c κs = accepted-short _ (sym (c .before .before .before .before .before .judge .ensures) ∙ c .before .before .before .enum-told .given .1)
+
+returns-2 : tie.Need-returns-2
+returns-2 c = opened-so _ (c .before .before .before .before .before .before .judge .ensures) (c .before .before .before .before .enum-told .given .1) (c .before .before .copy-in .ensures) (c .fresh .ensures)
+
+pub open-spec : {M : Type 1} → statement M
+open-spec =
+    tie.close
+    (tie.spec
+    judge-requires
+    enum-known-r
+    empty-requires
+    returns
+    enum-told
+    slice-aggregate-copy-in
+    copy-in-requires
+    fresh-requires
+    returns-2)

@@ -1,0 +1,61 @@
+-- The fault decides; what is not refused is written.
+use mathlib.Core.Path.{sym, ap₂, _∙_}
+use native.Mathlib.Omega.{arith}
+use Rattle.scene.specs.Write.{cornersPut}
+use Rattle.session.specs.Place.{face-room, kept-so, put-so}
+use borrow.Author.Needs.{needs}
+use Rattle.session.proofs.place.reverse.Statement.{statement}
+use Rattle.session.proofs.place.reverse.Tie as tie
+
+reverse-fault-requires : tie.Need-reverse-fault-requires
+reverse-fault-requires c κs = search needs
+
+enum-known-j : tie.Need-enum-known-j
+enum-known-j c = search needs
+
+enum-told : tie.Need-enum-told
+enum-told c = search needs
+
+sub-face-start : tie.Need-sub-face-start
+sub-face-start c = let m = face-room _ _ (sym (c .before .before .before .reverse-fault .ensures) ∙ c .before .enum-told .given .1) in m .low
+
+face-start-requires : tie.Need-face-start-requires
+face-start-requires c κs = let m = face-room _ _ (sym (c .before .before .before .reverse-fault .ensures) ∙ c .before .enum-told .given .1) in omega (arith, m .high)
+
+sub-turned : tie.Need-sub-turned
+sub-turned c = let m = face-room _ _ (sym (c .before .before .before .before .before .reverse-fault .ensures) ∙ c .before .before .before .enum-told .given .1) in m .low
+
+turned-requires : tie.Need-turned-requires
+turned-requires c κs = let m = face-room _ _ (sym (c .before .before .before .before .before .reverse-fault .ensures) ∙ c .before .before .before .enum-told .given .1) in omega (arith, m .high)
+
+put-corners-requires : tie.Need-put-corners-requires
+put-corners-requires c κs = let m = face-room _ _ (sym (c .before .before .before .before .before .before .before .reverse-fault .ensures) ∙ c .before .before .before .before .before .enum-told .given .1) in (c .before .turned .ensures .1, omega (arith, m .room, c .before .before .before .face-start .ensures .0))
+
+same-length : tie.Need-same-length
+same-length c = search needs
+
+returns : tie.Need-returns
+returns c = kept-so _ _ (c .before .before .before .reverse-fault .ensures) (c .before .j .given .1)
+
+same-length-2 : tie.Need-same-length-2
+same-length-2 c = search needs
+
+returns-2 : tie.Need-returns-2
+returns-2 c = put-so _ _ (c .before .before .before .before .before .before .before .before .before .before .reverse-fault .ensures) (c .before .before .before .before .before .before .before .before .enum-told .given .1) (c .before .before .put-corners .ensures ∙ ap₂ (cornersPut _) (c .before .before .before .before .before .before .face-start .ensures .0) (c .before .before .before .before .turned .ensures .0))
+
+pub reverse-spec : {M : Type 1} → statement M
+reverse-spec =
+    tie.close
+    (tie.spec
+    reverse-fault-requires
+    enum-known-j
+    enum-told
+    sub-face-start
+    face-start-requires
+    sub-turned
+    turned-requires
+    put-corners-requires
+    same-length
+    returns
+    same-length-2
+    returns-2)

@@ -1,0 +1,8 @@
+pub mod Session
+pub mod Laws
+pub mod Copy
+pub mod Moved
+pub mod Turned
+pub mod Kept
+pub mod Changes
+pub mod Place

@@ -1,0 +1,166 @@
+"""Sessions once more: open, move a vertex, move the far point, reverse a face, save.
+
+    session.py run [WORD ...] < scene      prints the steps to standard error, the scene to standard output
+    session.py compare [--program COMMAND] SEED [COUNT]
+
+The words are operations, one after another: `move P X Y Z W`, `far X Y Z W`, `reverse F`.  A step's
+line is `counts PAIRS A B` or `refused N P`.  `compare` runs random operations on random, broken and
+empty scenes through the program and holds both outputs to this one.
+"""
+
+import argparse
+import random
+import shlex
+import subprocess
+import sys
+
+from exact import Refused, read_scene
+from judge import COORDINATES, FACE_FORM, HEADER_BYTES, POINT_FORM, WEIGHTS
+from scenes import random_scene
+
+NUMBERS_OF = {"move": 5, "far": 4, "reverse": 1}
+
+
+class Session:
+    """The bytes of an accepted scene, or none; every answer is worked out afresh."""
+
+    def __init__(self):
+        self.data = b""
+
+    def counts(self):
+        """Pierced pairs, vertices of A enclosed by B, of B by A."""
+        if not self.data:
+            return 0, 0, 0
+        scene = read_scene(self.data)
+        return (len(scene.listing), *map(len, scene.inside))
+
+    def open(self, data):
+        scene = read_scene(data)
+        if isinstance(scene, Refused):
+            self.data = b""
+            raise scene
+        self.data = data
+
+    def sizes(self):
+        """How many vertices there are, and how many faces."""
+        if not self.data:
+            raise Refused(1, 0)
+        a, fa, b, fb = self.data[2:HEADER_BYTES]
+        return a + b, fa + fb
+
+    def put(self, start, record):
+        self.data = self.data[:start] + record + self.data[start + len(record):]
+
+    def move(self, p, *row):
+        vertices, _ = self.sizes()
+        if not 1 <= p <= vertices:
+            raise Refused(11, 0)
+        check_row(p, row)
+        if row[3] == 0:
+            raise Refused(6, p)
+        self.put(HEADER_BYTES + POINT_FORM.size * p, POINT_FORM.pack(b"VX", *row))
+
+    def far(self, *row):
+        vertices, _ = self.sizes()
+        check_row(vertices + 1, row)
+        if not any(row):
+            raise Refused(14, vertices + 1)
+        self.put(HEADER_BYTES, POINT_FORM.pack(b"FP", *row))
+
+    def reverse(self, f):
+        vertices, faces = self.sizes()
+        if not 1 <= f <= faces:
+            raise Refused(11, 0)
+        start = HEADER_BYTES + POINT_FORM.size * (vertices + 1) + FACE_FORM.size * (f - 1)
+        mark, p, q, r = FACE_FORM.unpack(self.data[start:start + FACE_FORM.size])
+        self.put(start, FACE_FORM.pack(mark, r, q, p))
+
+    def save(self, room):
+        """The bytes that a lent buffer of so many places holds in front afterwards."""
+        if not self.data:
+            raise Refused(1, 0)
+        if room < len(self.data):
+            raise Refused(13, len(self.data))
+        return self.data
+
+
+def check_row(p, row):
+    if any(value not in COORDINATES for value in row[:3]):
+        raise Refused(5, p)
+    if row[3] not in WEIGHTS:
+        raise Refused(6, p)
+
+
+def operations(words):
+    """The operations that the words say."""
+    while words:
+        count = NUMBERS_OF[words[0]]
+        yield words[0], [int(word) for word in words[1:count + 1]]
+        words = words[count + 1:]
+
+
+def play(data, steps):
+    """The line of the opening and of each step, and the bytes at the end."""
+    session, lines = Session(), []
+    for name, numbers in [("open", [data]), *steps]:
+        try:
+            getattr(session, name)(*numbers)
+            lines.append("counts {} {} {}".format(*session.counts()))
+        except Refused as refusal:
+            lines.append(refusal.line)
+    return lines, session.data
+
+
+def random_number(rng, limit):
+    """Mostly within the limit, sometimes at it or beyond, seldom far beyond."""
+    return rng.choice([rng.randint(-limit, limit), rng.randint(-9, 9), limit, -limit, limit + 1, -limit - 1,
+                       rng.choice([0, 2 ** 15, -2 ** 15, 2 ** 16, 2 ** 63 - 1, -2 ** 63])] + [rng.randint(-limit, limit)] * 6)
+
+
+def random_row(rng):
+    row = [random_number(rng, COORDINATES[-1]) for _ in range(3)] + [random_number(rng, WEIGHTS[-1])]
+    return [0] * 4 if rng.random() < 0.05 else row
+
+
+def random_step(rng, data):
+    highest = sum(data[2:HEADER_BYTES:2]) if len(data) >= HEADER_BYTES else 6
+    name = rng.choice(["move", "move", "move", "far", "reverse"])
+    if name == "move":
+        return name, [rng.randint(0, highest + 2), *random_row(rng)]
+    if name == "far":
+        return name, random_row(rng)
+    return name, [rng.randint(0, 2 * highest)]
+
+
+def compare(program, seed, count):
+    rng = random.Random(seed)
+    for n in range(count):
+        data = b"" if n % 10 == 9 else random_scene(rng)
+        steps = [random_step(rng, data) for _ in range(rng.randint(0, 8))]
+        words = [str(word) for name, numbers in steps for word in (name, *numbers)]
+        lines, held = play(data, steps)
+        run = subprocess.run(program + words, input=data, capture_output=True, check=False)
+        if run.stdout != held or run.stderr.decode().splitlines() != lines or run.returncode:
+            print(f"difference in {n}: {' '.join(words)}\n{data.hex()}\nexpected {lines}\nfound {run.stderr!r}")
+            return 1
+    print(f"{count} sessions alike")
+    return 0
+
+
+def main(words):
+    if words[:1] == ["run"]:
+        lines, held = play(sys.stdin.buffer.read(), operations(words[1:]))
+        print("\n".join(lines), file=sys.stderr)
+        sys.stdout.buffer.write(held)
+        return 0
+    parser = argparse.ArgumentParser(description="Compares random sessions with the program.")
+    parser.add_argument("command", choices=["compare"])
+    parser.add_argument("--program", default="target/bin/edit")
+    parser.add_argument("seed", type=int)
+    parser.add_argument("count", type=int, nargs="?", default=200)
+    given = parser.parse_args(words)
+    return compare(shlex.split(given.program), given.seed, given.count)
+
+
+if __name__ == "__main__":
+    sys.exit(main(sys.argv[1:]))
