@@ -5,4 +5,5 @@ pub mod Moved
 pub mod Turned
 pub mod Kept
 pub mod Changes
+pub mod Saved
 pub mod Place

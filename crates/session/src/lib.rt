@@ -24,6 +24,7 @@ use scene::write;
 
 pub mod faults;
 pub mod place;
+pub mod save;
 
 // The scene's bytes with zeros behind them, how many they are, and what a fresh count of them gives; no bytes and zero counts where it is empty.
 pub struct Session {
