@@ -12,6 +12,7 @@ use kernel::verdict::Verdict;
 
 mod moves;
 mod refusals;
+mod vertices;
 
 // The number of the scene's refusal, 0 for an accepted scene.
 #[no_mangle]

@@ -1,0 +1,114 @@
+-- Nine stores, each of a byte of the record.
+use native.Mathlib.Omega.{arith}
+use native.Mathlib.Nat.{le-refl}
+use lib.ListN.{length-set}
+use Rattle.doubles.specs.Unsigned.{narrow, nine}
+use borrow.Author.Needs.{needs}
+use Rattle.doubles.proofs.record.put.Statement.{statement}
+use Rattle.doubles.proofs.record.put.Tie as tie
+use Rattle.doubles.proofs.record.put.Reads as reads
+use Rattle.doubles.proofs.record.put.Lts as lts
+use Rattle.doubles.proofs.record.high.Reads as high-reads
+use Rattle.doubles.proofs.record.low.Reads as low-reads
+use Rattle.doubles.proofs.record.unsigned.Reads as unsigned-reads
+
+unsigned-requires : tie.Need-unsigned-requires
+unsigned-requires c κs = (narrow (c .before .before .args .r .x) _ 32768 (c .before .before .pre .1 .x) tt tt, le-refl 32768)
+
+unsigned-requires-2 : tie.Need-unsigned-requires-2
+unsigned-requires-2 c κs = (narrow (c .before .before .before .before .args .r .y) _ 32768 (c .before .before .before .before .pre .1 .y) tt tt, le-refl 32768)
+
+unsigned-requires-3 : tie.Need-unsigned-requires-3
+unsigned-requires-3 c κs = (narrow (c .before .before .before .before .before .before .args .r .z) _ 32768 (c .before .before .before .before .before .before .pre .1 .z) tt tt, le-refl 32768)
+
+unsigned-requires-4 : tie.Need-unsigned-requires-4
+unsigned-requires-4 c κs = (narrow (c .before .before .before .before .before .before .before .before .args .r .w) _ 128 (c .before .before .before .before .before .before .before .before .pre .1 .w) tt tt, omega arith)
+
+low-requires : tie.Need-low-requires
+low-requires c κs = search needs
+
+slice-write-out : tie.Need-slice-write-out
+slice-write-out c = search needs
+
+high-requires : tie.Need-high-requires
+high-requires c κs = search needs
+
+slice-write-out-2 : tie.Need-slice-write-out-2
+slice-write-out-2 c = simp length-set (omega arith)
+
+low-requires-2 : tie.Need-low-requires-2
+low-requires-2 c κs = search needs
+
+slice-write-out-3 : tie.Need-slice-write-out-3
+slice-write-out-3 c = simp length-set (omega arith)
+
+high-requires-2 : tie.Need-high-requires-2
+high-requires-2 c κs = search needs
+
+slice-write-out-4 : tie.Need-slice-write-out-4
+slice-write-out-4 c = simp length-set (omega arith)
+
+low-requires-3 : tie.Need-low-requires-3
+low-requires-3 c κs = search needs
+
+slice-write-out-5 : tie.Need-slice-write-out-5
+slice-write-out-5 c = simp length-set (omega arith)
+
+high-requires-3 : tie.Need-high-requires-3
+high-requires-3 c κs = search needs
+
+slice-write-out-6 : tie.Need-slice-write-out-6
+slice-write-out-6 c = simp length-set (omega arith)
+
+low-requires-4 : tie.Need-low-requires-4
+low-requires-4 c κs = search needs
+
+slice-write-out-7 : tie.Need-slice-write-out-7
+slice-write-out-7 c = simp length-set (omega arith)
+
+high-requires-4 : tie.Need-high-requires-4
+high-requires-4 c κs = search needs
+
+slice-write-out-8 : tie.Need-slice-write-out-8
+slice-write-out-8 c = simp length-set (omega arith)
+
+low-requires-5 : tie.Need-low-requires-5
+low-requires-5 c κs = search needs
+
+slice-write-out-9 : tie.Need-slice-write-out-9
+slice-write-out-9 c = simp length-set (omega arith)
+
+same-length : tie.Need-same-length
+same-length c = simp length-set
+
+returns : tie.Need-returns
+returns c = search nine
+
+pub put-spec : {M : Type 1} → statement M
+put-spec =
+    tie.close
+    (tie.spec
+    unsigned-requires
+    unsigned-requires-2
+    unsigned-requires-3
+    unsigned-requires-4
+    low-requires
+    slice-write-out
+    high-requires
+    slice-write-out-2
+    low-requires-2
+    slice-write-out-3
+    high-requires-2
+    slice-write-out-4
+    low-requires-3
+    slice-write-out-5
+    high-requires-3
+    slice-write-out-6
+    low-requires-4
+    slice-write-out-7
+    high-requires-4
+    slice-write-out-8
+    low-requires-5
+    slice-write-out-9
+    same-length
+    returns)

@@ -1,0 +1,13 @@
+pub mod Whole
+pub mod Fraction
+pub mod Bound
+pub mod Exact
+pub mod Taken
+pub mod Taking
+pub mod Read
+pub mod Determinant
+pub mod Record
+pub mod Unsigned
+pub mod Recording
+pub mod ReadBack
+pub mod Marked
