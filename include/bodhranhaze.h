@@ -7,7 +7,10 @@
  *   - `scene` points to `length` bytes that may be read, and no one writes them during the call; where `length` is 0 it still must not be null;
  *   - `list` points to `places` numbers that may be read and written, is aligned for them and not null, and no one else reads or writes them during
  *     the call;
- *   - the two do not overlap.
+ *   - `record` and `counts` likewise point to so many bytes that may be read and written;
+ *   - no two of them overlap.
+ *
+ * A call may be made on any number of threads at once. It needs less than 64 KiB of stack.
  */
 #ifndef BODHRANHAZE_H
 #define BODHRANHAZE_H
@@ -36,12 +39,46 @@ size_t bodhranhaze_pairs(const uint8_t *scene, size_t length);
  */
 size_t bodhranhaze_inside(const uint8_t *scene, size_t length, size_t solid);
 
+/* Why `bodhranhaze_inside` says 0: the scene's refusal, 11 where `solid` is neither 1 nor 2, or 0 where there is an answer. */
+size_t bodhranhaze_inside_refusal(const uint8_t *scene, size_t length, size_t solid);
+
 /*
  * Writes the listing: for each pierced pair its lower point, higher point and face, edges of A first, in rising order. Answers how many pairs there
  * are, 0 where the scene is refused. Where 3 times that is more than `places` there is no room, and nothing is written: the answer then says what
  * room is wanted. No more than 3 times the answer is ever written.
  */
 size_t bodhranhaze_listing(const uint8_t *scene, size_t length, uint16_t *list, size_t places);
+
+/* Why `bodhranhaze_listing` writes nothing into a list of so many places: the scene's refusal, 10 where there is no room, or 0. */
+size_t bodhranhaze_listing_refusal(const uint8_t *scene, size_t length, size_t places);
+
+/*
+ * The changes of a viewer that drags, made in the scene's own bytes: a vertex by its point number, the far point, and a face whose first and third
+ * corners are swapped. 0 where the scene was changed; else the number of a refusal, the scene's own first, and no byte is changed. `scene` may be
+ * written here.
+ */
+size_t bodhranhaze_move(uint8_t *scene, size_t length, size_t point, int64_t x, int64_t y, int64_t z, int64_t w);
+size_t bodhranhaze_move_far(uint8_t *scene, size_t length, int64_t x, int64_t y, int64_t z, int64_t w);
+size_t bodhranhaze_reverse(uint8_t *scene, size_t length, size_t face);
+
+/*
+ * Takes the vertex as the scene's four numbers, exactly when all four are whole numbers within the limits (minus zero is zero): writes the nine bytes
+ * of its record, `VX`, x, y, z, weight, in front, and answers 0. Else the refusal's number, and nothing is written: of x, y, z, weight in turn, 15 for a
+ * number that is not whole, is infinite or is no number, then 5 or 6 for one outside its limits, 6 for weight 0; and after all of these 13, where `room`
+ * is less than 9. Bytes behind the nine keep their contents.
+ */
+size_t bodhranhaze_take(double x, double y, double z, double weight, uint8_t *record, size_t room);
+
+/* The place of the vertex's 15, 5 or 6: 1 to 4 for x, y, z, weight; 0 where it is taken. (The place of 13 is the length needed, 9.) */
+size_t bodhranhaze_take_place(double x, double y, double z, double weight);
+
+/*
+ * 0 green for apart, 1 amber for enclosed, 2 red for crossing, 3 dark for refused. The counts are sixteen bytes, four counts of four bytes, low byte
+ * first, in the order of the colours; the answer's count goes up by one. From sixteen zeros and over any calls each count is how often its colour was
+ * answered. Before all others 16, in place of a colour, where the counts are not sixteen bytes or already add up to 1,000,000 or more; they then keep
+ * their contents. The number and the place of a refusal are `bodhranhaze_refusal` and `bodhranhaze_place`.
+ */
+size_t bodhranhaze_light(const uint8_t *scene, size_t length, uint8_t *counts, size_t counts_length);
 
 #ifdef __cplusplus
 }

@@ -10,6 +10,7 @@ use kernel::inside::Enclosing;
 use kernel::lists::Listed;
 use kernel::verdict::Verdict;
 
+mod colours;
 mod moves;
 mod refusals;
 mod vertices;

@@ -1,0 +1,4 @@
+pub mod Light
+pub mod Cases
+pub mod Words
+pub mod Tally
