@@ -1,0 +1,22 @@
+-- Behind the sign, where there is one.
+use Rattle.items.specs.Laws.{body-behind, body-there}
+use mathlib.Core.Path.{_≡_, refl, sym, ap, _∙_}
+use Rattle.items.specs.Numbers.{bodyOf}
+use borrow.Author.Needs.{needs}
+use Rattle.items.proofs.numbers.body.Statement.{statement}
+use Rattle.items.proofs.numbers.body.Tie as tie
+
+minus-at-requires : tie.Need-minus-at-requires
+minus-at-requires c κs = search needs
+
+add-result : tie.Need-add-result
+add-result c = search needs
+
+returns : tie.Need-returns
+returns c = search body-behind
+
+returns-2 : tie.Need-returns-2
+returns-2 c = search body-there
+
+pub body-spec : {M : Type 1} → statement M
+body-spec = tie.close (tie.spec minus-at-requires add-result returns returns-2)

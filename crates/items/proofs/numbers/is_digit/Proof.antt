@@ -1,0 +1,18 @@
+-- Two comparisons.
+use mathlib.Core.Path.{_≡_, refl, sym, ap, _∙_}
+use Rattle.laws.specs.Tests.{ands, ors}
+use Rattle.items.specs.Numbers.{isDigit}
+use borrow.Author.Needs.{needs}
+use Rattle.items.proofs.numbers.is_digit.Statement.{statement}
+use Rattle.items.proofs.numbers.is_digit.Tie as tie
+
+returns : tie.Need-returns
+unfolding isDigit
+returns c = search ands
+
+returns-2 : tie.Need-returns-2
+unfolding isDigit
+returns-2 c = search ands
+
+pub is-digit-spec : {M : Type 1} → statement M
+is-digit-spec = tie.close (tie.spec returns returns-2)

@@ -1,0 +1,22 @@
+-- The sign is looked at where there may be one.
+use Rattle.laws.specs.Tests.{same}
+use mathlib.Core.Path.{_≡_, refl, sym, ap, _∙_}
+use Rattle.laws.specs.Tests.{ands, ors}
+use Rattle.items.specs.Numbers.{minusAt}
+use borrow.Author.Needs.{needs}
+use Rattle.items.proofs.numbers.minus_at.Statement.{statement}
+use Rattle.items.proofs.numbers.minus_at.Tie as tie
+
+returns : tie.Need-returns
+unfolding minusAt
+returns c = search ands
+
+byte-requires : tie.Need-byte-requires
+byte-requires c κs = search needs
+
+returns-2 : tie.Need-returns-2
+unfolding minusAt
+returns-2 c = search (ands, same)
+
+pub minus-at-spec : {M : Type 1} → statement M
+minus-at-spec = tie.close (tie.spec returns byte-requires returns-2)

@@ -1,0 +1,59 @@
+-- The rest of the gap ends where the whole gap does.
+use lib.ListN.{length, drop}
+use Prim.Native.Nat.{_+_, _-_, _≤_}
+use mathlib.Core.Path.{_≡_, refl}
+use native.Mathlib.Omega.{arith}
+use Rattle.items.specs.Items.{gap, startOf}
+use Rattle.items.specs.Laws.{scans}
+use Rattle.items.proofs.start.Statement.{statement}
+use Rattle.items.proofs.start.Tie as tie
+
+abbrev Inv-loop : tie.InvT-loop
+Inv-loop text at comment₀ i₀ comment i = (i + gap comment (drop i text) ≡ startOf text at) × (at ≤ i) × (i ≤ length text)
+
+abbrev μ-loop : tie.MeasureT-loop
+μ-loop text at comment₀ i₀ comment i = length text - i
+
+loop-holds : tie.Need-loop-holds Inv-loop μ-loop
+unfolding startOf
+loop-holds c = (refl, omega arith, omega arith)
+
+shared-slice-read-c : tie.Need-shared-slice-read-c Inv-loop μ-loop
+shared-slice-read-c c = search scans
+
+begins-requires : tie.Need-begins-requires Inv-loop μ-loop
+begins-requires c κs = search scans
+
+returns : tie.Need-returns Inv-loop μ-loop
+returns c = search scans
+
+comments-requires : tie.Need-comments-requires Inv-loop μ-loop
+comments-requires c κs = search scans
+
+add-i : tie.Need-add-i Inv-loop μ-loop
+add-i c = search scans
+
+loop-less : tie.Need-loop-less Inv-loop μ-loop
+loop-less c = search scans
+
+loop-again : tie.Need-loop-again Inv-loop μ-loop
+loop-again c = search scans
+
+returns-2 : tie.Need-returns-2 Inv-loop μ-loop
+returns-2 c = search scans
+
+pub start-spec : {M : Type 1} → statement M
+start-spec =
+    tie.close
+    (tie.spec
+    Inv-loop
+    μ-loop
+    loop-holds
+    shared-slice-read-c
+    begins-requires
+    returns
+    comments-requires
+    add-i
+    loop-less
+    loop-again
+    returns-2)

@@ -1,0 +1,4 @@
+pub mod Made
+pub mod Copy
+pub mod Laws
+pub mod Exact

@@ -1,0 +1,4 @@
+// Two object texts and a far point made into a scene.
+pub mod points;
+pub mod whole;
+mod write;

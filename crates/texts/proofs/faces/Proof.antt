@@ -1,0 +1,69 @@
+-- The rest of the faces reads as the whole.
+use Rattle.texts.specs.Laws.{face-within}
+use Prim.Native.Nat.{_-_, _≤_}
+use mathlib.Core.Path.{_≡_, refl}
+use lib.ListN.{length}
+use native.Mathlib.Omega.{arith}
+use Rattle.texts.specs.Form.{facesFrom}
+use Rattle.texts.specs.Places.{face-reach}
+use Rattle.texts.specs.Laws.{faces-begin, faces-stop, faces-outside, faces-sides, faces-next}
+use borrow.Author.Needs.{needs}
+use Rattle.texts.proofs.faces.Statement.{statement}
+use Rattle.texts.proofs.faces.Tie as tie
+
+abbrev Inv-loop : tie.InvT-loop
+Inv-loop text at n k₀ i₀ k i = (facesFrom (n - i) text k ≡ facesFrom n text at) × (k ≤ length text) × (i ≤ n)
+
+abbrev μ-loop : tie.MeasureT-loop
+μ-loop text at n k₀ i₀ k i = n - i
+
+loop-holds : tie.Need-loop-holds Inv-loop μ-loop
+loop-holds c = (faces-begin _ _ _, omega arith, omega arith)
+
+face-requires : tie.Need-face-requires Inv-loop μ-loop
+face-requires c κs = search (faces-stop, faces-outside, faces-sides, faces-next, needs)
+
+enum-known-e : tie.Need-enum-known-e Inv-loop μ-loop
+enum-known-e c = search (faces-stop, faces-outside, faces-sides, faces-next, needs)
+
+enum-known-p : tie.Need-enum-known-p Inv-loop μ-loop
+enum-known-p c = search (faces-stop, faces-outside, faces-sides, faces-next, needs)
+
+returns : tie.Need-returns Inv-loop μ-loop
+returns c = search (faces-stop, faces-outside, faces-sides, faces-next, needs)
+
+enum-known-p-2 : tie.Need-enum-known-p-2 Inv-loop μ-loop
+enum-known-p-2 c = search (faces-stop, faces-outside, faces-sides, faces-next, needs)
+
+returns-2 : tie.Need-returns-2 Inv-loop μ-loop
+returns-2 c = search (faces-stop, faces-outside, faces-sides, faces-next, needs)
+
+add-i : tie.Need-add-i Inv-loop μ-loop
+add-i c = search (faces-stop, faces-outside, faces-sides, faces-next, needs)
+
+loop-less : tie.Need-loop-less Inv-loop μ-loop
+loop-less c = search (faces-stop, faces-outside, faces-sides, faces-next, needs)
+
+loop-again : tie.Need-loop-again Inv-loop μ-loop
+loop-again c = (search (faces-next, needs), search (face-within, needs), omega arith)
+
+returns-3 : tie.Need-returns-3 Inv-loop μ-loop
+returns-3 c = search (faces-stop, faces-outside, faces-sides, faces-next, needs)
+
+pub faces-spec : {M : Type 1} → statement M
+faces-spec =
+    tie.close
+    (tie.spec
+    Inv-loop
+    μ-loop
+    loop-holds
+    face-requires
+    enum-known-e
+    enum-known-p
+    returns
+    enum-known-p-2
+    returns-2
+    add-i
+    loop-less
+    loop-again
+    returns-3)

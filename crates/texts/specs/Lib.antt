@@ -1,0 +1,4 @@
+pub mod Form
+pub mod Places
+pub mod Laws
+pub mod Placed
