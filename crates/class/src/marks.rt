@@ -1,0 +1,105 @@
+// The tally of a block: each scene is asked once, and counted in its line.
+ghost use mathlib.Core.Path.{_≡_};
+ghost use Prim.Native.Nat.{_≤_};
+ghost use lib.ListN.{length, getD};
+ghost use Rattle.block.specs.Block.{mostBytes};
+ghost use Rattle.class.specs.Tally.{refusedLine, lineOf, pairsIn, markOf, made, marksOf, tallyOf};
+ghost use Rattle.class.specs.Counting.{Counting, up, FewVerdicts};
+use crate::Mark;
+use crate::Tally;
+use block::part_at;
+use engine::Engine;
+use kernel::counts::Counted;
+use kernel::counts::count;
+use kernel::verdict::Verdict;
+use kernel::verdict::verdict_of;
+
+type Lines = [usize; Tally::LINES];
+
+fn refused_line(n: usize) -> usize
+    ensures { λ r. ⌜ r ≡ refusedLine n ⌝ }
+{
+    if n <= 9 { n + 4 } else { 14 }
+}
+
+fn line_of(v: Verdict) -> usize
+    ensures { λ r. ⌜ r ≡ lineOf v ⌝ }
+{
+    match v {
+        Verdict::Cross(_, _, _) => 1,
+        Verdict::AInB(_) => 2,
+        Verdict::BInA(_) => 3,
+        Verdict::Apart => 4,
+        Verdict::Refused(r) => refused_line(scene::number(r)),
+    }
+}
+
+fn pairs_in(c: Counted) -> usize
+    ensures { λ r. ⌜ r ≡ pairsIn c ⌝ }
+{
+    match c {
+        Counted::Refused(_) => 0,
+        Counted::Counts(n) => n.pairs,
+    }
+}
+
+// One scene.
+fn mark_of(s: &[u8]) -> Mark
+    ensures { λ r. ⌜ r ≡ markOf (now (s .entry)) ⌝ }
+{
+    Mark {
+        line: line_of(verdict_of(Engine::Plain, s)),
+        pairs: pairs_in(count(Engine::Plain, s)),
+    }
+}
+
+// One scene more: in the first line, and in its own.
+fn count_in(lines: &mut Lines, k: usize)
+    requires { ⌜ Counting (now lines) k ⌝ }
+    ensures { λ _. ⌜ now (lines .exit) ≡ up (up (now (lines .entry)) 0) k ⌝ }
+{
+    lines[0] += 1;
+    lines[k] += 1;
+}
+
+fn told(lines: &Lines, pairs: usize) -> Tally
+    requires { ⌜ FewVerdicts (now lines) ⌝ }
+    ensures { λ r. ⌜ r ≡ made (λ k. getD (now (lines .entry)) k 0) pairs ⌝ }
+{
+    Tally {
+        scenes: lines[0],
+        cross: lines[1],
+        a_in_b: lines[2],
+        b_in_a: lines[3],
+        apart: lines[4],
+        refused_1: lines[5],
+        refused_2: lines[6],
+        refused_3: lines[7],
+        refused_4: lines[8],
+        refused_5: lines[9],
+        refused_6: lines[10],
+        refused_7: lines[11],
+        refused_8: lines[12],
+        refused_9: lines[13],
+        refused_14: lines[14],
+        accepted: lines[1] + lines[2] + lines[3] + lines[4],
+        pairs,
+    }
+}
+
+pub fn tally(block: &[u8]) -> Tally
+    requires { ⌜ length (now block) ≤ mostBytes ⌝ }
+    ensures { λ r. ⌜ r ≡ tallyOf (marksOf (now (block .entry))) ⌝ }
+{
+    let mut lines: Lines = [0; Tally::LINES];
+    let mut pairs = 0;
+    let mut at = 0;
+    while at < block.len() {
+        let end = part_at(block, at);
+        let m = mark_of(&block[at..end]);
+        count_in(&mut lines, m.line);
+        pairs += m.pairs;
+        at = end;
+    }
+    told(&lines, pairs)
+}

@@ -1,0 +1,167 @@
+"""The class report once more, from the requirements alone: scenes end to end in a block, tallied.
+
+    class.py report < block                       prints the report of a block
+    class.py merge < reports                      prints the report of all reports, end to end
+    class.py selftest                             runs small blocks whose report is written here
+    class.py compare PROGRAM MERGE SEED COUNT     random blocks, the programs' prints against this one's
+"""
+
+import random
+import shlex
+import subprocess
+import sys
+
+from exact import Refused, read_scene
+from judge import FACE_COUNTS, HEADER_BYTES, VERTEX_COUNTS, scene_bytes
+from scenes import random_scene
+
+MOST_BYTES = 65536
+WORDS = ["cross", "a-in-b", "b-in-a", "apart"]
+NUMBERS = [1, 2, 3, 4, 5, 6, 7, 8, 9, 14]
+LINES = ["scenes", *WORDS, *(f"refused {number}" for number in NUMBERS)]
+
+
+# ---- the scenes of a block --------------------------------------------------------------------
+
+
+def scene_at_front(rest):
+    """The scene that these bytes begin with, and the bytes behind it; or the refusal that ends the report."""
+    if len(rest) < HEADER_BYTES or rest[:2] != b"SC":
+        return Refused(1), None
+    a, fa, b, fb = rest[2:HEADER_BYTES]
+    if any(n not in VERTEX_COUNTS for n in (a, b)) or any(n not in FACE_COUNTS for n in (fa, fb)):
+        return Refused(2), None
+    length = 17 + 9 * (a + b) + 5 * (fa + fb)
+    if length > len(rest):
+        return Refused(3), None
+    return read_scene(rest[:length]), rest[length:]
+
+
+def tally(block):
+    """How often each line of the report holds, and the pierced pairs of all accepted scenes."""
+    counts, pairs, rest = dict.fromkeys(LINES, 0), 0, block
+    while rest:
+        scene, rest = scene_at_front(rest)
+        counts["scenes"] += 1
+        if isinstance(scene, Refused):
+            counts[" ".join(scene.line.split()[:2])] += 1
+        else:
+            counts[scene.verdict()[0]] += 1
+            pairs += len(scene.listing)
+    return counts, pairs
+
+
+def printed(counts, pairs):
+    """The lines of the report."""
+    accepted = sum(counts[word] for word in WORDS)
+    mean = (pairs // accepted, pairs % accepted, accepted) if accepted else (0, 0, 0)
+    return [*(f"{line} {counts[line]}" for line in LINES), "mean {} {} {}".format(*mean)]
+
+
+def report(block):
+    return ["refused 23 0"] if len(block) > MOST_BYTES else printed(*tally(block))
+
+
+def merged(text):
+    """The report of all blocks whose reports these are."""
+    lines, sums, pairs = text.split("\n")[:-1], dict.fromkeys(LINES, 0), 0
+    for start in range(0, len(lines), len(LINES) + 1):
+        *counted, mean = lines[start:start + len(LINES) + 1]
+        for line in counted:
+            name, count = line.rsplit(" ", 1)
+            sums[name] += int(count)
+        whole, remainder, divisor = map(int, mean.split()[1:])
+        pairs += whole * divisor + remainder
+    return printed(sums, pairs)
+
+
+# ---- blocks to try ----------------------------------------------------------------------------
+
+
+TETRAHEDRON = [(1, 2, 3), (1, 2, 4), (1, 3, 4), (2, 3, 4)]
+CROSS = scene_bytes((100, 101, 103, 1), [(0, 0, 0, 1), (4, 0, 0, 1), (0, 4, 0, 1), (0, 0, 4, 1)], TETRAHEDRON,
+                    [(1, 1, 1, 1), (-8, -7, -9, 1), (9, -6, -9, 1), (2, 10, -9, 1)], TETRAHEDRON)
+OPEN = scene_bytes((100, 101, 103, 1), [(0, 0, 0, 1), (4, 0, 0, 1), (0, 4, 0, 1), (0, 0, 4, 1)], TETRAHEDRON[:3],
+                   [(1, 1, 1, 1), (-8, -7, -9, 1), (9, -6, -9, 1), (2, 10, -9, 1)], TETRAHEDRON)
+
+
+def said(block):
+    """The report in short: the counts that are not 0, and the mean."""
+    lines = report(block)
+    return [line for line in lines if not line.endswith(" 0") or line.startswith(("mean", "refused 23"))]
+
+
+def run():
+    cases = [
+        (b"", ["mean 0 0 0"]),
+        (CROSS, ["scenes 1", "cross 1", "mean 3 0 1"]),
+        (CROSS + OPEN + CROSS, ["scenes 3", "cross 2", "refused 9 1", "mean 3 0 2"]),
+        (CROSS + b"SCxx", ["scenes 2", "cross 1", "refused 1 1", "mean 3 0 1"]),
+        (CROSS + b"XX" + CROSS, ["scenes 2", "cross 1", "refused 1 1", "mean 3 0 1"]),
+        (CROSS + b"SC\x02\x04\x04\x04" + CROSS, ["scenes 2", "cross 1", "refused 2 1", "mean 3 0 1"]),
+        (CROSS + CROSS[:-1], ["scenes 2", "cross 1", "refused 3 1", "mean 3 0 1"]),
+        (CROSS[:6], ["scenes 1", "refused 3 1", "mean 0 0 0"]),
+        (bytes(MOST_BYTES), ["scenes 1", "refused 1 1", "mean 0 0 0"]),
+        (bytes(MOST_BYTES + 1), ["refused 23 0"]),
+    ]
+    for block, expected in cases:
+        if said(block) != expected:
+            print(f"expected {expected}, found {said(block)}")
+            return 1
+    print(f"{len(cases)} blocks as they should be")
+    return 0
+
+
+def random_block(rng):
+    """Scenes end to end, most of them whole; at times one that ends the report, at times more than 65,536 bytes."""
+    parts = []
+    for _ in range(rng.choice([0, 1, 1, 2, 3, 5, 8])):
+        scene = random_scene(rng)
+        front, rest = scene_at_front(scene)
+        if rest == b"" or rng.random() < 0.1:
+            parts.append(scene)
+    block = b"".join(parts)
+    manner = rng.randrange(12)
+    if manner == 0:
+        block = block[:rng.randrange(len(block) + 1)]
+    elif manner == 1:
+        block += bytes(rng.randrange(256) for _ in range(rng.randrange(1, 9)))
+    elif manner == 2 and block:
+        block = (block * (MOST_BYTES // len(block) + 1))[:MOST_BYTES + rng.randrange(2)] if len(block) > 9000 else block
+    return block
+
+
+def printed_by(program, data):
+    return subprocess.run(shlex.split(program), input=data, stdout=subprocess.PIPE, check=True).stdout.decode("latin-1")
+
+
+def compare(program, merge, seed, count):
+    """Each block's report; and the merge of all reports that are not refused."""
+    rng, reports = random.Random(seed), ""
+    for n in range(count):
+        block = random_block(rng)
+        expected, found = "\n".join(report(block)) + "\n", printed_by(program, block)
+        if expected != found:
+            open(f"difference-{seed}-{n}.block", "wb").write(block)
+            print(f"difference: saved as difference-{seed}-{n}.block; expected\n{expected}found\n{found}", end="")
+            return 1
+        reports += "" if expected.startswith("refused") else expected
+    if merge != "-" and printed_by(merge, reports.encode()) != "\n".join(merged(reports)) + "\n":
+        print("the reports end to end are merged otherwise")
+        return 1
+    print(f"{count} blocks alike")
+    return 0
+
+
+def main(words):
+    if words == ["selftest"]:
+        return run()
+    if words[:1] == ["compare"] and len(words) == 5:
+        return compare(words[1], words[2], int(words[3]), int(words[4]))
+    data = sys.stdin.buffer.read()
+    print("\n".join(merged(data.decode("latin-1")) if words == ["merge"] else report(data)))
+    return 0
+
+
+if __name__ == "__main__":
+    sys.exit(main(sys.argv[1:]))
