@@ -1,0 +1,48 @@
+-- The scene is decoded once.
+use borrow.Author.Needs.{needs}
+use mathlib.Core.Path.{ap₂, _∙_}
+use Rattle.clean.specs.Clean.{hasFlat}
+use native.Mathlib.Omega.{arith}
+use denote.Ref.{now}
+use Rattle.clean.specs.Scene.{rows-fit, ready}
+use Rattle.clean.proofs.flat_scene.Statement.{statement}
+use Rattle.clean.proofs.flat_scene.Tie as tie
+
+rows-requires : tie.Need-rows-requires
+rows-requires c κs = rows-fit (now (c .before .args .s)) (c .before .pre)
+
+byte-requires : tie.Need-byte-requires
+byte-requires c κs = search needs
+
+byte-requires-2 : tie.Need-byte-requires-2
+byte-requires-2 c κs = search needs
+
+add-has-flat : tie.Need-add-has-flat
+add-has-flat c = search needs
+
+add-has-flat-2 : tie.Need-add-has-flat-2
+add-has-flat-2 c = search needs
+
+has-flat-requires : tie.Need-has-flat-requires
+has-flat-requires c κs =
+    let d = c .before .before .before in
+    let s = d .before .before in
+    ready (now (s .args .s)) (s .pre) (d .rows .ensures) (omega arith)
+
+returns : tie.Need-returns
+returns c =
+    let d = c .before .before .before .before in
+    let s = d .before .before in
+    c .has-flat .ensures ∙ ap₂ hasFlat (omega arith) (d .rows .ensures)
+
+pub flat-scene-spec : {M : Type 1} → statement M
+flat-scene-spec =
+    tie.close
+    (tie.spec
+    rows-requires
+    byte-requires
+    byte-requires-2
+    add-has-flat
+    add-has-flat-2
+    has-flat-requires
+    returns)

@@ -1,0 +1,12 @@
+pub mod Turned
+pub mod Alike
+pub mod Signs
+pub mod Scaled
+pub mod Renumbered
+pub mod Lecture
+pub mod Scenes
+pub mod Somewhere
+pub mod Rerowed
+pub mod Imaged
+pub mod LectureProof
+pub mod Exchange

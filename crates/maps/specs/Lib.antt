@@ -1,0 +1,8 @@
+pub mod Mapped
+pub mod Image
+pub mod Columns
+pub mod Tests
+pub mod Ready
+pub mod Copy
+pub mod Filling
+pub mod Faults
