@@ -7,7 +7,7 @@
  *   - `scene` points to `length` bytes that may be read, and no one writes them during the call; where `length` is 0 it still must not be null;
  *   - `list` points to `places` numbers that may be read and written, is aligned for them and not null, and no one else reads or writes them during
  *     the call;
- *   - `record` and `counts` likewise point to so many bytes that may be read and written;
+ *   - `record`, `counts` and `facts` likewise point to so many bytes or numbers that may be read and written;
  *   - no two of them overlap.
  *
  * A call may be made on any number of threads at once. It needs less than 64 KiB of stack.
@@ -51,6 +51,15 @@ size_t bodhranhaze_listing(const uint8_t *scene, size_t length, uint16_t *list, 
 
 /* Why `bodhranhaze_listing` writes nothing into a list of so many places: the scene's refusal, 10 where there is no room, or 0. */
 size_t bodhranhaze_listing_refusal(const uint8_t *scene, size_t length, size_t places);
+
+/*
+ * Everything that is asked of a whole scene in one call, which judges, decodes and surveys it once. Writes eight numbers in front of `facts`: the number
+ * and the place of the refusal, 0 and 0 where there is none; the verdict's number; how many pairs there are; how many vertices of A are enclosed by B, and
+ * of B by A; the word of A's enclosed vertices and that of B's (bit j is set where the solid's vertex j + 1 is enclosed). Writes the listing into `list` as
+ * `bodhranhaze_listing` does. Answers the refusal's number: 13 before all others where `facts_length` is less than 8, and nothing is written then; the
+ * scene's own, with verdict 4 and five zeros; or 10 where the list has no room, with the number of pairs as its place and all facts told.
+ */
+size_t bodhranhaze_survey(const uint8_t *scene, size_t length, uint16_t *list, size_t places, uint64_t *facts, size_t facts_length);
 
 /*
  * The changes of a viewer that drags, made in the scene's own bytes: a vertex by its point number, the far point, and a face whose first and third

@@ -153,6 +153,17 @@ Answers byEngine(const Bytes& b) {
   return a;
 }
 
+// The one call for everything tells the same.
+bool surveysAlike(const Bytes& b, const Answers& a) {
+  std::uint64_t facts[9] = {0, 0, 0, 0, 0, 0, 0, 0, 99};
+  std::vector<std::uint16_t> room(3 * a.pairs);
+  room.reserve(1);
+  std::size_t n = bodhranhaze_survey(b.data(), b.size(), room.data(), room.size(), facts, 8);
+  return n == a.refusal && facts[0] == a.refusal && facts[1] == a.place && facts[2] == a.verdict && facts[3] == a.pairs && facts[4] == a.inside[0] &&
+         facts[5] == a.inside[1] && std::size_t(__builtin_popcountll(facts[6])) == a.inside[0] &&
+         std::size_t(__builtin_popcountll(facts[7])) == a.inside[1] && facts[8] == 99 && room == a.list;
+}
+
 // A list one place too short must be left as it is, and one with places to spare must be kept behind the listing.
 Answers byKernel(const Bytes& b) {
   Answers a;
@@ -171,6 +182,7 @@ Answers byKernel(const Bytes& b) {
   kept = kept && bodhranhaze_listing(b.data(), b.size(), room.data(), room.size()) == a.pairs;
   for (std::size_t i = 3 * a.pairs; i < room.size(); i++) kept = kept && room[i] == pattern;
   a.list.assign(room.begin(), room.begin() + 3 * a.pairs);
+  kept = kept && surveysAlike(b, a);
   if (!kept) a.pairs = ~std::size_t(0);
   return a;
 }
@@ -232,12 +244,13 @@ void printPair(const Pair& p) { std::printf(" %9.2f %9.2f %5.2f |", p.kernel / s
 
 void printTable() {
   std::printf("\nMicroseconds a scene: the kernel, the engine, and the ratio.\n");
-  std::printf("All is the listing and both enclosed counts: three calls, each of which judges and decodes, of the kernel; one of the engine.\n\n");
+  std::printf("All is the verdict, the listing and the enclosed vertices of both solids, judging and decoding included, in one call of either.\n\n");
   std::printf("| %-11s | %8s | %-25s | %-25s | %-25s |\n", "solids", "vertices", "judge", "verdict", "all");
   std::printf("|-------------|----------|---------------------------|---------------------------|---------------------------|\n");
   std::vector<std::uint16_t> room(3 * 2 * engine::mostFaces * engine::mostFaces), list;
   for (int kind = 0; kind < kinds; kind++)
     for (int n : sizes) {
+      std::uint64_t facts[8];
       Pair judge, verdict, all;
       for (int seed = 0; seed < seeds; seed++) {
         Bytes b = sceneOf(static_cast<Kind>(kind), n, seed);
@@ -246,10 +259,7 @@ void printTable() {
         add(judge, [&] { return bodhranhaze_refusal(b.data(), b.size()); }, read);
         add(verdict, [&] { return bodhranhaze_verdict(b.data(), b.size()); }, [&] { return read() + engine::verdict(s); });
         add(all,
-            [&] {
-              return bodhranhaze_listing(b.data(), b.size(), room.data(), room.size()) + bodhranhaze_inside(b.data(), b.size(), 1) +
-                     bodhranhaze_inside(b.data(), b.size(), 2);
-            },
+            [&] { return bodhranhaze_survey(b.data(), b.size(), room.data(), room.size(), facts, 8) + facts[3]; },
             [&] {
               read();
               engine::list(s, list);

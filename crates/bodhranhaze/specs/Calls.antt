@@ -43,6 +43,10 @@ pub record IsListing (s d d′ : List ℕ) (r : ℕ) : Type 0 where
 pub by-case : {A : Type 0} (f : A → ℕ) {o j x : A} {n : ℕ} → o ≡ j → o ≡ x → n ≡ f x → n ≡ f j
 by-case f e q p = p ∙ ap f (sym q ∙ e)
 
+-- the number of a call's answer o, which is j
+pub by-answer : {A : Type 0} (f : A → ℕ) {o j : A} {n : ℕ} → o ≡ j → n ≡ f o → n ≡ f j
+by-answer f e p = p ∙ ap f e
+
 abbrev pub counted : Listed → ℕ
 counted (listed.Count n) = n
 counted (listed.Refused r) = 0

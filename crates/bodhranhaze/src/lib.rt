@@ -10,41 +10,33 @@ use kernel::inside::Enclosing;
 use kernel::lists::Listed;
 use kernel::verdict::Verdict;
 
-mod colours;
-mod moves;
-mod refusals;
-mod vertices;
+pub mod colours;
+pub mod facts;
+pub mod moves;
+pub mod refusals;
+pub mod vertices;
 
-// The number of the scene's refusal, 0 for an accepted scene.
-#[no_mangle]
-pub extern "C" fn bodhranhaze_refusal(s: &[u8]) -> usize
-    ensures { λ r. ⌜ r ≡ refusalNumber (judged (now (s .entry))) ⌝ }
+fn number_of(j: Judged) -> usize
+    ensures { λ r. ⌜ r ≡ refusalNumber j ⌝ }
 {
-    let j = judge::judge(s);
     match j {
         Judged::Accepted => 0,
         Judged::Refused(r) => scene::number(r),
     }
 }
 
-// Its place, 0 for an accepted scene.
-#[no_mangle]
-pub extern "C" fn bodhranhaze_place(s: &[u8]) -> usize
-    ensures { λ r. ⌜ r ≡ refusalPlace (judged (now (s .entry))) ⌝ }
+fn place_of(j: Judged) -> usize
+    ensures { λ r. ⌜ r ≡ refusalPlace j ⌝ }
 {
-    let j = judge::judge(s);
     match j {
         Judged::Accepted => 0,
         Judged::Refused(r) => scene::place(r),
     }
 }
 
-// 0 cross, 1 a-in-b, 2 b-in-a, 3 apart, 4 refused.
-#[no_mangle]
-pub extern "C" fn bodhranhaze_verdict(s: &[u8]) -> usize
-    ensures { λ r. ⌜ r ≡ verdictNumber (verdictOf (now (s .entry))) ⌝ }
+fn verdict_number(v: Verdict) -> usize
+    ensures { λ r. ⌜ r ≡ verdictNumber v ⌝ }
 {
-    let v = kernel::verdict::verdict_of(Engine::Plain, s);
     match v {
         Verdict::Cross(_, _, _) => 0,
         Verdict::AInB(_) => 1,
@@ -52,6 +44,30 @@ pub extern "C" fn bodhranhaze_verdict(s: &[u8]) -> usize
         Verdict::Apart => 3,
         Verdict::Refused(_) => 4,
     }
+}
+
+// The number of the scene's refusal, 0 for an accepted scene.
+#[no_mangle]
+pub extern "C" fn bodhranhaze_refusal(s: &[u8]) -> usize
+    ensures { λ r. ⌜ r ≡ refusalNumber (judged (now (s .entry))) ⌝ }
+{
+    number_of(judge::judge(s))
+}
+
+// Its place, 0 for an accepted scene.
+#[no_mangle]
+pub extern "C" fn bodhranhaze_place(s: &[u8]) -> usize
+    ensures { λ r. ⌜ r ≡ refusalPlace (judged (now (s .entry))) ⌝ }
+{
+    place_of(judge::judge(s))
+}
+
+// 0 cross, 1 a-in-b, 2 b-in-a, 3 apart, 4 refused.
+#[no_mangle]
+pub extern "C" fn bodhranhaze_verdict(s: &[u8]) -> usize
+    ensures { λ r. ⌜ r ≡ verdictNumber (verdictOf (now (s .entry))) ⌝ }
+{
+    verdict_number(kernel::verdict::verdict_of(Engine::Plain, s))
 }
 
 // How many pierced pairs there are.

@@ -15,10 +15,18 @@ use Rattle.laws.specs.Range.{more}
 use Rattle.scene.specs.Limits.{limits}
 use Rattle.scene.specs.Refusal.{numberOf}
 use Rattle.scene.specs.declared.Refusal.{Refusal}
-use Rattle.kernel.specs.Answers.{verdictOf, countedOf}
+use Rattle.scene.specs.View.{viewOf}
+use Rattle.judge.specs.Judge.{judged}
+use Rattle.judge.specs.declared.Judged.{Judged}
+use Rattle.judge.specs.declared.Judged.the-variants.{Accepted, Refused}
+use Rattle.kernel.specs.Answers.{answered, verdictIn, countsIn, verdictOf, countedOf}
+use Rattle.kernel.specs.Facts.{factsIn, IsSurvey}
+use Rattle.kernel.specs.declared.facts.Facts.{Facts}
+use Rattle.kernel.specs.declared.facts.Surveyed.{Surveyed}
+use Rattle.kernel.specs.declared.facts.Surveyed.the-variants as surveyed
 use Rattle.kernel.specs.declared.verdict.Verdict.{Verdict}
 use Rattle.kernel.specs.declared.verdict.Verdict.the-variants as verdict
-use Rattle.kernel.specs.declared.counts.Counted.{Counted}
+use Rattle.kernel.specs.declared.counts.Counted.the-variants as counted
 use Rattle.block.specs.Block.{mostBytes, sizeOf, sceneOf, behind, scenesOf, endAt}
 use Rattle.block.specs.Scenes.{scenes-end, scenes-next, scenes-few, byte-left, end-within, scene-here, behind-here}
 use Rattle.class.specs.Most.{mostPairs, pairs-most}
@@ -75,10 +83,37 @@ line-some s = line-within (verdictOf s) .0
 pub line-refused : {v : Verdict} {r : Refusal} {n k : ℕ} → v ≡ verdict.Refused r → n ≡ numberOf r → k ≡ refusedLine n → k ≡ lineOf v
 line-refused e h p = p ∙ ap refusedLine h ∙ sym (ap lineOf e)
 
-pub mark-is : (s : List ℕ) {v : Verdict} {c : Counted} {k p : ℕ} → v ≡ verdictOf s → k ≡ lineOf v → c ≡ countedOf s → p ≡ pairsIn c →
-    record { line = k; pairs = p } ≡ markOf s
-unfolding markOf
-mark-is s e h d q = λ i. record { line = (h ∙ ap lineOf e) i; pairs = (q ∙ ap pairsIn d) i }
+-- ---- one scene, by its survey o
+
+abbrev pub markBy : Facts → Mark
+markBy f = record { line = lineOf (f .verdict); pairs = f .counts .pairs }
+
+pub mark-by : (f : Facts) {k : ℕ} → k ≡ lineOf (f .verdict) → record { line = k; pairs = f .counts .pairs } ≡ markBy f
+mark-by f e = λ i. record { line = e i; pairs = f .counts .pairs }
+
+module _ (s : List ℕ) {d d′ : List ℕ} {o : Surveyed} (x : IsSurvey s d d′ o) where
+  pub mark-refused : {r : Refusal} {n k : ℕ} → o ≡ surveyed.Refused r → n ≡ numberOf r → k ≡ refusedLine n → record { line = k; pairs = 0 } ≡ markOf s
+  unfolding markOf verdictOf countedOf answered
+  mark-refused {r} {k = k} q e h = go (judged s) (sym q ∙ x .answer)
+    where
+      go : (j : Judged) → surveyed.Refused r ≡ answered surveyed.Refused j (surveyed.Facts (factsIn (viewOf s))) →
+          _≡_ {A = Mark} (record { line = k; pairs = 0 })
+          (record { line = lineOf (answered verdict.Refused j (verdictIn (viewOf s))); pairs = pairsIn (answered counted.Refused j (counted.Counts (countsIn (viewOf s)))) })
+      go Accepted p = let c : _≡_ {A = ℕ} 0 1 = cc in absurd (omega arith)
+      go (Refused w) p =
+          let same : r ≡ w = cc in
+          let l : k ≡ refusedLine (numberOf w) = h ∙ ap refusedLine e ∙ ap (λ (r : Refusal). refusedLine (numberOf r)) same in
+          λ i. record { line = l i; pairs = 0 }
+
+  pub mark-told : {f : Facts} {m : Mark} → o ≡ surveyed.Facts f → m ≡ markBy f → m ≡ markOf s
+  unfolding markOf verdictOf countedOf answered factsIn
+  mark-told {f} q e = e ∙ go (judged s) (sym q ∙ x .answer)
+    where
+      go : (j : Judged) → surveyed.Facts f ≡ answered surveyed.Refused j (surveyed.Facts (factsIn (viewOf s))) →
+          markBy f
+          ≡ record { line = lineOf (answered verdict.Refused j (verdictIn (viewOf s))); pairs = pairsIn (answered counted.Refused j (counted.Counts (countsIn (viewOf s)))) }
+      go Accepted p = let same : f ≡ factsIn (viewOf s) = cc in ap markBy same
+      go (Refused w) p = let c : _≡_ {A = ℕ} 0 1 = cc in absurd (omega arith)
 
 -- ---- how large the sums can grow
 

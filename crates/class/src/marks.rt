@@ -3,16 +3,16 @@ ghost use mathlib.Core.Path.{_≡_};
 ghost use Prim.Native.Nat.{_≤_};
 ghost use lib.ListN.{length, getD};
 ghost use Rattle.block.specs.Block.{mostBytes};
-ghost use Rattle.class.specs.Tally.{refusedLine, lineOf, pairsIn, markOf, made, marksOf, tallyOf};
-ghost use Rattle.class.specs.Counting.{Counting, up, FewVerdicts};
+ghost use Rattle.class.specs.Tally.{refusedLine, lineOf, markOf, made, marksOf, tallyOf};
+ghost use Rattle.class.specs.Counting.{Counting, up, FewVerdicts, markBy};
 use crate::Mark;
 use crate::Tally;
 use block::part_at;
 use engine::Engine;
-use kernel::counts::Counted;
-use kernel::counts::count;
+use kernel::facts::Facts;
+use kernel::facts::Surveyed;
+use kernel::facts::survey;
 use kernel::verdict::Verdict;
-use kernel::verdict::verdict_of;
 
 type Lines = [usize; Tally::LINES];
 
@@ -34,22 +34,30 @@ fn line_of(v: Verdict) -> usize
     }
 }
 
-fn pairs_in(c: Counted) -> usize
-    ensures { λ r. ⌜ r ≡ pairsIn c ⌝ }
+// An accepted scene.
+fn mark_by(f: Facts) -> Mark
+    ensures { λ r. ⌜ r ≡ markBy f ⌝ }
 {
-    match c {
-        Counted::Refused(_) => 0,
-        Counted::Counts(n) => n.pairs,
+    let v = f.verdict;
+    let c = f.counts;
+    Mark {
+        line: line_of(v),
+        pairs: c.pairs,
     }
 }
 
-// One scene.
+// One scene. Its pairs are counted and not listed.
 fn mark_of(s: &[u8]) -> Mark
     ensures { λ r. ⌜ r ≡ markOf (now (s .entry)) ⌝ }
 {
-    Mark {
-        line: line_of(verdict_of(Engine::Plain, s)),
-        pairs: pairs_in(count(Engine::Plain, s)),
+    let mut none = [0u16; 1];
+    let a = survey(Engine::Plain, s, &mut none);
+    match a {
+        Surveyed::Refused(r) => Mark {
+            line: refused_line(scene::number(r)),
+            pairs: 0,
+        },
+        Surveyed::Facts(f) => mark_by(f),
     }
 }
 

@@ -1,15 +1,11 @@
--- What was found of the two solids, in the arrays that a scene was decoded into, is the scene's own answer. Assumes nothing.
-use mathlib.Core.Path.{_≡_, refl, sym, ap, ap₂, _∙_}
-use mathlib.Core.List.{List, [], _∷_, _++_}
-use Prim.Native.Nat.{ℕ, _+_, _≤_, _<_}
-use native.Mathlib.Omega.{arith}
+-- What was found is the scene's own answer. Assumes nothing.
+use mathlib.Core.Path.{_≡_, sym, ap, _∙_}
+use Prim.Native.Nat.{ℕ, _≤_, _<_}
 use borrow.Author.Tests.{le-leb, lt-leb}
-use lib.ListN.{length, length-append}
+use lib.ListN.{length}
 use Rattle.scene.specs.View.{View, verts, solid}
-use Rattle.listing.specs.Hits.{Hit, solidHits, insideCount, lowestInside, Sound}
-use Rattle.listing.specs.Laws.{solid-most}
+use Rattle.listing.specs.Hits.{lowestInside}
 use Rattle.listing.specs.First.{firstOf}
-use Rattle.listing.specs.Pour.{most}
 use Rattle.listing.specs.declared.find.Found.{Found}
 use Rattle.listing.specs.declared.find.Found.the-variants.{Pair, Nothing}
 use Rattle.kernel.specs.Answers.{seen, listingIn, insideIn, countsIn, crossOr, enclosureIn, verdictIn}
@@ -17,53 +13,21 @@ use Rattle.kernel.specs.declared.counts.Counts.{Counts}
 use Rattle.kernel.specs.declared.verdict.Verdict.{Verdict}
 use Rattle.kernel.specs.declared.verdict.Verdict.the-variants.{Cross, AInB, BInA, Apart}
 
--- the first of two listings, one after the other
-first-of-left : (l m : List Hit) {u v f : ℕ} → firstOf l ≡ Pair u v f → firstOf (l ++ m) ≡ Pair u v f
-unfolding firstOf
-first-of-left [] m e = cc
-first-of-left (h ∷ l) m e = e
-
-first-of-right : (l m : List Hit) → firstOf l ≡ Nothing → firstOf (l ++ m) ≡ firstOf m
-unfolding firstOf
-first-of-right [] m e = refl
-first-of-right (h ∷ l) m e = cc
-
 module _ (v : View) where
-  abbrev hitsA : List Hit
-  hitsA = solidHits (seen v) (solid v 1)
+  pub counts-are : {n x y : ℕ} → n ≡ length (listingIn v) → x ≡ insideIn v 1 → y ≡ insideIn v 2 →
+      _≡_ {A = Counts} (record { pairs = n; «a_in_b» = x; «b_in_a» = y }) (countsIn v)
+  unfolding countsIn
+  counts-are e p q = λ i. record { pairs = e i; «a_in_b» = p i; «b_in_a» = q i }
 
-  abbrev hitsB : List Hit
-  hitsB = solidHits (seen v) (solid v 2)
+  -- x is the first pair
+  module _ {x : Found} (first : x ≡ firstOf (listingIn v)) where
+    pub cross-is : {u w f : ℕ} → x ≡ Pair u w f → Cross u w f ≡ verdictIn v
+    unfolding verdictIn
+    cross-is e = ap (λ (o : Found). crossOr o (enclosureIn v)) (sym e ∙ first)
 
-  -- so many pairs can be counted
-  pub room-for-both : {a b : ℕ} → a ≡ length hitsA → b ≡ length hitsB → Sound (seen v) (solid v 1) → Sound (seen v) (solid v 2) → a + b < most
-  room-for-both e d p q = omega (arith, e, d, solid-most (seen v) (solid v 1) p, solid-most (seen v) (solid v 2) q)
-
-  pub counts-are : {a b x y : ℕ} → a ≡ length hitsA → b ≡ length hitsB → x ≡ insideCount (seen v) (solid v 1) → y ≡ insideCount (seen v) (solid v 2) →
-      _≡_ {A = Counts} (record { pairs = a + b; «a_in_b» = x; «b_in_a» = y }) (countsIn v)
-  unfolding countsIn listingIn insideIn
-  counts-are {a} {b} e d p q =
-      let n : a + b ≡ length (hitsA ++ hitsB) = ap₂ _+_ e d ∙ sym (length-append hitsA hitsB) in
-      λ i. record { pairs = n i; «a_in_b» = p i; «b_in_a» = q i }
-
-  -- x is the first pair of A's edges, y of B's
-  module _ {x : Found} (first-a : x ≡ firstOf hitsA) where
-    pub cross-a : {u w f : ℕ} → x ≡ Pair u w f → Cross u w f ≡ verdictIn v
-    unfolding verdictIn listingIn
-    cross-a e = sym (ap (λ (o : Found). crossOr o (enclosureIn v)) (first-of-left hitsA hitsB (sym first-a ∙ e)))
-
-    module _ {y : Found} (none-a : x ≡ Nothing) (first-b : y ≡ firstOf hitsB) where
-      in-b : firstOf (listingIn v) ≡ y
-      unfolding listingIn
-      in-b = first-of-right hitsA hitsB (sym first-a ∙ none-a) ∙ sym first-b
-
-      pub cross-b : {u w f : ℕ} → y ≡ Pair u w f → Cross u w f ≡ verdictIn v
-      unfolding verdictIn
-      cross-b e = sym (ap (λ (o : Found). crossOr o (enclosureIn v)) (in-b ∙ e))
-
-      pub none-cross : {r : Verdict} → y ≡ Nothing → r ≡ enclosureIn v → r ≡ verdictIn v
-      unfolding verdictIn
-      none-cross e p = p ∙ sym (ap (λ (o : Found). crossOr o (enclosureIn v)) (in-b ∙ e))
+    pub none-cross : {r : Verdict} → x ≡ Nothing → r ≡ enclosureIn v → r ≡ verdictIn v
+    unfolding verdictIn
+    none-cross e p = p ∙ ap (λ (o : Found). crossOr o (enclosureIn v)) (sym e ∙ first)
 
   -- p is the lowest vertex of A enclosed, q of B
   module _ {p n : ℕ} (lowest-a : p ≡ lowestInside (seen v) (solid v 1)) (is-n : n ≡ v .vertsA) where

@@ -5,3 +5,5 @@ pub mod Ready
 pub mod Surveys
 pub mod Both
 pub mod Listings
+pub mod Facts
+pub mod Readings

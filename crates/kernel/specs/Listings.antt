@@ -5,7 +5,7 @@ use mathlib.Core.List.{List}
 use Prim.Native.Nat.{ℕ, _*_, _/_, _≤_, _<_}
 use native.Mathlib.Omega.{arith}
 use lib.ListN.{length}
-use borrow.Author.Tests.{le-leb, lt-leb, le-ltb, lt-ltb}
+use borrow.Author.Tests.{le-leb, lt-leb, ltb-true, ltb-false}
 use lib.Dec.{ltb}
 use Rattle.scene.specs.declared.Refusal.{Refusal}
 use Rattle.scene.specs.declared.Refusal.the-variants.{Room}
@@ -15,7 +15,7 @@ use Rattle.judge.specs.declared.Judged.the-variants.{Accepted, Refused}
 use Rattle.listing.specs.Hits.{Hit}
 use Rattle.listing.specs.Pour.{Pours, poured, partIn, allIn}
 use Rattle.listing.specs.Poured.{poured-part, poured-all}
-use Rattle.scene.specs.View.{viewOf}
+use Rattle.scene.specs.View.{View, viewOf}
 use Rattle.kernel.specs.Answers.{answered, listingIn, listFault, listedIn, heldIn, IsListed, IsPart}
 use Rattle.kernel.specs.declared.lists.Listed.{Listed}
 use Rattle.kernel.specs.declared.lists.Listed.the-variants as listed
@@ -44,6 +44,31 @@ module _ (l : List Hit) (from : ℕ) (all : Bool) (d : List ℕ) {n : ℕ} (coun
         long = p .long;
         held = p .held ∙ sym (ap (λ (b : Bool). cond b d (poured d from 0 l)) (test-is e));
       }
+
+-- the list is too short, or long enough
+module _ (v : View) (d : List ℕ) where
+  short : length d / 3 < length (listingIn v) → listFault v d ≡ Refused (Room (length (listingIn v)))
+  unfolding listFault rule
+  short h = rw (lt-leb (3 * length (listingIn v)) (length d) (omega arith)) refl
+
+  fits : length (listingIn v) ≤ length d / 3 → listFault v d ≡ Accepted
+  unfolding listFault rule
+  fits h = rw (le-leb (3 * length (listingIn v)) (length d) (omega arith)) refl
+
+  -- what is left where all are asked for
+  pub poured-held : {d₁ : List ℕ} {n : ℕ} → PouredIf (listingIn v) 0 true d d₁ n → d₁ ≡ heldIn v d
+  unfolding heldIn lacksRoom answered
+  poured-held {d₁} p = by (ltb (length d / 3) (length l)) refl
+    where
+      l : List Hit
+      l = listingIn v
+
+      by : (b : Bool) → ltb (length d / 3) (length l) ≡ b → d₁ ≡ heldIn v d
+      by true t = p .held ∙ ap (λ (b : Bool). cond b d (poured d 0 0 l)) t ∙ sym (ap (λ (j : Judged). answered (λ _. d) j (allIn l d)) (short (ltb-true _ _ t)))
+      by false t =
+          let h : length l ≤ length d / 3 = ltb-false _ _ t in
+          p .held ∙ ap (λ (b : Bool). cond b d (poured d 0 0 l)) t ∙ poured-all l d (omega arith)
+          ∙ sym (ap (λ (j : Judged). answered (λ _. d) j (allIn l d)) (fits h))
 
 -- the question of bytes, by the judge's answer o
 module _ (s d : List ℕ) {o : Judged} (e : o ≡ judged s) where
@@ -75,36 +100,20 @@ module _ (s d : List ℕ) {o : Judged} (e : o ≡ judged s) where
       }
 
   module _ (q : o ≡ Accepted) {d₁ : List ℕ} {n : ℕ} (p : PouredIf l 0 true d d₁ n) where
-    told : {j : Judged} {r : Listed} → j ≡ listFault (viewOf s) d → r ≡ answered listed.Refused j (listed.Count (length l)) →
-        d₁ ≡ answered (λ _. d) j (allIn l d) → IsListed s d d₁ r
-    unfolding answered listedIn heldIn
-    told f a h =
+    told : {j : Judged} {r : Listed} → j ≡ listFault (viewOf s) d → r ≡ answered listed.Refused j (listed.Count (length l)) → IsListed s d d₁ r
+    unfolding answered listedIn
+    told f a =
         record {
           answer =
               a ∙ ap (λ (j : Judged). answered listed.Refused j (listed.Count (length l))) f
               ∙ ap (λ (j : Judged). answered listed.Refused j (listedIn (viewOf s) d)) (sym q ∙ e);
-          held =
-              h ∙ ap (λ (j : Judged). answered (λ _. d) j (allIn l d)) f
-              ∙ ap (λ (j : Judged). answered (λ _. d) j (heldIn (viewOf s) d)) (sym q ∙ e);
+          held = poured-held (viewOf s) d p ∙ ap (λ (j : Judged). answered (λ _. d) j (heldIn (viewOf s) d)) (sym q ∙ e);
         }
 
-    short : length d / 3 < n → Refused (Room n) ≡ listFault (viewOf s) d
-    unfolding listFault rule
-    short h = rw (lt-leb (3 * length l) (length d) (omega (arith, p .count))) (ap (λ (k : ℕ). Refused (Room k)) (p .count))
-
-    fits : n ≤ length d / 3 → Accepted ≡ listFault (viewOf s) d
-    unfolding listFault rule
-    fits h = rw (le-leb (3 * length l) (length d) (omega (arith, p .count))) refl
-
     pub list-short : length d₁ / 3 < n → IsListed s d d₁ (listed.Refused (Room n))
-    unfolding answered lacksRoom
-    list-short h =
-        let e : ltb (length d / 3) (length l) ≡ true = lt-ltb (length d / 3) (length l) (omega (arith, p .long, p .count)) in
-        told (short (omega (arith, p .long))) refl (p .held ∙ ap (λ (b : Bool). cond b d (poured d 0 0 l)) e)
+    unfolding answered
+    list-short h = told (ap (λ (k : ℕ). Refused (Room k)) (p .count) ∙ sym (short (viewOf s) d (omega (arith, p .long, p .count)))) refl
 
     pub list-told : n ≤ length d₁ / 3 → IsListed s d d₁ (listed.Count n)
-    unfolding answered lacksRoom
-    list-told h =
-        let e : ltb (length d / 3) (length l) ≡ false = le-ltb (length d / 3) (length l) (omega (arith, p .long, p .count)) in
-        told (fits (omega (arith, p .long))) (ap listed.Count (p .count))
-        (p .held ∙ ap (λ (b : Bool). cond b d (poured d 0 0 l)) e ∙ poured-all l d (omega (arith, p .long, p .count)))
+    unfolding answered
+    list-told h = told (sym (fits (viewOf s) d (omega (arith, p .long, p .count)))) (ap listed.Count (p .count))

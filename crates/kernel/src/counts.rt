@@ -1,23 +1,15 @@
 // How many pairs are pierced, and how many vertices are enclosed.
 ghost use mathlib.Core.Path.{_≡_};
-ghost use lib.ListN.{length};
 ghost use Rattle.scene.specs.View.{viewOf};
 ghost use Rattle.judge.specs.Judge.{judged};
 ghost use Rattle.judge.specs.declared.Judged.the-variants.{Accepted};
-ghost use Rattle.listing.specs.Hits.{seenIn, solidHits, insideCount};
-ghost use Rattle.spread.specs.Ready.{Ready};
 ghost use Rattle.kernel.specs.Answers.{countsIn, countedOf};
+use crate::surveys::survey_of;
 use engine::Engine;
 use judge::Judged;
-use scene::Corners;
 use scene::Refusal;
-use scene::Rows;
-use scene::Solid;
-use scene::decode;
-use scene::offsets::points;
-use scene::read::solid;
 use survey::answers::count_inside;
-use survey::survey_solid;
+use survey::answers::count_pairs;
 use table::ENDS;
 use table::Ends;
 use table::Masks;
@@ -33,40 +25,20 @@ pub enum Counted {
     Counts(Counts),
 }
 
-// Of one solid: the pairs of its edges, and its vertices that the other one encloses.
-pub struct Share {
-    pub pairs: usize,
-    pub inside: usize,
-}
-
-pub fn share_of(engine: Engine, rows: &Rows, corners: &Corners, n: usize, k: Solid) -> Share
-    requires { ⌜ Ready (seenIn n (now rows) (now corners)) k ⌝ }
-    ensures pairs { λ r. ⌜ r .pairs ≡ length (solidHits (seenIn n (now (rows .entry)) (now (corners .entry))) k) ⌝ }
-    ensures inside { λ r. ⌜ r .inside ≡ insideCount (seenIn n (now (rows .entry)) (now (corners .entry))) k ⌝ }
-{
-    let mut ends: Ends = [0; ENDS];
-    let mut masks: Masks = [0; ENDS];
-    let t = survey_solid(engine, rows, corners, n, k, &mut ends, &mut masks);
-    Share {
-        pairs: table::count(&masks, t.edges),
-        inside: count_inside(t.inside),
-    }
-}
-
 // Of an accepted scene.
 fn counts_of(engine: Engine, s: &[u8]) -> Counts
     requires { ⌜ judged (now s) ≡ Accepted ⌝ }
     ensures { λ r. ⌜ r ≡ countsIn (viewOf (now (s .entry))) ⌝ }
 {
-    let rows = decode::rows(s);
-    let corners = decode::faces(s);
-    let n = points(s);
-    let a = share_of(engine, &rows, &corners, n, solid(s, 1));
-    let b = share_of(engine, &rows, &corners, n, solid(s, 2));
+    let mut aends: Ends = [0; ENDS];
+    let mut amasks: Masks = [0; ENDS];
+    let mut bends: Ends = [0; ENDS];
+    let mut bmasks: Masks = [0; ENDS];
+    let t = survey_of(engine, s, &mut aends, &mut amasks, &mut bends, &mut bmasks);
     Counts {
-        pairs: a.pairs + b.pairs,
-        a_in_b: a.inside,
-        b_in_a: b.inside,
+        pairs: count_pairs(t, &amasks, &bmasks),
+        a_in_b: count_inside(t.a.inside),
+        b_in_a: count_inside(t.b.inside),
     }
 }
 

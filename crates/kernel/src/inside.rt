@@ -4,7 +4,6 @@ ghost use Rattle.scene.specs.View.{viewOf};
 ghost use Rattle.judge.specs.Judge.{judged};
 ghost use Rattle.judge.specs.declared.Judged.the-variants.{Accepted};
 ghost use Rattle.kernel.specs.Answers.{insideFault, insideIn, insideOf};
-use crate::counts::share_of;
 use engine::Engine;
 use judge::Judged;
 use scene::Refusal;
@@ -12,6 +11,11 @@ use scene::decode;
 use scene::is_within;
 use scene::offsets::points;
 use scene::read::solid;
+use survey::answers::count_inside;
+use survey::survey_solid;
+use table::ENDS;
+use table::Ends;
+use table::Masks;
 
 pub enum Enclosing {
     Refused(Refusal),
@@ -34,8 +38,12 @@ fn inside_of(engine: Engine, s: &[u8], k: usize) -> usize
 {
     let rows = decode::rows(s);
     let corners = decode::faces(s);
-    let t = share_of(engine, &rows, &corners, points(s), solid(s, k));
-    t.inside
+    let n = points(s);
+    let o = solid(s, k);
+    let mut ends: Ends = [0; ENDS];
+    let mut masks: Masks = [0; ENDS];
+    let t = survey_solid(engine, &rows, &corners, n, o, &mut ends, &mut masks);
+    count_inside(t.inside)
 }
 
 // Of solid k, 1 for A and 2 for B.

@@ -2,8 +2,10 @@
 // the question's own (10 to 12), and 11 before 12.
 
 pub mod counts;
+pub mod facts;
 pub mod inside;
 pub mod lists;
 pub mod masks;
 pub mod points;
+mod surveys;
 pub mod verdict;

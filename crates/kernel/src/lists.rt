@@ -4,17 +4,13 @@ ghost use Rattle.judge.specs.Judge.{judged};
 ghost use Rattle.judge.specs.declared.Judged.the-variants.{Accepted};
 ghost use Rattle.scene.specs.View.{viewOf};
 ghost use Rattle.kernel.specs.Answers.{listingIn, IsListed, IsPart};
-ghost use Rattle.kernel.specs.Listings.{lacksRoom, PouredIf};
+ghost use Rattle.kernel.specs.Listings.{PouredIf};
+use crate::surveys::pour_read;
+use crate::surveys::survey_of;
 use engine::Engine;
 use judge::Judged;
 use scene::Refusal;
 use scene::Scene;
-use scene::decode;
-use scene::offsets::points;
-use scene::read::solid;
-use survey::answers::count_pairs;
-use survey::answers::pour_pairs;
-use survey::survey_scene;
 use table::ENDS;
 use table::Ends;
 use table::Masks;
@@ -29,58 +25,17 @@ pub enum Listed {
     Count(usize),
 }
 
-// All of n pairs are asked for, and there are not three places for each.
-fn lacks_room(all: bool, n: usize, places: usize) -> bool
-    ensures { λ r. ⌜ r ≡ lacksRoom all n places ⌝ }
-{
-    if all {
-        return n > places / 3;
-    }
-    false
-}
-
-// The pairs of an accepted scene from the one numbered `from` on, as far as there is room, and how many there are in all. Where all of them are asked
-// for, and there is no room for all, none is written: they are counted before any is.
+// Of an accepted scene.
 fn pour(engine: Engine, s: &[u8], from: usize, all: bool, out: &mut [u16]) -> usize
     requires { ⌜ judged (now s) ≡ Accepted ⌝ }
     ensures { λ r. ⌜ PouredIf (listingIn (viewOf (now (s .entry)))) from all (now (out .entry)) (now (out .exit)) r ⌝ }
 {
-    let rows = decode::rows(s);
-    let corners = decode::faces(s);
-    let n = points(s);
-    let a = solid(s, 1);
-    let b = solid(s, 2);
     let mut aends: Ends = [0; ENDS];
     let mut amasks: Masks = [0; ENDS];
     let mut bends: Ends = [0; ENDS];
     let mut bmasks: Masks = [0; ENDS];
-    let t = survey_scene(
-        engine,
-        &rows,
-        &corners,
-        n,
-        a,
-        b,
-        &mut aends,
-        &mut amasks,
-        &mut bends,
-        &mut bmasks,
-    );
-    let c = count_pairs(t, &amasks, &bmasks);
-    if lacks_room(all, c, out.len()) {
-        return c;
-    }
-    pour_pairs(
-        t,
-        a.other,
-        b.other,
-        &aends,
-        &amasks,
-        &bends,
-        &bmasks,
-        from,
-        out,
-    )
+    let t = survey_of(engine, s, &mut aends, &mut amasks, &mut bends, &mut bmasks);
+    pour_read(t, s, &aends, &amasks, &bends, &bmasks, from, all, out)
 }
 
 // The whole listing, or refusal 10 with the count.

@@ -1,25 +1,46 @@
--- The kernel is asked for the verdict and for the pairs.
-use Rattle.class.specs.Counting.{mark-is}
+-- By the survey: a refusal, or what was found.
+use Rattle.class.specs.Counting.{mark-refused, mark-told}
 use borrow.Author.Needs.{needs}
 use Rattle.class.proofs.marks.mark_of.Statement.{statement}
 use Rattle.class.proofs.marks.mark_of.Tie as tie
 
-verdict-of-requires : tie.Need-verdict-of-requires
-verdict-of-requires c κs = search needs
+slice-aggregate-survey : tie.Need-slice-aggregate-survey
+slice-aggregate-survey c = search needs
 
-line-of-requires : tie.Need-line-of-requires
-line-of-requires c κs = search needs
+survey-requires : tie.Need-survey-requires
+survey-requires c κs = search needs
 
-count-requires : tie.Need-count-requires
-count-requires c κs = search needs
+enum-known-a : tie.Need-enum-known-a
+enum-known-a c = search needs
 
-pairs-in-requires : tie.Need-pairs-in-requires
-pairs-in-requires c κs = search needs
+number-requires : tie.Need-number-requires
+number-requires c κs = search needs
+
+refused-line-requires : tie.Need-refused-line-requires
+refused-line-requires c κs = search needs
+
+enum-known-a-2 : tie.Need-enum-known-a-2
+enum-known-a-2 c = search needs
+
+mark-by-requires : tie.Need-mark-by-requires
+mark-by-requires c κs = search needs
 
 returns : tie.Need-returns
-returns c = search mark-is
+returns c = search mark-refused
+
+returns-2 : tie.Need-returns-2
+returns-2 c = search mark-told
 
 pub mark-of-spec : {M : Type 1} → statement M
 mark-of-spec =
     tie.close
-    (tie.spec verdict-of-requires line-of-requires count-requires pairs-in-requires returns)
+    (tie.spec
+    slice-aggregate-survey
+    survey-requires
+    enum-known-a
+    number-requires
+    refused-line-requires
+    enum-known-a-2
+    mark-by-requires
+    returns
+    returns-2)

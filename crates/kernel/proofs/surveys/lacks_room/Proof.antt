@@ -4,8 +4,8 @@ use mathlib.Core.Path.{sym, ap}
 use Prim.Native.Nat.{_/_}
 use lib.Dec.{ltb}
 use Rattle.kernel.specs.Listings.{lacksRoom}
-use Rattle.kernel.proofs.lists.lacks_room.Statement.{statement}
-use Rattle.kernel.proofs.lists.lacks_room.Tie as tie
+use Rattle.kernel.proofs.surveys.lacks_room.Statement.{statement}
+use Rattle.kernel.proofs.surveys.lacks_room.Tie as tie
 
 returns : tie.Need-returns
 unfolding lacksRoom
