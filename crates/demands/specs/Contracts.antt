@@ -1,7 +1,8 @@
 -- The demands speak of the code. For each public function of the judge, of a record shown and of the questions: what its contract states, of the very relation
 -- between arguments, answer and lent places that the function is proved to meet, is the definition that `Answers`, `Exact`, `Parity` and `Once`
 -- are about. A contract that says less does not give it. The arguments are in the function's own order; κs are its lifetimes. Assumes nothing.
-use mathlib.Core.Path.{_≡_}
+use mathlib.Core.Path.{_≡_, ap}
+use lib.ListN.{length}
 use denote.Ref.{now}
 use Rattle.scene.specs.View.{viewOf}
 use Rattle.judge.specs.Judge.{judged}
@@ -9,7 +10,8 @@ use Rattle.judge.proofs.judge.Reads as judge
 use Rattle.record.specs.Shown.{refusal, shown}
 use Rattle.record.proofs.record.Reads as record-shown
 use Rattle.record.proofs.record_refusal.Reads as record-refusal
-use Rattle.kernel.specs.Answers.{isPoint, signOf, piercesOf, saidMask, maskedOf, enclosedOf, countedOf, insideOf, verdictOf, IsListed, IsPart}
+use Rattle.kernel.specs.Answers.{answered, isPoint, signOf, piercesOf, saidMask, maskedOf, enclosedOf, countedOf, insideOf, verdictOf, listingIn, listedIn, IsListed, IsPart}
+use Rattle.kernel.specs.declared.lists.Listed.the-variants.{Refused, Count}
 use Rattle.kernel.proofs.points.is_point.Reads as is-point
 use Rattle.kernel.proofs.points.sign.Reads as sign
 use Rattle.kernel.proofs.points.pierces.Reads as pierces
@@ -20,6 +22,7 @@ use Rattle.kernel.proofs.inside.inside.Reads as inside
 use Rattle.kernel.proofs.verdict.verdict_of.Reads as verdict
 use Rattle.kernel.proofs.lists.listing.Reads as listing
 use Rattle.kernel.proofs.lists.listing_part.Reads as listing-part
+use Rattle.demands.specs.Said.{judgedSays, signSays, answerSays, facesSay, maskSays, countsSay, insideSays, listedSays, verdictSays}
 
 pub judge-is : (κs a r e : _) → judge.Post κs a r e → r ≡ judged (now (a .0))
 judge-is κs a r e x = x
@@ -63,3 +66,43 @@ listing-is κs a r e x = x
 
 pub listing-part-is : (κs a r e : _) → listing-part.Post κs a r e → IsPart (now (a .1 .0)) (a .1 .1 .0) (now (a .1 .1 .1 .0)) (now (e .1 .1 .1 .0)) r
 listing-part-is κs a r e x = x
+
+-- ---- the same by the number and the values of what each answer enum says
+
+pub judge-says : (κs a r e : _) → judge.Post κs a r e → judgedSays r ≡ judgedSays (judged (now (a .0)))
+judge-says κs a r e x = ap judgedSays x
+
+pub record-refusal-says : (κs a r e : _) → record-refusal.Post κs a r e → judgedSays r ≡ judgedSays (refusal (now (a .0)) (a .1 .0))
+record-refusal-says κs a r e x = ap judgedSays x
+
+pub sign-says : (κs a r e : _) → sign.Post κs a r e →
+    signSays r ≡ signSays (signOf (now (a .0)) (a .1 .0) (a .1 .1 .0) (a .1 .1 .1 .0) (a .1 .1 .1 .1 .0))
+sign-says κs a r e x = ap signSays x
+
+pub pierces-says : (κs a r e : _) → pierces.Post κs a r e →
+    answerSays r ≡ answerSays (piercesOf (now (a .1 .0)) (a .1 .1 .0) (a .1 .1 .1 .0) (a .1 .1 .1 .1 .0))
+pierces-says κs a r e x = ap answerSays x
+
+pub mask-says : (κs a r e : _) → mask.Post κs a r e →
+    maskSays r ≡ facesSay (maskedOf (now (a .1 .0)) (a .1 .1 .0) (a .1 .1 .1 .0) (a .1 .1 .1 .1 .0))
+mask-says κs a r e x = ap facesSay x
+
+pub enclosed-says : (κs a r e : _) → enclosed.Post κs a r e → answerSays r ≡ answerSays (enclosedOf (now (a .1 .0)) (a .1 .1 .0))
+enclosed-says κs a r e x = ap answerSays x
+
+pub count-says : (κs a r e : _) → count.Post κs a r e → countsSay r ≡ countsSay (countedOf (now (a .1 .0)))
+count-says κs a r e x = ap countsSay x
+
+pub inside-says : (κs a r e : _) → inside.Post κs a r e → insideSays r ≡ insideSays (insideOf (now (a .1 .0)) (a .1 .1 .0))
+inside-says κs a r e x = ap insideSays x
+
+pub verdict-says : (κs a r e : _) → verdict.Post κs a r e → verdictSays r ≡ verdictSays (verdictOf (now (a .1 .0)))
+verdict-says κs a r e x = ap verdictSays x
+
+pub listing-says : (κs a r e : _) → listing.Post κs a r e →
+    listedSays r ≡ listedSays (answered Refused (judged (now (a .1 .0))) (listedIn (viewOf (now (a .1 .0))) (now (a .1 .1 .0))))
+listing-says κs a r e x = ap listedSays (x .answer)
+
+pub listing-part-says : (κs a r e : _) → listing-part.Post κs a r e →
+    listedSays r ≡ listedSays (answered Refused (judged (now (a .1 .0))) (Count (length (listingIn (viewOf (now (a .1 .0)))))))
+listing-part-says κs a r e x = ap listedSays (x .answer)

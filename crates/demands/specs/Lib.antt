@@ -8,6 +8,7 @@ pub mod Sign
 pub mod Symmetry
 pub mod Shown
 pub mod Once
+pub mod Said
 pub mod Contracts
 pub mod Scenes
 pub mod Computing
@@ -30,6 +31,7 @@ pub mod SignProof
 pub mod SymmetryProof
 pub mod ShownProof
 pub mod OnceProof
+pub mod SaidProof
 pub mod MarkedProof
 pub mod WitnessesProof
 pub mod Same

@@ -6,23 +6,25 @@ use Prim.Native.Nat.{ℕ, _+_}
 use native.Mathlib.Omega.{arith}
 use borrow.Author.Tests.{ne-eqb}
 use Rattle.laws.specs.Decides.{fails-iff}
-use Rattle.laws.specs.Lists.{run}
-use Rattle.scene.specs.Limits.{limits}
+use Rattle.laws.specs.Lists.{run, number-once}
+use Rattle.scene.specs.Limits.{Limits, limits}
 use Rattle.scene.specs.Records.{vertsA, verts}
+use Rattle.scene.specs.Read.{points-are}
 use Rattle.scene.specs.View.{View, viewOf, points, solid, either-solid}
 use Rattle.scene.specs.declared.Solid as numbers
-use Rattle.judge.specs.Judge.{judged, rule}
+use Rattle.judge.specs.Judge.{judgedAt, rule}
 use Rattle.judge.specs.declared.Judged.the-variants.{Accepted}
-use Rattle.rules.specs.Given.{each-of-a, each-of-b, edges-of-a, edges-of-b}
+use Rattle.rules.specs.Given.{weighted, each-of-a, each-of-b, edges-of-a, edges-of-b}
 use Rattle.judge.specs.Tests.{within-iff}
 use Rattle.orient.specs.Signs.{Upto}
+use Rattle.orient.specs.Weighted.{Weighted}
 use Rattle.pierce.specs.Parity.{Solid, Triangle, solid-by-edges}
 use Rattle.pierce.specs.Scene.{scene-parity, scene-route}
-use Rattle.kernel.specs.Ready.{scene-weighted}
 use Rattle.kernel.specs.Answers.{answered, isPoint, isVertexOf, edgeAndSolid, outside, maskFault, maskIn, maskedIn, maskedOf, isSolid}
-use Rattle.demands.specs.Parity.{Outside, Parity, Route, Asked}
+use Rattle.demands.specs.Parity.{Outside, Parity, CountParity, Route, ParityAt, Asked}
 use Rattle.demands.specs.Words.{SolidNumber, VertexOf}
 use Rattle.demands.specs.Solids.{vertex-of}
+use Rattle.demands.specs.ExactMask.{mask-is}
 
 module _ (s : List ℕ) where
   abbrev v : View
@@ -32,12 +34,16 @@ module _ (s : List ℕ) where
   abbrev IsClosed : numbers.Solid → Type 0
   IsClosed o = Solid (points v) (o .low) (o .low + o .verts) (run (v .face) (o .first + 1) (o .count))
 
-  closed : judged s ≡ Accepted → (k : ℕ) → IsClosed (solid v k)
-  closed ok =
-      let e : 0 + vertsA s ≡ vertsA s = omega arith in
-      either-solid v IsClosed
-      (rw e (solid-by-edges _ (omega arith) (each-of-a limits s ok) (edges-of-a limits s ok)))
-      (solid-by-edges _ (omega arith) (each-of-b limits s ok) (edges-of-b limits s ok))
+  module _ (l : Limits) (ok : judgedAt l s ≡ Accepted) where
+    closed : (k : ℕ) → IsClosed (solid v k)
+    closed =
+        let e : 0 + vertsA s ≡ vertsA s = omega arith in
+        either-solid v IsClosed
+        (rw e (solid-by-edges _ (omega arith) (each-of-a l s ok) (edges-of-a l s ok)))
+        (solid-by-edges _ (omega arith) (each-of-b l s ok) (edges-of-b l s ok))
+
+    all-weighted : Weighted (points v) (v .row)
+    all-weighted i a b = weighted l s ok i a (omega (arith, points-are s))
 
   module _ {k a b c : ℕ} (n : SolidNumber k) (h : Outside s k a b c) where
     triangle : Triangle (points v) (solid v k .low) (solid v k .low + solid v k .verts) a b c
@@ -54,15 +60,36 @@ module _ (s : List ℕ) where
           w-out = λ x. h .w-out (vertex-of s k n c .0 x);
         }
 
-pub parity : Parity
-unfolding maskIn
-parity s ok k n a b c h =
-    scene-parity _ _ (scene-weighted s ok) (viewOf s .face) (solid (viewOf s) k .first) (solid (viewOf s) k .count) (closed s ok k) a b c (triangle s n h)
+module _ (l : Limits) where
+  parity : Parity l
+  unfolding maskIn
+  parity s ok k n a b c h =
+      let o = solid (viewOf s) k in
+      scene-parity _ _ (all-weighted s l ok) (viewOf s .face) (o .first) (o .count) (closed s l ok k) a b c (triangle s n h)
 
-pub route : Route
-unfolding maskIn
-route s ok k n a b c h =
-    scene-route _ _ (scene-weighted s ok) (viewOf s .face) (solid (viewOf s) k .first) (solid (viewOf s) k .count) (closed s ok k) a b c (triangle s n h)
+  count-parity : CountParity l
+  unfolding maskIn
+  count-parity s ok k n a b c h x y z p q r =
+      let o = solid (viewOf s) k in
+      omega (
+        arith,
+        parity s ok k n a b c h,
+        number-once p (mask-is s a b (o .first) (o .count) .count),
+        number-once q (mask-is s b c (o .first) (o .count) .count),
+        number-once r (mask-is s c a (o .first) (o .count) .count),
+      )
+
+  route : Route l
+  unfolding maskIn
+  route s ok k n a b c h =
+      let o = solid (viewOf s) k in
+      scene-route _ _ (all-weighted s l ok) (viewOf s .face) (o .first) (o .count) (closed s l ok k) a b c (triangle s n h)
+
+  pub parity-at : ParityAt l
+  parity-at = record { parity = parity; count-parity = count-parity; route = route }
+
+pub kernel-parity : ParityAt limits
+kernel-parity = parity-at limits
 
 -- ---- the questions are not refused
 

@@ -35,7 +35,7 @@ unfolding sumOf
 sum-le g h zero e = omega arith
 sum-le g h (suc n) e = omega (arith, sum-le g h n e, e n)
 
-sum-add : (g h : ℕ → ℕ) (n : ℕ) → sumOf (λ i. g i + h i) n ≡ sumOf g n + sumOf h n
+pub sum-add : (g h : ℕ → ℕ) (n : ℕ) → sumOf (λ i. g i + h i) n ≡ sumOf g n + sumOf h n
 unfolding sumOf
 sum-add g h zero = refl
 sum-add g h (suc n) = omega (arith, sum-add g h n)
@@ -86,7 +86,7 @@ pairs-or p q n d =
       sum-add (λ i. sumOf (λ j. digit (p i j)) (d i)) (λ i. sumOf (λ j. digit (q i j)) (d i)) n,
     )
 
-digit-le : (a b : Bool) → (a ≡ true → b ≡ true) → digit a ≤ digit b
+pub digit-le : (a b : Bool) → (a ≡ true → b ≡ true) → digit a ≤ digit b
 digit-le true b h = rw (h refl) (omega arith)
 digit-le false b h = omega arith
 

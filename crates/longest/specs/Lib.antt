@@ -1,0 +1,5 @@
+pub mod Longest
+pub mod Pairs
+pub mod TwoFaces
+pub mod Parted
+pub mod LongestProof

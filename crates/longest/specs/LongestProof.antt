@@ -1,0 +1,146 @@
+-- A face that an edge pierces parts its ends. It parts two sides of a triangle at most, and an edge lies in two faces of its solid at least:
+-- so no more edges of a solid pierce a face than the solid has faces. Assumes nothing.
+use mathlib.Core.Path.{_≡_, refl, sym, ap, _∙_}
+use mathlib.Core.Bool.{Bool, true, false, _&&_}
+use mathlib.Core.List.{List, [], _∷_}
+use Prim.Native.Nat.{ℕ, _+_, _*_, _≤_}
+use native.Mathlib.Omega.{arith}
+use native.Mathlib.Nat.{mul-le-mul}
+use borrow.Author.Tests.{ltb-true}
+use lib.Dec.{ltb}
+use lib.ListN.{length, length-append}
+use Rattle.laws.specs.Bools.{_⊕_}
+use Rattle.laws.specs.Decides.{and-iff}
+use Rattle.laws.specs.Even.{count}
+use Rattle.laws.specs.Lists.{Each, run, length-run, each-map}
+use Rattle.laws.specs.Mask.{digit, mask-ones}
+use Rattle.scene.specs.Limits.{limits}
+use Rattle.scene.specs.Records.{vertsA, verts}
+use Rattle.scene.specs.Faces.{FaceOf, EdgesOk}
+use Rattle.scene.specs.View.{viewOf, solid, solidA, solidB}
+use Rattle.scene.specs.declared.Face.{Face}
+use Rattle.scene.specs.declared.Solid.{Solid}
+use Rattle.rules.specs.Given.{counts, each-of-a, each-of-b, edges-of-a, edges-of-b}
+use Rattle.edges.specs.Edges.{joined}
+use Rattle.pierce.specs.Closed.{hasEdge, Closed, closed-by-edges}
+use Rattle.pierce.specs.Formula.{pierced}
+use Rattle.sides.specs.Sides.{above}
+use Rattle.sides.specs.Crossing.{pierced-differs}
+use Rattle.listing.specs.Hits.{Seen, Hit, only, faceHits, edgeHits, pairHits, pairsAt, vertexHits, solidHits}
+use Rattle.links.specs.Number.{sumOf, ones-sum}
+use Rattle.table.specs.Runs.{upTo-length}
+use Rattle.kernel.specs.Answers.{listingIn, seen}
+use Rattle.longest.specs.Longest.{LongestListing}
+use Rattle.longest.specs.Pairs.{pairSum, pairs-add, pairs-le, list-most}
+use Rattle.longest.specs.TwoFaces.{edgeOf, two-faces}
+use Rattle.longest.specs.Parted.{parted, triangle-most}
+
+module _ (s : Seen) (k : Solid) (closed : Closed (run (s .face) (k .first + 1) (k .count))) where
+  -- the solid's vertices, from 0; its faces and the other's
+  abbrev at : ℕ → ℕ
+  at i = k .low + 1 + i
+
+  abbrev own : List Face
+  own = run (s .face) (k .first + 1) (k .count)
+
+  abbrev others : List Face
+  others = run (s .face) (k .other + 1) (k .others)
+
+  abbrev hit : (u v : ℕ) → Face → Bool
+  hit = pierced (s .points) (s .row)
+
+  -- an edge, lower point first, that pierces f
+  abbrev isEdge : (i j : ℕ) → Bool
+  isEdge i j = ltb (at i) (at j) && joined (s .face) k (at i) (at j)
+
+  abbrev passes : (i j : ℕ) → Face → Bool
+  passes i j f = isEdge i j && hit (at i) (at j) f
+
+  -- ---- no more edges of the solid pierce f than it has faces
+
+  module _ (f : Face) where
+    -- a side of the face g that f parts
+    abbrev parts : (i j : ℕ) → Face → Bool
+    parts i j g = parted (λ t. above (s .row) t f) (k .low + 1) (k .verts) i j && hasEdge (edgeOf (at i) (at j)) g
+
+    twice : (i j : ℕ) → digit (passes i j f) + digit (passes i j f) ≤ count (parts i j) own
+    twice i j = go (passes i j f) refl
+      where
+        go : (b : Bool) → passes i j f ≡ b → digit b + digit b ≤ count (parts i j) own
+        go false e = omega arith
+        go true e =
+            let c = and-iff (isEdge i j) (hit (at i) (at j) f) .0 e in
+            let d = and-iff (ltb (at i) (at j)) (joined (s .face) k (at i) (at j)) .0 (c .0) in
+            let p : above (s .row) (at i) f ⊕ above (s .row) (at j) f ≡ true =
+            and-iff _ (hit (at i) (at j) f) .0 (pierced-differs (s .points) (s .row) (at i) (at j) f ∙ c .1) .0 in
+            omega (
+              arith,
+              ap (λ (b : Bool). count (λ g. b && hasEdge (edgeOf (at i) (at j)) g) own) p,
+              two-faces (s .face) k closed (at i) (at j) (ltb-true (at i) (at j) (d .0)) (d .1),
+            )
+
+    face-most : pairSum (λ i j. digit (passes i j f)) (k .verts) ≤ k .count
+    face-most =
+        omega (
+          arith,
+          pairs-add (λ i j. digit (passes i j f)) (λ i j. digit (passes i j f)) (k .verts),
+          pairs-le (λ i j. digit (passes i j f) + digit (passes i j f)) (λ i j. count (parts i j) own) (k .verts) twice,
+          list-most parts (k .verts) 2 (triangle-most (λ t. above (s .row) t f) (k .low + 1) (k .verts)) own,
+          length-run (s .face) (k .first + 1) (k .count),
+        )
+
+  -- ---- a pair of the listing for each face that an edge pierces
+
+  edge-length : (u v : ℕ) → length (edgeHits s k u v) ≡ count (hit u v) others
+  unfolding edgeHits faceHits
+  edge-length u v =
+      upTo-length (faceHits s k u v) (k .others)
+      ∙ ap (λ (g : ℕ → ℕ). sumOf g (k .others))
+      (λ t i. one (hit u v (s .face (k .other + 1 + i))) (record { low = u; high = v; face = k .other + 1 + i }) t)
+      ∙ sym (ones-sum (λ i. hit u v (s .face (k .other + 1 + i))) (k .others))
+      ∙ mask-ones (hit u v) (s .face) (k .other + 1) (k .others)
+    where
+      one : (b : Bool) (h : Hit) → length (only b (h ∷ [])) ≡ digit b
+      one true h = refl
+      one false h = refl
+
+  pair-length : (i j : ℕ) → length (pairsAt s k (at i) j) ≤ count (passes i j) others
+  unfolding pairHits
+  pair-length i j = go (isEdge i j)
+    where
+      go : (b : Bool) → length (only b (edgeHits s k (at i) (at j))) ≤ count (λ f. b && hit (at i) (at j) f) others
+      go true = omega (arith, edge-length (at i) (at j))
+      go false = omega arith
+
+  solid-most : length (solidHits s k) ≤ k .others * k .count
+  unfolding solidHits vertexHits
+  solid-most =
+      omega (
+        arith,
+        upTo-length (λ i. vertexHits s k (at i)) (k .verts),
+        ap (λ (g : ℕ → ℕ). sumOf g (k .verts)) (λ t i. upTo-length (pairsAt s k (at i)) (k .verts) t),
+        pairs-le (λ i j. length (pairsAt s k (at i) j)) (λ i j. count (passes i j) others) (k .verts) pair-length,
+        list-most passes (k .verts) (k .count) face-most others,
+        ap (λ (n : ℕ). n * k .count) (length-run (s .face) (k .other + 1) (k .others)),
+      )
+
+-- ---- of a scene
+
+closed : (low high : ℕ) (fs : List Face) → Each (FaceOf low high) fs → EdgesOk fs → Closed fs
+closed low high fs h = closed-by-edges fs (each-map {P = FaceOf low high} (λ f p. p .proper) fs h)
+
+pub longest-listing : LongestListing
+unfolding listingIn solid
+longest-listing s ok =
+    let v = viewOf s in
+    let c = counts limits s ok in
+    let a = closed 0 (vertsA s) (run (v .face) 1 (v .facesA)) (each-of-a limits s ok) (edges-of-a limits s ok) in
+    let b = closed (vertsA s) (verts s) (run (v .face) (v .facesA + 1) (v .facesB)) (each-of-b limits s ok) (edges-of-b limits s ok) in
+    let l : length (listingIn v) ≤ 2 * v .facesA * v .facesB =
+    omega (
+      arith,
+      length-append (solidHits (seen v) (solidA v)) (solidHits (seen v) (solidB v)),
+      solid-most (seen v) (solidA v) a,
+      solid-most (seen v) (solidB v) b,
+    ) in
+    record { by-faces = l; by-limits = omega (arith, mul-le-mul (c .faces-a .1) (c .faces-b .1)) }
