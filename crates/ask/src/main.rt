@@ -1,62 +1,100 @@
 // Answers one question, asked on the command line, about the scene on standard input.
+ghost use Prim.Native.Nat.{_≤_};
+ghost use lib.ListN.{length};
 use crate::words::Asked;
 use crate::words::engine_asked;
 use crate::words::question;
+use answers::lent;
 use engine::Engine;
+use kernel::lists::MOST_PAIRS;
 use libc::STDIN_FILENO;
-use print::answers::say_counts;
-use print::answers::say_enclosed;
-use print::answers::say_judge;
-use print::answers::say_mask;
-use print::answers::say_pierces;
-use print::answers::say_record;
-use print::answers::say_sign;
-use print::answers::say_verdict;
-use print::listings::say_lent;
-use print::listings::say_listing;
-use print::text;
+use libc::STDOUT_FILENO;
+use lines::reports;
+use render::word;
 use scene::Scene;
 
-mod faces;
-mod header;
-mod points;
-mod said;
-mod why;
 mod words;
 
-fn say_usage() {
-    text(
+// Room for the longest listing, of three numbers and at most 18 bytes a pair, and for a line before and behind it.
+const PLACES: usize = 3 * MOST_PAIRS;
+
+const TEXT: usize = 18 * MOST_PAIRS + 64;
+
+fn usage(out: &mut [u8]) -> usize
+    ensures { λ p. ⌜ p ≤ length (now (out .exit)) ⌝ }
+{
+    let p = word(
+        out,
+        0,
         b"usage: ask [--formula] judge | sign A B C D | pierces U V F | mask U V S | enclosed V | verdict | record K | counts",
     );
-    text(b" | listing [PLACES] | why, a scene on standard input\n");
+    word(
+        out,
+        p,
+        b" | listing [PLACES] | why, a scene on standard input\n",
+    )
 }
 
-fn answer(engine: Engine, q: Asked, s: &[u8]) {
+// The listing into so many lent places.
+fn lent_listing(engine: Engine, s: &[u8], places: usize, out: &mut [u8]) -> usize
+    ensures { λ p. ⌜ p ≤ length (now (out .exit)) ⌝ }
+{
+    let mut list = [0u16; PLACES];
+    let a = lent::lend(engine, s, places, &mut list);
+    lent::listed(a, &list, out, 0)
+}
+
+// What is answered, but for the rows of a listing.
+fn answer(engine: Engine, q: Asked, s: &[u8], out: &mut [u8]) -> usize
+    ensures { λ p. ⌜ p ≤ length (now (out .exit)) ⌝ }
+{
     match q {
-        Asked::Unknown => say_usage(),
-        Asked::Judge => say_judge(s),
-        Asked::Sign(a, b, c, d) => say_sign(s, a, b, c, d),
-        Asked::Pierces(u, v, f) => say_pierces(engine, s, u, v, f),
-        Asked::Mask(u, v, k) => say_mask(engine, s, u, v, k),
-        Asked::Enclosed(i) => say_enclosed(engine, s, i),
-        Asked::Verdict => say_verdict(engine, s),
-        Asked::Record(k) => say_record(s, k),
-        Asked::Counts => say_counts(engine, s),
-        Asked::Listing => say_listing(engine, s),
-        Asked::Lent(n) => say_lent(engine, s, n),
-        Asked::Why => why::say_why(s),
+        Asked::Unknown => usage(out),
+        Asked::Judge => answers::judge(s, out, 0),
+        Asked::Sign(a, b, c, d) => answers::sign(s, a, b, c, d, out, 0),
+        Asked::Pierces(u, v, f) => answers::pierces(engine, s, u, v, f, out, 0),
+        Asked::Mask(u, v, k) => answers::mask(engine, s, u, v, k, out, 0),
+        Asked::Enclosed(i) => answers::enclosed(engine, s, i, out, 0),
+        Asked::Verdict => answers::verdict(engine, s, out, 0),
+        Asked::Record(k) => answers::shown(s, k, out, 0),
+        Asked::Counts => answers::count(engine, s, out, 0),
+        Asked::Listing => answers::listing(engine, s, out, 0),
+        Asked::Lent(n) => lent_listing(engine, s, n, out),
+        Asked::Why => why::why(s, out, 0),
     }
+}
+
+fn write_rows(engine: Engine, s: &[u8], out: &mut [u8]) {
+    let mut list = [0u16; PLACES];
+    let r = reports::part(engine, s, 0, &mut list, out);
+    let end = r.end;
+    io::write_all(STDOUT_FILENO, &out[..end]);
+}
+
+fn write_answer(engine: Engine, q: Asked, s: &[u8]) {
+    let mut out = [0u8; TEXT];
+    let end = answer(engine, q, s, &mut out);
+    io::write_all(STDOUT_FILENO, &out[..end]);
+    if let Asked::Listing = q {
+        write_rows(engine, s, &mut out);
+    }
+}
+
+// Where nothing is asked, nothing is read.
+fn read_scene(q: Asked, s: &mut [u8]) -> usize
+    ensures { λ n. ⌜ n ≤ length (now (s .exit)) ⌝ }
+{
+    if let Asked::Unknown = q {
+        return 0;
+    }
+    io::read_full(STDIN_FILENO, s)
 }
 
 fn main() {
     let engine = engine_asked();
     let q = question(engine);
-    if let Asked::Unknown = q {
-        say_usage();
-        return;
-    }
     // One byte more than the longest scene tells that the input is too long.
     let mut s = [0u8; Scene::LONGEST + 1];
-    let n = io::read_full(STDIN_FILENO, &mut s);
-    answer(engine, q, &s[..n]);
+    let n = read_scene(q, &mut s);
+    write_answer(engine, q, &s[..n]);
 }

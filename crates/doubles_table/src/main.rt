@@ -1,19 +1,25 @@
 // Takes the vertices on standard input, four to an entry, and prints each as it is taken or refused; of four that are taken also c0 in doubles, by
 // its bits. An entry is sixteen doubles of eight bytes, low byte first.
-ghost use Prim.Native.Nat.{_<_};
+ghost use Prim.Native.Nat.{_<_, _≤_};
+ghost use lib.ListN.{length};
+use doubles::Fault;
 use doubles::Taken;
 use doubles::Vertex;
 use doubles::determinant::c0;
 use doubles::take;
 use libc::STDIN_FILENO;
 use libc::STDOUT_FILENO;
-use print::end;
-use print::number;
-use print::signed;
-use print::text;
+use render::newline;
+use render::next_number;
+use render::next_signed;
+use render::word;
+use scene::Row;
 use scene::read::two;
 
 const ENTRY: usize = 128;
+
+// Room for four lines of a word and four numbers.
+const TEXT: usize = 512;
 
 // The double of these bits. A NaN's bits can't be made a double, so each is the NaN of 0 / 0.
 fn double(n: u64) -> f64 {
@@ -42,48 +48,78 @@ fn vertex_at(s: &[u8], i: usize) -> Vertex
     }
 }
 
-// Prints the vertex; whether it is taken.
-fn say_vertex(v: Vertex) -> bool {
-    match take(v) {
-        Taken::At(r) => {
-            text(b"taken");
-            signed(r.x);
-            signed(r.y);
-            signed(r.z);
-            signed(r.w);
-            end();
-            true
-        }
-        Taken::Refused(f) => {
-            text(b"refused");
-            number(doubles::number(f));
-            number(doubles::place(f));
-            end();
-            false
-        }
+fn taken(r: Row, out: &mut [u8], at: usize) -> usize
+    ensures { λ p. ⌜ p ≤ length (now (out .exit)) ⌝ }
+{
+    let a = word(out, at, b"taken");
+    let b = next_signed(out, a, r.x);
+    let c = next_signed(out, b, r.y);
+    let d = next_signed(out, c, r.z);
+    let e = next_signed(out, d, r.w);
+    newline(out, e)
+}
+
+fn refused(f: Fault, out: &mut [u8], at: usize) -> usize
+    ensures { λ p. ⌜ p ≤ length (now (out .exit)) ⌝ }
+{
+    let a = word(out, at, b"refused");
+    let b = next_number(out, a, doubles::number(f));
+    let c = next_number(out, b, doubles::place(f));
+    newline(out, c)
+}
+
+fn vertex(v: Vertex, out: &mut [u8], at: usize) -> usize
+    ensures { λ p. ⌜ p ≤ length (now (out .exit)) ⌝ }
+{
+    let t = take(v);
+    match t {
+        Taken::At(r) => taken(r, out, at),
+        Taken::Refused(f) => refused(f, out, at),
     }
 }
 
-fn say_c0(a: Vertex, b: Vertex, c: Vertex, d: Vertex) {
-    let t = c0(a, b, c, d);
+fn is_taken(v: Vertex) -> bool {
+    let t = take(v);
+    match t {
+        Taken::At(_) => true,
+        Taken::Refused(_) => false,
+    }
+}
+
+fn bits_line(bits: u64, out: &mut [u8]) -> usize
+    ensures { λ p. ⌜ p ≤ length (now (out .exit)) ⌝ }
+{
+    let mut digits = [0u8; 16];
+    let k = io::hex(bits, 16, &mut digits);
+    let p = word(out, 0, b"c0 ");
+    let q = word(out, p, &digits[..k]);
+    newline(out, q)
+}
+
+fn write_c0(t: f64, out: &mut [u8]) {
     if t == t {
-        text(b"c0 ");
-        io::print_hex(STDOUT_FILENO, f64::to_bits(t), 16);
-        end();
+        let end = bits_line(f64::to_bits(t), out);
+        io::write_all(STDOUT_FILENO, &out[..end]);
     }
 }
 
-fn say_entry(s: &[u8]) {
+fn write_vertices(a: Vertex, b: Vertex, c: Vertex, d: Vertex, out: &mut [u8]) {
+    let p = vertex(a, out, 0);
+    let q = vertex(b, out, p);
+    let r = vertex(c, out, q);
+    let end = vertex(d, out, r);
+    io::write_all(STDOUT_FILENO, &out[..end]);
+}
+
+fn write_entry(s: &[u8]) {
     let a = vertex_at(s, 0);
     let b = vertex_at(s, 32);
     let c = vertex_at(s, 64);
     let d = vertex_at(s, 96);
-    let p = say_vertex(a);
-    let q = say_vertex(b);
-    let r = say_vertex(c);
-    let t = say_vertex(d);
-    if p & q & r & t {
-        say_c0(a, b, c, d);
+    let mut out = [0u8; TEXT];
+    write_vertices(a, b, c, d, &mut out);
+    if is_taken(a) & is_taken(b) & is_taken(c) & is_taken(d) {
+        write_c0(c0(a, b, c, d), &mut out);
     }
 }
 
@@ -94,7 +130,7 @@ fn main() {
         if io::read_full(STDIN_FILENO, &mut s) < ENTRY {
             return;
         }
-        say_entry(&s);
+        write_entry(&s);
         n += 1;
     }
 }

@@ -1,6 +1,7 @@
 // Puts random byte strings, and mutations of the scene on standard input, through the judge and every question, all in one process, and
 // prints for each question how often it was answered and how often refused with which number.
 ghost use Prim.Native.Nat.{_≤_};
+ghost use lib.ListN.{length};
 use crate::chance::next;
 use crate::questions::ROWS;
 use crate::questions::ask_points;
@@ -8,9 +9,10 @@ use crate::questions::ask_rest;
 use crate::strings::Bytes;
 use crate::strings::make;
 use libc::STDIN_FILENO;
-use print::end;
-use print::number;
-use print::text;
+use libc::STDOUT_FILENO;
+use render::newline;
+use render::next_number;
+use render::word;
 use scene::Scene;
 
 mod chance;
@@ -18,6 +20,9 @@ mod questions;
 mod strings;
 
 const STRINGS: usize = 120000;
+
+// Room for a name and fifteen numbers.
+const LINE: usize = 512;
 
 // The first n bytes of s through every question; the next random number.
 fn ask_all(s: &[u8], n: usize, x: u64, tally: &mut [u64; ROWS]) -> u64 {
@@ -49,34 +54,61 @@ fn turns(base: &[u8], tally: &mut [u64; ROWS]) {
     }
 }
 
-// The row of question q: its name, then how often it was answered and refused 1 to 14.
-fn say_row(name: &[u8], q: usize, tally: &[u64; ROWS])
-    requires { ⌜ q ≤ 10 ⌝ }
+fn write(out: &[u8], n: usize)
+    requires { ⌜ n ≤ length (now out) ⌝ }
 {
-    text(name);
-    let mut k = 0;
-    while k < 15 {
-        number(tally[15 * q + k] as usize);
-        k += 1;
-    }
-    end();
+    io::write_all(STDOUT_FILENO, &out[..n]);
 }
 
-fn say_tally(tally: &[u64; ROWS]) {
-    text(b"strings");
-    number(STRINGS);
-    text(b"\nquestion answered 1 2 3 4 5 6 7 8 9 10 11 12 13 14\n");
-    say_row(b"judge", 0, tally);
-    say_row(b"sign", 1, tally);
-    say_row(b"pierces", 2, tally);
-    say_row(b"mask", 3, tally);
-    say_row(b"enclosed", 4, tally);
-    say_row(b"verdict", 5, tally);
-    say_row(b"counts", 6, tally);
-    say_row(b"listing", 7, tally);
-    say_row(b"part", 8, tally);
-    say_row(b"record", 9, tally);
-    say_row(b"shown", 10, tally);
+// The row of question q: its name, then how often it was answered and refused 1 to 14.
+fn row(name: &[u8], q: usize, tally: &[u64; ROWS], out: &mut [u8]) -> usize
+    requires { ⌜ q ≤ 10 ⌝ }
+    ensures { λ p. ⌜ p ≤ length (now (out .exit)) ⌝ }
+{
+    let mut p = word(out, 0, name);
+    let mut k = 0;
+    while k < 15 {
+        p = next_number(out, p, tally[15 * q + k] as usize);
+        k += 1;
+    }
+    newline(out, p)
+}
+
+fn write_row(name: &[u8], q: usize, tally: &[u64; ROWS])
+    requires { ⌜ q ≤ 10 ⌝ }
+{
+    let mut out = [0u8; LINE];
+    let n = row(name, q, tally, &mut out);
+    write(&out, n);
+}
+
+fn write_head() {
+    let mut out = [0u8; LINE];
+    let p = word(&mut out, 0, b"strings");
+    let q = next_number(&mut out, p, STRINGS);
+    let n = word(
+        &mut out,
+        q,
+        b"\nquestion answered 1 2 3 4 5 6 7 8 9 10 11 12 13 14\n",
+    );
+    write(&out, n);
+}
+
+fn write_points(tally: &[u64; ROWS]) {
+    write_row(b"judge", 0, tally);
+    write_row(b"sign", 1, tally);
+    write_row(b"pierces", 2, tally);
+    write_row(b"mask", 3, tally);
+    write_row(b"enclosed", 4, tally);
+}
+
+fn write_rest(tally: &[u64; ROWS]) {
+    write_row(b"verdict", 5, tally);
+    write_row(b"counts", 6, tally);
+    write_row(b"listing", 7, tally);
+    write_row(b"part", 8, tally);
+    write_row(b"record", 9, tally);
+    write_row(b"shown", 10, tally);
 }
 
 fn main() {
@@ -84,5 +116,7 @@ fn main() {
     let n = io::read_full(STDIN_FILENO, &mut s);
     let mut tally = [0u64; ROWS];
     turns(&s[..n], &mut tally);
-    say_tally(&tally);
+    write_head();
+    write_points(&tally);
+    write_rest(&tally);
 }

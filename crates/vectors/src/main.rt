@@ -1,19 +1,20 @@
 // Prints the report of each scene on standard input and, where it is accepted, the answers to ten questions about it: by the plain engine, and again by
-// the formula. A scene stands there behind two bytes of length, low byte first.
+// the formula.
 ghost use Prim.Native.Nat.{_≤_};
+ghost use lib.ListN.{length};
+use answers::lent;
 use engine::Engine;
 use judge::Judged;
-use libc::STDIN_FILENO;
-use print::answers::say_enclosed;
-use print::answers::say_mask;
-use print::answers::say_pierces;
-use print::answers::say_record;
-use print::answers::say_sign;
-use print::answers::say_verdict;
-use print::listings::say_lent;
-use print::reports::say_report;
-use scene::read::byte;
-use scene::read::two;
+use kernel::lists::MOST_PAIRS;
+use libc::STDOUT_FILENO;
+use lines::reports;
+use scene::offsets;
+use scene::read;
+
+// Room for the longest listing, of three numbers and at most 18 bytes a pair, and for the lines beside it.
+const PLACES: usize = 3 * MOST_PAIRS;
+
+const TEXT: usize = 18 * MOST_PAIRS + 4096;
 
 // The remainder of n by m; 0 where m is 0, as no count of an accepted scene is.
 fn rest(n: usize, m: usize) -> usize
@@ -22,82 +23,113 @@ fn rest(n: usize, m: usize) -> usize
     if m == 0 { 0 } else { n % m }
 }
 
-// The questions about points, to the scene with number n.
-fn say_points(engine: Engine, s: &[u8], n: usize) {
-    let a = byte(s, 2);
-    let fa = byte(s, 3);
-    let points = a + byte(s, 4) + 1;
-    let faces = fa + byte(s, 5);
+// The signs, to the scene with number n.
+fn signs(s: &[u8], n: usize, out: &mut [u8], at: usize) -> usize
+    ensures { λ p. ⌜ p ≤ length (now (out .exit)) ⌝ }
+{
+    let points = offsets::points(s);
     let k = rest(n, points);
-    let u = 1 + k;
-    let v = 1 + rest(n / 2, points);
-    say_sign(s, 1, 2, 3, 4);
-    say_sign(
-        s,
-        u,
-        v,
-        1 + rest(3 * k + 1, points),
-        1 + rest(5 * k + 2, points),
-    );
-    say_pierces(
+    let c = 1 + rest(3 * k + 1, points);
+    let d = 1 + rest(5 * k + 2, points);
+    let p = answers::sign(s, 1, 2, 3, 4, out, at);
+    answers::sign(s, 1 + k, 1 + rest(n / 2, points), c, d, out, p)
+}
+
+fn edges(engine: Engine, s: &[u8], n: usize, out: &mut [u8], at: usize) -> usize
+    ensures { λ p. ⌜ p ≤ length (now (out .exit)) ⌝ }
+{
+    let points = offsets::points(s);
+    let h = read::counts(s);
+    let u = 1 + rest(n, h.vertices_a);
+    let f = 1 + h.faces_a + rest(n, h.faces_b);
+    let g = 1 + rest(n, offsets::faces(s) + 1);
+    let p = answers::pierces(engine, s, u, points, f, out, at);
+    answers::pierces(
         engine,
         s,
-        1 + rest(n, a),
-        points,
-        1 + fa + rest(n, byte(s, 5)),
-    );
-    say_pierces(engine, s, u, v, 1 + rest(n, faces + 1));
+        1 + rest(n, points),
+        1 + rest(n / 2, points),
+        g,
+        out,
+        p,
+    )
 }
 
-// The others.
-fn say_others(engine: Engine, s: &[u8], n: usize) {
-    let a = byte(s, 2);
-    let b = byte(s, 4);
-    let points = a + b + 1;
-    let faces = byte(s, 3) + byte(s, 5);
-    say_mask(engine, s, a + 1 + rest(n, b), points, 1);
-    say_mask(engine, s, 1 + rest(n, points), points, 1 + n % 3);
-    say_enclosed(engine, s, 1 + rest(n, points + 1));
-    say_verdict(engine, s);
-    say_record(s, rest(n, points + faces + 3));
-    say_lent(engine, s, n % 100);
+fn masks(engine: Engine, s: &[u8], n: usize, out: &mut [u8], at: usize) -> usize
+    ensures { λ p. ⌜ p ≤ length (now (out .exit)) ⌝ }
+{
+    let points = offsets::points(s);
+    let h = read::counts(s);
+    let u = h.vertices_a + 1 + rest(n, h.vertices_b);
+    let p = answers::mask(engine, s, u, points, 1, out, at);
+    answers::mask(engine, s, 1 + rest(n, points), points, 1 + n % 3, out, p)
 }
 
-fn say_scene(engine: Engine, s: &[u8], n: usize) {
-    say_report(engine, s);
+fn others(engine: Engine, s: &[u8], n: usize, out: &mut [u8], at: usize) -> usize
+    ensures { λ p. ⌜ p ≤ length (now (out .exit)) ⌝ }
+{
+    let i = 1 + rest(n, offsets::points(s) + 1);
+    let k = rest(n, offsets::last_record(s) + 2);
+    let p = answers::enclosed(engine, s, i, out, at);
+    let q = answers::verdict(engine, s, out, p);
+    answers::shown(s, k, out, q)
+}
+
+// All but the last, the listing into up to 99 lent places.
+fn write_answers(engine: Engine, s: &[u8], n: usize, out: &mut [u8]) {
+    let p = signs(s, n, out, 0);
+    let q = edges(engine, s, n, out, p);
+    let r = masks(engine, s, n, out, q);
+    let end = others(engine, s, n, out, r);
+    io::write_all(STDOUT_FILENO, &out[..end]);
+}
+
+fn write_lent(engine: Engine, s: &[u8], n: usize, list: &mut [u16], out: &mut [u8]) {
+    let a = lent::lend(engine, s, n % 100, list);
+    let end = lent::listed(a, list, out, 0);
+    io::write_all(STDOUT_FILENO, &out[..end]);
+}
+
+fn write_report(engine: Engine, s: &[u8], list: &mut [u16], out: &mut [u8]) {
+    let top = reports::head(engine, s, out);
+    let end = top.end;
+    io::write_all(STDOUT_FILENO, &out[..end]);
+    let r = reports::part(engine, s, 0, list, out);
+    let all = r.end;
+    io::write_all(STDOUT_FILENO, &out[..all]);
+}
+
+fn write_scene(engine: Engine, s: &[u8], n: usize) {
+    let mut list = [0u16; PLACES];
+    let mut out = [0u8; TEXT];
+    write_report(engine, s, &mut list, &mut out);
     let j = judge::judge(s);
     match j {
         Judged::Refused(_) => {}
         Judged::Accepted => {
-            say_points(engine, s, n);
-            say_others(engine, s, n);
+            write_answers(engine, s, n, &mut out);
+            write_lent(engine, s, n, &mut list, &mut out);
         }
     }
 }
 
-// Fills the buffer with a scene, or with what is left of the input.
-fn say_next(buffer: &mut [u8], n: usize) {
-    let got = io::read_full(STDIN_FILENO, buffer);
-    say_scene(Engine::Plain, &buffer[..got], n);
-    say_scene(Engine::Formula, &buffer[..got], n);
-}
-
-// Whether there was one more scene.
-fn say_entry(n: usize) -> bool {
-    let mut length = [0u8; 2];
-    if io::read_full(STDIN_FILENO, &mut length) < 2 {
+// Whether there was one more.
+fn write_next(n: usize) -> bool {
+    let mut s = io::large_buffer();
+    let e = entries::next(&mut s);
+    if e.is_end {
         return false;
     }
-    let len = two(&length, 0);
-    let mut buffer = io::large_buffer();
-    say_next(&mut buffer[..len], n);
+    let len = e.len;
+    write_scene(Engine::Plain, &s[..len], n);
+    write_scene(Engine::Formula, &s[..len], n);
     true
 }
 
 fn main() {
     let mut n = 0;
     while n < usize::MAX {
-        if !say_entry(n) {
+        if !write_next(n) {
             return;
         }
         n += 1;

@@ -1,4 +1,4 @@
--- `doubles_table::main` is safe and ends, after as many entries as a number can count.
+-- It ends after as many entries as a number can count.
 use Prim.Native.Nat.{_≤_, _-_}
 use borrow.Author.Needs.{needs}
 use Rattle.doubles_table.proofs.main.Statement.{statement}
@@ -22,11 +22,11 @@ read-full-requires c κs = search needs
 returns : tie.Need-returns Inv-loop μ-loop
 returns c = search needs
 
-slice-aggregate-say-entry : tie.Need-slice-aggregate-say-entry Inv-loop μ-loop
-slice-aggregate-say-entry c = search needs
+slice-aggregate-write-entry : tie.Need-slice-aggregate-write-entry Inv-loop μ-loop
+slice-aggregate-write-entry c = search needs
 
-say-entry-requires : tie.Need-say-entry-requires Inv-loop μ-loop
-say-entry-requires c κs = search needs
+write-entry-requires : tie.Need-write-entry-requires Inv-loop μ-loop
+write-entry-requires c κs = search needs
 
 add-n : tie.Need-add-n Inv-loop μ-loop
 add-n c = search needs
@@ -50,8 +50,8 @@ main-spec =
     slice-aggregate-read-full
     read-full-requires
     returns
-    slice-aggregate-say-entry
-    say-entry-requires
+    slice-aggregate-write-entry
+    write-entry-requires
     add-n
     loop-less
     loop-again

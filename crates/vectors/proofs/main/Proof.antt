@@ -1,4 +1,4 @@
--- `vectors::main` is safe and ends, after as many scenes as a number can count.
+-- It ends after as many entries as a number can count.
 use Prim.Native.Nat.{_≤_, _-_}
 use borrow.Author.Needs.{needs}
 use Rattle.vectors.proofs.main.Statement.{statement}
@@ -13,8 +13,8 @@ abbrev μ-loop : tie.MeasureT-loop
 loop-holds : tie.Need-loop-holds Inv-loop μ-loop
 loop-holds c = search needs
 
-say-entry-requires : tie.Need-say-entry-requires Inv-loop μ-loop
-say-entry-requires c κs = search needs
+write-next-requires : tie.Need-write-next-requires Inv-loop μ-loop
+write-next-requires c κs = search needs
 
 returns : tie.Need-returns Inv-loop μ-loop
 returns c = search needs
@@ -38,7 +38,7 @@ main-spec =
     Inv-loop
     μ-loop
     loop-holds
-    say-entry-requires
+    write-next-requires
     returns
     add-n
     loop-less

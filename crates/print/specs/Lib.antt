@@ -1,2 +1,0 @@
--- What the proofs of this crate cite.
-pub mod Size

@@ -1,0 +1,148 @@
+// Refusals 1 to 4, of the header and of marks, in words.
+ghost use Rattle.why.specs.Said.{Said};
+use crate::clauses::clause;
+use crate::clauses::limits;
+use crate::clauses::place;
+use crate::clauses::two_bytes;
+use crate::records::start;
+use render::word;
+use scene::Scene;
+use scene::is_within;
+use scene::offsets;
+use scene::read;
+
+fn named(name: &[u8], out: &mut [u8], at: usize) -> usize
+    ensures { λ p. ⌜ Said (now (out .entry)) at (now (out .exit)) p ⌝ }
+{
+    let p = word(out, at, b" (");
+    let q = word(out, p, name);
+    word(out, q, b")")
+}
+
+// The mark that is found, and the one that must be.
+fn two_marks(found: usize, mark: usize, out: &mut [u8], at: usize) -> usize
+    ensures { λ p. ⌜ Said (now (out .entry)) at (now (out .exit)) p ⌝ }
+{
+    let p = two_bytes(out, at, b"the mark is ", found);
+    two_bytes(out, p, b", and it must be ", mark)
+}
+
+// Record k has another mark than this one.
+fn marked(s: &[u8], k: usize, mark: usize, name: &[u8], out: &mut [u8], at: usize) -> usize
+    ensures { λ p. ⌜ Said (now (out .entry)) at (now (out .exit)) p ⌝ }
+{
+    let b = start(s, k);
+    let found = read::two(s, b);
+    let p = place(out, at, k, b);
+    let q = two_marks(found, mark, out, p);
+    named(name, out, q)
+}
+
+fn short(n: usize, out: &mut [u8], at: usize) -> usize
+    ensures { λ p. ⌜ Said (now (out .entry)) at (now (out .exit)) p ⌝ }
+{
+    let p = place(out, at, 0, 0);
+    let q = clause(out, p, b"the scene has ", n);
+    word(out, q, b" bytes, and this record alone takes 6")
+}
+
+pub fn opening(s: &[u8], out: &mut [u8], at: usize) -> usize
+    ensures { λ p. ⌜ Said (now (out .entry)) at (now (out .exit)) p ⌝ }
+{
+    if s.len() < 6 {
+        return short(s.len(), out, at);
+    }
+    marked(s, 0, Scene::SC, b"SC", out, at)
+}
+
+// The count at byte b is n.
+fn counted(
+    what: &[u8],
+    b: usize,
+    n: usize,
+    low: usize,
+    high: usize,
+    out: &mut [u8],
+    at: usize,
+) -> usize
+    ensures { λ p. ⌜ Said (now (out .entry)) at (now (out .exit)) p ⌝ }
+{
+    let p = place(out, at, 0, b);
+    let q = clause(out, p, what, n);
+    limits(out, q, low, high)
+}
+
+fn vertices(what: &[u8], b: usize, n: usize, out: &mut [u8], at: usize) -> usize
+    ensures { λ p. ⌜ Said (now (out .entry)) at (now (out .exit)) p ⌝ }
+{
+    counted(
+        what,
+        b,
+        n,
+        Scene::LEAST_VERTICES,
+        Scene::MOST_VERTICES,
+        out,
+        at,
+    )
+}
+
+fn faces(what: &[u8], b: usize, n: usize, out: &mut [u8], at: usize) -> usize
+    ensures { λ p. ⌜ Said (now (out .entry)) at (now (out .exit)) p ⌝ }
+{
+    counted(what, b, n, Scene::LEAST_FACES, Scene::MOST_FACES, out, at)
+}
+
+pub fn counts(s: &[u8], out: &mut [u8], at: usize) -> usize
+    ensures { λ p. ⌜ Said (now (out .entry)) at (now (out .exit)) p ⌝ }
+{
+    let h = read::counts(s);
+    if !is_within(Scene::LEAST_VERTICES, Scene::MOST_VERTICES, h.vertices_a) {
+        return vertices(b"the vertices of A are ", 2, h.vertices_a, out, at);
+    }
+    if !is_within(Scene::LEAST_FACES, Scene::MOST_FACES, h.faces_a) {
+        return faces(b"the faces of A are ", 3, h.faces_a, out, at);
+    }
+    if !is_within(Scene::LEAST_VERTICES, Scene::MOST_VERTICES, h.vertices_b) {
+        return vertices(b"the vertices of B are ", 4, h.vertices_b, out, at);
+    }
+    faces(b"the faces of B are ", 5, h.faces_b, out, at)
+}
+
+// How many bytes there are. (Of a longer input than any scene the rest is not read.)
+fn held(n: usize, out: &mut [u8], at: usize) -> usize
+    ensures { λ p. ⌜ Said (now (out .entry)) at (now (out .exit)) p ⌝ }
+{
+    if n > Scene::LONGEST {
+        return clause(
+            out,
+            at,
+            b" bytes, and the scene has more than ",
+            Scene::LONGEST,
+        );
+    }
+    clause(out, at, b" bytes, and the scene has ", n)
+}
+
+pub fn length(s: &[u8], out: &mut [u8], at: usize) -> usize
+    ensures { λ p. ⌜ Said (now (out .entry)) at (now (out .exit)) p ⌝ }
+{
+    let n = offsets::length_of(s);
+    let p = place(out, at, 0, 2);
+    let q = clause(out, p, b"the counts ask for ", n);
+    held(s.len(), out, q)
+}
+
+pub fn mark(s: &[u8], k: usize, out: &mut [u8], at: usize) -> usize
+    ensures { λ p. ⌜ Said (now (out .entry)) at (now (out .exit)) p ⌝ }
+{
+    if k == 1 {
+        return marked(s, k, Scene::FP, b"FP", out, at);
+    }
+    if k <= offsets::points(s) {
+        return marked(s, k, Scene::VX, b"VX", out, at);
+    }
+    if k < offsets::last_record(s) {
+        return marked(s, k, Scene::FC, b"FC", out, at);
+    }
+    marked(s, k, Scene::EN, b"EN", out, at)
+}
