@@ -5,11 +5,13 @@
 
 The words are operations, one after another: `move P X Y Z W`, `far X Y Z W`, `reverse F`.  A step's
 line is `counts PAIRS A B` or `refused N P`.  `compare` runs random operations on random, broken and
-empty scenes through the program and holds both outputs to this one.
+empty scenes through the program and holds both outputs to this one; what was written is opened again;
+and where a word is wrong, the program says which and writes nothing.
 """
 
 import argparse
 import random
+import re
 import shlex
 import subprocess
 import sys
@@ -19,6 +21,7 @@ from judge import COORDINATES, FACE_FORM, HEADER_BYTES, POINT_FORM, WEIGHTS
 from scenes import random_scene
 
 NUMBERS_OF = {"move": 5, "far": 4, "reverse": 1}
+NUMBER = re.compile("-?[0-9]+")
 
 
 class Session:
@@ -99,6 +102,20 @@ def operations(words):
         words = words[count + 1:]
 
 
+def first_wrong(words):
+    """The first word, counted from 1, that is no operation's name or none of its numbers; or None."""
+    at = 0
+    while at < len(words):
+        if words[at] not in NUMBERS_OF:
+            return at + 1
+        end = at + 1 + NUMBERS_OF[words[at]]
+        for k in range(at + 1, end):
+            if k == len(words) or not NUMBER.fullmatch(words[k]):
+                return k + 1
+        at = end
+    return None
+
+
 def play(data, steps):
     """The line of the opening and of each step, and the bytes at the end."""
     session, lines = Session(), []
@@ -114,7 +131,7 @@ def play(data, steps):
 def random_number(rng, limit):
     """Mostly within the limit, sometimes at it or beyond, seldom far beyond."""
     return rng.choice([rng.randint(-limit, limit), rng.randint(-9, 9), limit, -limit, limit + 1, -limit - 1,
-                       rng.choice([0, 2 ** 15, -2 ** 15, 2 ** 16, 2 ** 63 - 1, -2 ** 63])] + [rng.randint(-limit, limit)] * 6)
+                       rng.choice([0, 2 ** 15, -2 ** 15, 2 ** 16, 2 ** 63 - 1, -2 ** 63])] + [rng.randint(-limit, limit)] * 18)
 
 
 def random_row(rng):
@@ -132,16 +149,48 @@ def random_step(rng, data):
     return name, [rng.randint(0, 2 * highest)]
 
 
+def damaged(rng, words):
+    """The words with one of them lost, doubled or replaced."""
+    if not words:
+        return words
+    k = rng.randrange(len(words))
+    put = rng.choice([[], words[k:k + 1] * 2, [rng.choice(["", "-", "+1", "1.5", "0x1", "--1", "1-", "Move", "moves", "far"])]])
+    return words[:k] + put + words[k + 1:]
+
+
+def run(program, words, data):
+    """The lines on standard error, and the bytes on standard output."""
+    done = subprocess.run(program + words, input=data, capture_output=True, check=False)
+    return done.stderr.decode().splitlines(), done.stdout
+
+
+def differs(program, words, data):
+    """What is expected and what is found, where they differ; or None."""
+    found, wrong = run(program, words, data), first_wrong(words)
+    if wrong:
+        expected = f"edit: word {wrong} is wrong", b""
+        is_alike = found[0] and found[0][0].startswith((expected[0], "run: ")) and not found[1]
+        return None if is_alike else (expected, found)
+    expected = play(data, operations(words))
+    if found != expected:
+        return expected, found
+    # What was written is opened again.
+    expected = play(expected[1], [])
+    found = run(program, [], expected[1])
+    return None if found == expected else (expected, found)
+
+
 def compare(program, seed, count):
     rng = random.Random(seed)
     for n in range(count):
         data = b"" if n % 10 == 9 else random_scene(rng)
         steps = [random_step(rng, data) for _ in range(rng.randint(0, 8))]
         words = [str(word) for name, numbers in steps for word in (name, *numbers)]
-        lines, held = play(data, steps)
-        run = subprocess.run(program + words, input=data, capture_output=True, check=False)
-        if run.stdout != held or run.stderr.decode().splitlines() != lines or run.returncode:
-            print(f"difference in {n}: {' '.join(words)}\n{data.hex()}\nexpected {lines}\nfound {run.stderr!r}")
+        if n % 5 == 4:
+            words = damaged(rng, words)
+        found = differs(program, words, data)
+        if found:
+            print(f"difference in {n}: {shlex.join(words)}\n{data.hex()}", *found, sep="\n")
             return 1
     print(f"{count} sessions alike")
     return 0

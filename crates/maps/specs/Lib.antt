@@ -3,6 +3,5 @@ pub mod Image
 pub mod Columns
 pub mod Tests
 pub mod Ready
-pub mod Copy
 pub mod Filling
 pub mod Faults

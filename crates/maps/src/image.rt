@@ -24,6 +24,7 @@ use judge::Judged;
 use scene::Refusal;
 use scene::Row;
 use scene::read::byte;
+use scene::write::copy;
 use scene::write::put_row;
 
 // The scene s mapped by m: everything is checked first, then written.
@@ -108,16 +109,5 @@ fn put_rows(s: &[u8], m: Map, out: &mut [u8])
     while j < e {
         put_row(out, j, image_row(s, m, j));
         j += 1;
-    }
-}
-
-fn copy(s: &[u8], out: &mut [u8])
-    requires { ⌜ length (now s) ≤ length (now out) ⌝ }
-    ensures { λ _. ⌜ now (out .exit) ≡ now (s .entry) ++ drop (length (now (s .entry))) (now (out .entry)) ⌝ }
-{
-    let mut i = 0;
-    while i < s.len() {
-        out[i] = s[i];
-        i += 1;
     }
 }

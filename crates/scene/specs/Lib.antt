@@ -12,3 +12,4 @@ pub mod Read
 pub mod Write
 pub mod Negative
 pub mod Written
+pub mod Copy

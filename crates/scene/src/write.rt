@@ -1,8 +1,9 @@
 // Numbers and records of a scene, written into lent bytes. What stands elsewhere stays.
 ghost use mathlib.Core.Path.{_≡_};
+ghost use mathlib.Core.List.{_++_};
 ghost use Prim.Native.Nat.{_+_, _<_, _≤_};
 ghost use lib.IntN.{natAbs};
-ghost use lib.ListN.{length};
+ghost use lib.ListN.{length, drop};
 ghost use Rattle.scene.specs.Records.{pointStart};
 ghost use Rattle.scene.specs.Write.{unsigned, RowFits, FaceFits, HeaderFits, twoPut, rowPut, cornersPut, headerPut};
 use crate::Face;
@@ -62,4 +63,16 @@ pub fn put_header(out: &mut [u8], c: Scene)
     out[3] = c.faces_a as u8;
     out[4] = c.vertices_b as u8;
     out[5] = c.faces_b as u8;
+}
+
+// out with all of `from` at its front.
+pub fn copy(from: &[u8], out: &mut [u8])
+    requires { ⌜ length (now from) ≤ length (now out) ⌝ }
+    ensures { λ _. ⌜ now (out .exit) ≡ now (from .entry) ++ drop (length (now (from .entry))) (now (out .entry)) ⌝ }
+{
+    let mut i = 0;
+    while i < from.len() {
+        out[i] = from[i];
+        i += 1;
+    }
 }

@@ -1,6 +1,5 @@
 pub mod Session
 pub mod Laws
-pub mod Copy
 pub mod Moved
 pub mod Turned
 pub mod Kept

@@ -1,8 +1,7 @@
 // A session: an accepted scene and its counts, held and changed by value. Each operation hands the session back.
 ghost use mathlib.Core.Path.{_≡_};
-ghost use mathlib.Core.List.{_++_};
 ghost use Prim.Native.Nat.{_+_, _≤_, _<_};
-ghost use lib.ListN.{length, take, drop};
+ghost use lib.ListN.{take};
 ghost use Rattle.scene.specs.Limits.{limits, longest};
 ghost use Rattle.scene.specs.Records.{pointStart, faceStart};
 ghost use Rattle.scene.specs.Tables.{faceAt};
@@ -21,6 +20,7 @@ use scene::Scene;
 use scene::offsets;
 use scene::read::byte;
 use scene::write;
+use scene::write::copy;
 
 pub mod faults;
 pub mod place;
@@ -37,18 +37,6 @@ pub struct Session {
 pub struct Changed {
     pub answer: Judged,
     pub session: Session,
-}
-
-// dst with all of src at its front.
-fn copy_in(src: &[u8], dst: &mut [u8])
-    requires { ⌜ length (now src) ≤ length (now dst) ⌝ }
-    ensures { λ _. ⌜ now (dst .exit) ≡ now (src .entry) ++ drop (length (now (src .entry))) (now (dst .entry)) ⌝ }
-{
-    let mut i = 0;
-    while i < src.len() {
-        dst[i] = src[i];
-        i += 1;
-    }
 }
 
 // How many bytes a session's scene has.
@@ -113,7 +101,7 @@ pub fn open(s: &[u8]) -> Changed
         };
     }
     let mut b = [0u8; Scene::LONGEST];
-    copy_in(s, &mut b);
+    copy(s, &mut b);
     Changed {
         answer: Judged::Accepted,
         session: fresh(b, s.len()),

@@ -4,11 +4,11 @@ ghost use lib.ListN.{length};
 ghost use Rattle.session.specs.Session.{scene};
 ghost use Rattle.session.specs.Saved.{saveFault, IsSaved};
 use crate::Session;
-use crate::copy_in;
 use crate::faults;
 use crate::size;
 use judge::Judged;
 use scene::Refusal;
+use scene::write::copy;
 
 // Refusal 1 of the empty session, then 13.
 fn save_fault(s: &[u8], room: usize) -> Judged
@@ -33,7 +33,7 @@ pub fn save(s: Session, out: &mut [u8]) -> Judged
     match j {
         Judged::Refused(r) => Judged::Refused(r),
         Judged::Accepted => {
-            copy_in(&b[..n], out);
+            copy(&b[..n], out);
             Judged::Accepted
         }
     }

@@ -20,17 +20,17 @@ returns c = opened-not _ (c .before .before .before .before .judge .ensures) (c 
 enum-told : tie.Need-enum-told
 enum-told c = search needs
 
-slice-aggregate-copy-in : tie.Need-slice-aggregate-copy-in
-slice-aggregate-copy-in c = search needs
+slice-aggregate-copy : tie.Need-slice-aggregate-copy
+slice-aggregate-copy c = search needs
 
-copy-in-requires : tie.Need-copy-in-requires
-copy-in-requires c κs = accepted-short _ (sym (c .before .before .before .judge .ensures) ∙ c .before .enum-told .given .1)
+copy-requires : tie.Need-copy-requires
+copy-requires c κs = accepted-short _ (sym (c .before .before .before .judge .ensures) ∙ c .before .enum-told .given .1)
 
 fresh-requires : tie.Need-fresh-requires
 fresh-requires c κs = accepted-short _ (sym (c .before .before .before .before .before .judge .ensures) ∙ c .before .before .before .enum-told .given .1)
 
 returns-2 : tie.Need-returns-2
-returns-2 c = opened-so _ (c .before .before .before .before .before .before .judge .ensures) (c .before .before .before .before .enum-told .given .1) (c .before .before .copy-in .ensures) (c .fresh .ensures)
+returns-2 c = opened-so _ (c .before .before .before .before .before .before .judge .ensures) (c .before .before .before .before .enum-told .given .1) (c .before .before .copy .ensures) (c .fresh .ensures)
 
 pub open-spec : {M : Type 1} → statement M
 open-spec =
@@ -41,7 +41,7 @@ open-spec =
     empty-requires
     returns
     enum-told
-    slice-aggregate-copy-in
-    copy-in-requires
+    slice-aggregate-copy
+    copy-requires
     fresh-requires
     returns-2)

@@ -27,11 +27,11 @@ enum-told c = search needs
 array-share-prefix-b-2 : tie.Need-array-share-prefix-b-2
 array-share-prefix-b-2 c = search needs
 
-slice-aggregate-copy-in : tie.Need-slice-aggregate-copy-in
-slice-aggregate-copy-in c = sym (length-take-le _ _ (c .before .before .before .before .before .before .size .ensures .within))
+slice-aggregate-copy : tie.Need-slice-aggregate-copy
+slice-aggregate-copy c = sym (length-take-le _ _ (c .before .before .before .before .before .before .size .ensures .within))
 
-copy-in-requires : tie.Need-copy-in-requires
-copy-in-requires c κs = save-room _ _ (sym (c .before .before .before .before .save-fault .ensures) ∙ c .before .before .enum-told .given .1)
+copy-requires : tie.Need-copy-requires
+copy-requires c κs = save-room _ _ (sym (c .before .before .before .before .save-fault .ensures) ∙ c .before .before .enum-told .given .1)
 
 returns : tie.Need-returns
 returns c = saved-not _ _ (rw (c .before .before .before .before .before .before .size .ensures .same) at (c .before .before .before .save-fault .ensures)) refl (c .before .j .given .1)
@@ -42,7 +42,7 @@ same-length c = search needs
 returns-2 : tie.Need-returns-2
 returns-2 c =
     let same = c .before .before .before .before .before .before .before .before .before .before .size .ensures .same in
-    saved-so _ _ (rw same at (c .before .before .before .before .before .before .before .save-fault .ensures)) refl (c .before .before .before .before .before .enum-told .given .1) (rw same at (c .before .before .copy-in .ensures))
+    saved-so _ _ (rw same at (c .before .before .before .before .before .before .before .save-fault .ensures)) refl (c .before .before .before .before .before .enum-told .given .1) (rw same at (c .before .before .copy .ensures))
 
 pub save-spec : {M : Type 1} → statement M
 save-spec =
@@ -55,8 +55,8 @@ save-spec =
     enum-known-j
     enum-told
     array-share-prefix-b-2
-    slice-aggregate-copy-in
-    copy-in-requires
+    slice-aggregate-copy
+    copy-requires
     returns
     same-length
     returns-2)

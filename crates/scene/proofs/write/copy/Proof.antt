@@ -1,19 +1,19 @@
--- One byte a turn.
-use mathlib.Core.Path.{_≡_, refl}
+-- After i turns the first i places hold what from has there.
+use mathlib.Core.Path.{_≡_, refl, _∙_}
 use mathlib.Core.List.{_++_}
-use Prim.Native.Nat.{_+_, _-_, _≤_}
+use Prim.Native.Nat.{_≤_, _-_}
 use native.Mathlib.Nat.{le-antisymm}
 use native.Mathlib.Omega.{arith}
 use lib.ListN.{length, take, drop, length-set}
-use Rattle.maps.specs.Copy.{copy-more, copy-all}
-use Rattle.maps.proofs.image.copy.Statement.{statement}
-use Rattle.maps.proofs.image.copy.Tie as tie
+use Rattle.scene.specs.Copy.{copy-more, copy-all}
+use Rattle.scene.proofs.write.copy.Statement.{statement}
+use Rattle.scene.proofs.write.copy.Tie as tie
 
 abbrev Inv-loop : tie.InvT-loop
-Inv-loop s out₀ i₀ out i = (i ≤ length s) × (out ≡ take i s ++ drop i out₀) × (length out ≡ length out₀)
+Inv-loop from out₀ i₀ out i = (i ≤ length from) × (out ≡ take i from ++ drop i out₀) × (length out ≡ length out₀)
 
 abbrev μ-loop : tie.MeasureT-loop
-μ-loop s out₀ i₀ out i = length s - i
+μ-loop from out₀ i₀ out i = length from - i
 
 loop-holds : tie.Need-loop-holds Inv-loop μ-loop
 loop-holds c = (omega arith, refl, refl)

@@ -7,8 +7,8 @@ use native.Mathlib.Nat.{le-of-lt}
 use lib.ListN.{length, take, drop, getD, set}
 use lib.Seq.{take-suc, drop-cons, set-at, take-length, append-snoc, length-take-le}
 
-pub copy-more : (from out₀ : List ℕ) {out : List ℕ} (i : ℕ) → out ≡ take i from ++ drop i out₀ → i < length from → i < length out₀
-    → set out i (getD from i 0) ≡ take (i + 1) from ++ drop (i + 1) out₀
+pub copy-more : (from out₀ : List ℕ) {out : List ℕ} (i : ℕ) → out ≡ take i from ++ drop i out₀ → i < length from → i < length out₀ →
+    set out i (getD from i 0) ≡ take (i + 1) from ++ drop (i + 1) out₀
 copy-more from out₀ i e h k =
     ap (λ (l : List ℕ). set l i (getD from i 0)) (e ∙ ap (λ (l : List ℕ). take i from ++ l) (drop-cons out₀ i 0 k))
     ∙ set-at (take i from) (getD out₀ i 0) (drop (suc i) out₀) (getD from i 0) i (length-take-le i from (le-of-lt h))
