@@ -2,23 +2,34 @@
 
     maps.py clean < scene                     clean yes, clean no, or the refusal
     maps.py map 16 NUMBERS [ROOM] < scene     image LENGTH and the image's bytes in hexadecimal, or the refusal
-    maps.py selftest [SEED [COUNT]]           the theorem of the lecture on random scenes
+    maps.py selftest SEED COUNT               the theorem of the lecture on clean and on random scenes
+    maps.py compare MAP CLEAN REPORT SEED COUNT
+                                              clean scenes, tables and refusals: what the three programs print against this one
 """
 
 import random
+import shlex
+import subprocess
 import sys
-from itertools import combinations
+from itertools import combinations, product
 
 from exact import Refused, determinant, read_scene
-from judge import COORDINATES, POINT_FORM, WEIGHTS, judge, point_rows, records
+from judge import COORDINATES, POINT_FORM, WEIGHTS, judge, point_rows, records, scene_bytes, stored_faces
+from scenes import anywhere, direction, random_scene, weighted
 
 ENTRIES = range(-100, 100 + 1)
-USAGE = "usage: clean | map 16 NUMBERS [ROOM] | selftest [SEED [COUNT]]"
+USAGE = "usage: clean | map 16 NUMBERS [ROOM] | selftest SEED COUNT | compare MAP CLEAN REPORT SEED COUNT"
 
 
 def is_clean(scene):
     """No four different points have c0 = 0."""
     return all(determinant([scene.points[n] for n in four]) for four in combinations(scene.points, 4))
+
+
+def said_clean(data):
+    """The line about a scene."""
+    scene = read_scene(data)
+    return scene.line if isinstance(scene, Refused) else "clean " + ("yes" if is_clean(scene) else "no")
 
 
 def times(row, table):
@@ -55,7 +66,52 @@ def image(data, table, room=None):
     return b"".join(parts)
 
 
-# ---- the theorem, on random scenes ----------------------------------------------------------
+# ---- clean scenes, and tables that map them ---------------------------------------------------
+
+# The faces of a tetrahedron and of an octahedron, and where their vertices are.
+BODIES = [
+    (list(combinations((1, 2, 3, 4), 3)), [(1, 1, 1), (1, -1, -1), (-1, 1, -1), (-1, -1, 1)]),
+    (list(product((1, 2), (3, 4), (5, 6))), [(1, 0, 0), (-1, 0, 0), (0, 1, 0), (0, -1, 0), (0, 0, 1), (0, 0, -1)]),
+]
+
+
+def clean_scene(rng):
+    """Two bodies a little out of shape, through, within or beside each other; a scene that is not clean is thrown away."""
+    while True:
+        reach, manner = rng.choice((8, 40, 300)), rng.choice(("ones", "positive", "both signs"))
+        sizes, shift = rng.choice((((1, 1), 0), ((1, 1), 1), ((1, 0.2), 0), ((0.2, 1), 0), ((1, 1), 3)))
+        solids = []
+        for (faces, places), size, centre in zip(rng.choices(BODIES, k=2), sizes, (0, shift * reach)):
+            rows = [tuple(round(size * (reach * value + jitter)) + centre for value, jitter in zip(place, anywhere(rng, reach // 2)))
+                    for place in places]
+            solids += [[weighted(rng, row, manner) for row in rows], faces]
+        far = direction(rng) if rng.random() < 0.3 else anywhere(rng, 5 * reach) + (1,)
+        data = scene_bytes(far, *solids)
+        scene = read_scene(data)
+        if not isinstance(scene, Refused) and is_clean(scene):
+            return data
+
+
+def random_table(rng):
+    """Small entries; three of four keep the weights or turn them, so that more images are accepted."""
+    reach = rng.choice((1, 1, 2, 100))
+    table = [[rng.randint(-reach, reach) for _ in range(4)] for _ in range(4)]
+    if rng.random() < 0.75:
+        for row, entry in zip(table, (0, 0, 0, rng.choice((1, -1)))):
+            row[3] = entry
+    return table
+
+
+def table_with_image(rng, data, turns):
+    """A table by which the scene has an image, of negative determinant where it turns, and the image."""
+    while True:
+        table = random_table(rng)
+        new = image(data, table)
+        if not isinstance(new, Refused) and (determinant(table) < 0) == turns:
+            return table, new
+
+
+# ---- the theorem ------------------------------------------------------------------------------
 
 
 def answers(scene):
@@ -76,53 +132,124 @@ def multiplied(rng, data):
     return b"".join(parts)
 
 
-def random_table(rng):
-    """Small entries; three of four keep the weights or turn them, so that more images are accepted."""
-    reach = rng.choice((1, 1, 2, 100))
-    table = [[rng.randint(-reach, reach) for _ in range(4)] for _ in range(4)]
-    if rng.random() < 0.75:
-        for row, entry in zip(table, (0, 0, 0, rng.choice((1, -1)))):
-            row[3] = entry
-    return table
+def exchanged(data):
+    """The scene with A and B exchanged."""
+    *vertices, far = point_rows(data)
+    a_faces, b_faces = stored_faces(data)
+    return scene_bytes(far, vertices[data[2]:], b_faces, vertices[:data[2]], a_faces)
 
 
-def selftest(seed=1, count=1000):
-    """Clean scenes keep their answers under a map, all scenes under multiplied rows; 14 never comes up."""
-    from scenes import random_scene  # here, because only this part makes scenes
+def carried(scene):
+    """The listing of a scene, its edges of B first, in the numbers that its points and faces have once A and B are exchanged."""
+    a, fa, b, fb = scene.counts
+
+    def number(n, of_a, of_b):
+        return n + of_b if n <= of_a else n - of_a
+
+    pairs = [pair for solid in (2, 1) for pair in scene.listing if pair[0] in scene.vertices(solid)]
+    return [(number(u, a, b), number(v, a, b), number(face, fa, fb)) for u, v, face in pairs]
+
+
+def renumbered(rng, data):
+    """The scene with the vertices of each solid in another order, and the new number of each point."""
+    *vertices, far = point_rows(data)
+    new, solids = {}, []
+    for rows, faces in zip((vertices[:data[2]], vertices[data[2]:]), stored_faces(data)):
+        order = rng.sample(range(1, len(rows) + 1), len(rows))
+        solids += [[rows[old - 1] for old in order], [tuple(order.index(corner) + 1 for corner in face) for face in faces]]
+        new.update({len(new) + old: len(new) + order.index(old) + 1 for old in order})
+    return scene_bytes(far, *solids), new
+
+
+def same_pairs(scene, other, new):
+    """Whether the other scene has the same pairs, in its own numbers, as many enclosed vertices, and the same word as its verdict."""
+    pairs = sorted((*sorted((new[u], new[v])), face) for u, v, face in scene.listing)
+    return (sorted(other.listing) == pairs and [len(solid) for solid in other.inside] == [len(solid) for solid in scene.inside]
+            and other.verdict()[0] == scene.verdict()[0])
+
+
+def selftest(seed, count):
+    """Clean scenes keep their answers under a map, with A and B exchanged and with other numbers, all scenes under multiplied rows; 14 never comes up."""
     rng = random.Random(seed)
-    mapped = scaled = 0
+    for n in range(count // 5):
+        data = clean_scene(rng)
+        scene = read_scene(data)
+        table, new = table_with_image(rng, data, n % 2 == 1)
+        turned, other = read_scene(new), read_scene(exchanged(data))
+        assert is_clean(turned) and answers(turned) == answers(scene), (data.hex(), table)
+        assert other.listing == carried(scene) and list(map(len, other.inside)) == list(map(len, scene.inside))[::-1], data.hex()
+        shuffled, numbers = renumbered(rng, data)
+        assert same_pairs(scene, read_scene(shuffled), numbers), data.hex()
+    scaled = 0
     for _ in range(count):
         data = random_scene(rng)
         scene = read_scene(data)
         if isinstance(scene, Refused) or len(scene.points) > 20:
             continue
-        other = read_scene(multiplied(rng, data))
-        assert answers(other) == answers(scene), data.hex()
+        assert answers(read_scene(multiplied(rng, data))) == answers(scene), data.hex()
         scaled += 1
-        table = random_table(rng)
-        new = image(data, table)
-        if isinstance(new, Refused):
-            assert new.line.split()[1] in ("5", "6", "18"), new.line
-            continue
-        assert judge(new) is None, data.hex()
-        if is_clean(scene):
-            turned = read_scene(new)
-            assert is_clean(turned) and answers(turned) == answers(scene), (data.hex(), table)
-            mapped += 1
-    print(f"{mapped} clean scenes mapped and {scaled} scenes multiplied keep their answers")
+        new = image(data, random_table(rng))
+        assert new.line.split()[1] in ("5", "6", "18") if isinstance(new, Refused) else judge(new) is None, data.hex()
+    print(f"{count // 5} clean scenes mapped, exchanged and renumbered and {scaled} scenes multiplied keep their answers")
+    return 0
+
+
+# ---- the programs -----------------------------------------------------------------------------
+
+
+def run(program, words, data):
+    """What a program writes on standard output and on standard error."""
+    done = subprocess.run([*shlex.split(program), *map(str, words)], input=data, stdout=subprocess.PIPE, stderr=subprocess.PIPE)
+    return done.stdout, done.stderr.decode("latin-1")
+
+
+def faulty_tables(rng):
+    """Tables of each refusal, some with a later one beside it: 17, 18, then most often 5 and 6."""
+    def diagonal(*entries):
+        return [[entry if j == k else 0 for j in range(4)] for k, entry in enumerate(entries)]
+
+    most = rng.choice((-1, 1)) * 100
+    return [diagonal(1, 1, 0, 101), diagonal(-101, 1, 1, 1), diagonal(1, 1, 0, 1), diagonal(100, 100, 100, 0), diagonal(most, most, most, 1),
+            diagonal(1, 1, 1, most), [[0, 0, 0, 1], [0, 1, 0, 0], [0, 0, 1, 0], [1, 0, 0, 0]]]
+
+
+def compare(mapping, clean, report, seed, count):
+    """Images with the scene's own report, refusals, and whether a scene is clean."""
+    rng = random.Random(seed)
+
+    def same(what, expected, found, data):
+        if expected != found:
+            open(f"difference-{seed}.scene", "wb").write(data)
+            raise SystemExit(f"{what}: saved as difference-{seed}.scene; expected {expected}, found {found}")
+
+    for n in range(count):
+        data = clean_scene(rng)
+        table, new = table_with_image(rng, data, n % 2 == 1)
+        same(f"map {table}", (new, ""), run(mapping, sum(table, []), data), data)
+        same("clean", [(b"clean yes\n", "")] * 2, [run(clean, [], scene) for scene in (data, new)], data)
+        same(f"report, map {table}", *(run(report, [], scene) for scene in (data, new)), data)
+        other = random_scene(rng)
+        if len(other) < 400:
+            same("clean", (said_clean(other).encode() + b"\n", ""), run(clean, [], other), other)
+        table = rng.choice(faulty_tables(rng))
+        for scene in (data, other):
+            new = image(scene, table)
+            expected = (b"", new.line + "\n") if isinstance(new, Refused) else (new, "")
+            same(f"map {table}", expected, run(mapping, sum(table, []), scene), scene)
+    print(f"{count} clean scenes and their images with one report, and as many refusals")
     return 0
 
 
 def main(words):
-    if words[:1] == ["selftest"]:
+    if words[:1] == ["selftest"] and len(words) == 3:
         return selftest(*map(int, words[1:]))
-    data = sys.stdin.buffer.read()
+    if words[:1] == ["compare"] and len(words) == 6:
+        return compare(*words[1:4], int(words[4]), int(words[5]))
     if words == ["clean"]:
-        scene = read_scene(data)
-        print(scene.line if isinstance(scene, Refused) else "clean " + ("yes" if is_clean(scene) else "no"))
+        print(said_clean(sys.stdin.buffer.read()))
     elif words[:1] == ["map"] and len(words) in (17, 18):
         numbers = list(map(int, words[1:]))
-        new = image(data, [numbers[k:k + 4] for k in range(0, 16, 4)], *numbers[16:])
+        new = image(sys.stdin.buffer.read(), [numbers[k:k + 4] for k in range(0, 16, 4)], *numbers[16:])
         print(new.line if isinstance(new, Refused) else f"image {len(new)} {new.hex()}")
     else:
         print(USAGE)

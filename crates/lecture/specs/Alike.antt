@@ -35,7 +35,8 @@ module _ (n : ℕ) (row row′ : ℕ → Row) (face : ℕ → Face) (same : Same
   pierced-same : (u v : ℕ) → Clear n low high u → Clear n low high v → u ≢ v → (f : Face) → FaceOf low high f → pierced n row u v f ≡ pierced n row′ u v f
   pierced-same u v cu cv d f h = same u v f (beside inside (cu .point) (cv .point) d (cu .out) (cv .out) f h)
 
-  module _ (first count : ℕ) (faces : (i : ℕ) → i < count → FaceOf low high (face (first + 1 + i))) (u v : ℕ) (cu : Clear n low high u) (cv : Clear n low high v) (d : u ≢ v) where
+  module _ (first count : ℕ) (faces : (i : ℕ) → i < count → FaceOf low high (face (first + 1 + i)))
+      (u v : ℕ) (cu : Clear n low high u) (cv : Clear n low high v) (d : u ≢ v) where
     pub masks-same : maskAgainst n row face u v first count ≡ maskAgainst n row′ face u v first count
     masks-same =
         mask-same (λ i. pierced n row u v (face (first + 1 + i))) (λ i. pierced n row′ u v (face (first + 1 + i))) count

@@ -1,75 +1,40 @@
--- A and B exchanged: a scene t whose A is the B of s and whose B is the A of s, with the same far point. Where s is clean, the masks of t are those of
--- s against the other letter. Assumes nothing.
-use mathlib.Core.Path.{_≡_, refl, sym, ap, ap₂, _∙_}
-use mathlib.Core.Logic.{_≢_}
-use mathlib.Core.Bool.{Bool, cond}
-use mathlib.Core.List.{List}
-use Prim.Native.Nat.{ℕ, zero, suc, _+_, _-_, _≤_, _<_}
-use native.Mathlib.Decide.{decLt}
-use native.Mathlib.Omega.{arith}
+-- A and B exchanged: a scene t whose A is the B of s and whose B is the A of s, with the same far point. Where no tie is broken in s, as where s is
+-- clean, t has the answers of s, told of the other letter: its masks, its listing pair by pair, its counts and its verdict. (With ties none of it need
+-- be so, since the points have other numbers in t and are shifted otherwise: `Ties` has a scene.) Assumes nothing.
+use mathlib.Core.Path.{_≡_}
+use mathlib.Core.Logic.{_≢_, _↔_}
+use mathlib.Core.Bool.{cond}
+use mathlib.Core.List.{List, _++_, map}
+use Prim.Native.Nat.{ℕ, _+_, _-_, _<_}
 use lib.Dec.{leb}
-use borrow.Author.Tests.{le-leb, lt-leb}
-use Rattle.laws.specs.Range.{countOf, over, fold, more}
-use Rattle.scene.specs.Limits.{limits}
+use lib.ListN.{length}
 use Rattle.scene.specs.Records.{vertsA, vertsB, facesA, facesB, verts}
 use Rattle.scene.specs.Tables.{tablesOf, face}
 use Rattle.judge.specs.Judge.{judged}
 use Rattle.judge.specs.declared.Judged.the-variants.{Accepted}
-use Rattle.scene.specs.Read.{points-are}
-use Rattle.rules.specs.Given.{counts, weighted, face-of-a, face-of-b}
+use Rattle.rules.specs.Write.{bytesOf}
 use Rattle.orient.specs.Signs.{Upto}
-use Rattle.orient.specs.Weighted.{Weighted}
-use Rattle.pierce.specs.Beside.{beside}
-use Rattle.pierce.specs.Faces.{maskAgainst, isOdd}
-use Rattle.listing.specs.Hits.{isInside, insideCount}
+use Rattle.listing.specs.Hits.{Hit, solidHits, insideCount, lowestInside}
+use Rattle.listing.specs.First.{firstOf}
+use Rattle.kernel.specs.Answers.{countedOf, crossOr, verdictNumber, verdictOf}
+use Rattle.kernel.specs.declared.counts.Counted.the-variants.{Counts}
+use Rattle.kernel.specs.declared.verdict.Verdict.{Verdict}
+use Rattle.kernel.specs.declared.verdict.Verdict.the-variants.{AInB, BInA, Apart}
 use Rattle.clean.specs.Clean.{Clean}
 use Rattle.lecture.specs.Alike.{Clear}
-use Rattle.lecture.specs.Lecture.{rowsOf, pointsOf, seen, inA, inB, maskA, maskB}
-use Rattle.lecture.specs.Renumbered.{Renumbering, renamed, mask-renamed}
+use Rattle.lecture.specs.Lecture.{rowsOf, pointsOf, seen, inA, inB, listed, maskA, maskB}
+use Rattle.lecture.specs.Renumbered.{Untied, renamed}
 
--- the number in t of point i of s: A's vertices come behind B's, and the far point stays the last
+-- of a things of A and b of B, the number in t of number i of s: A's come behind B's, and what is behind both stays
 unfoldable pub exchanged : (a b i : ℕ) → ℕ
 exchanged a b i = cond (leb i a) (b + i) (cond (leb i (a + b)) (i - a) i)
 
-module _ (a b i : ℕ) where
-  of-a : i ≤ a → exchanged a b i ≡ b + i
-  unfolding exchanged
-  of-a h = rw (le-leb i a h)
-
-  of-b : a < i → i ≤ a + b → exchanged a b i ≡ i - a
-  unfolding exchanged
-  of-b h k = rw (lt-leb i a h, le-leb i (a + b) k)
-
-  of-far : a + b < i → exchanged a b i ≡ i
-  unfolding exchanged
-  of-far h = rw (lt-leb i a (omega arith), lt-leb i (a + b) h)
-
-into : (a b i : ℕ) → Upto (a + b + 1) i → Upto (a + b + 1) (exchanged a b i)
-into a b i h = by (decLt a i) (decLt (a + b) i)
-  where
-    by : Dec (a < i) → Dec (a + b < i) → Upto (a + b + 1) (exchanged a b i)
-    by (no l) k = omega (arith, of-a a b i (omega arith))
-    by (yes l) (no k) = omega (arith, of-b a b i l (omega arith))
-    by (yes l) (yes k) = omega (arith, of-far a b i k)
-
-apart : (a b i j : ℕ) → Upto (a + b + 1) i → Upto (a + b + 1) j → i ≢ j → exchanged a b i ≢ exchanged a b j
-apart a b i j h k d e = by (decLt a i) (decLt (a + b) i) (decLt a j) (decLt (a + b) j)
-  where
-    by : Dec (a < i) → Dec (a + b < i) → Dec (a < j) → Dec (a + b < j) → ⊥
-    by (no x) y (no z) w = omega (arith, of-a a b i (omega arith), of-a a b j (omega arith))
-    by (no x) y (yes z) (no w) = omega (arith, of-a a b i (omega arith), of-b a b j z (omega arith))
-    by (no x) y (yes z) (yes w) = omega (arith, of-a a b i (omega arith), of-far a b j w)
-    by (yes x) (no y) (no z) w = omega (arith, of-b a b i x (omega arith), of-a a b j (omega arith))
-    by (yes x) (no y) (yes z) (no w) = omega (arith, of-b a b i x (omega arith), of-b a b j z (omega arith))
-    by (yes x) (no y) (yes z) (yes w) = omega (arith, of-b a b i x (omega arith), of-far a b j w)
-    by (yes x) (yes y) (no z) w = omega (arith, of-far a b i y, of-a a b j (omega arith))
-    by (yes x) (yes y) (yes z) (no w) = omega (arith, of-far a b i y, of-b a b j z (omega arith))
-    by (yes x) (yes y) (yes z) (yes w) = omega (arith, of-far a b i y, of-far a b j w)
-
--- ---- the two scenes
-
+-- a point, the far point the last, and a face
 abbrev pub to : List ℕ → ℕ → ℕ
 to s = exchanged (vertsA s) (vertsB s)
+
+abbrev pub faceTo : List ℕ → ℕ → ℕ
+faceTo s = exchanged (facesA s) (facesB s)
 
 pub record Exchanged (s t : List ℕ) : Type 0 where
   pub verts-a : vertsA t ≡ vertsB s
@@ -80,93 +45,48 @@ pub record Exchanged (s t : List ℕ) : Type 0 where
   pub of-a : (i : ℕ) → i < facesA s → face (tablesOf t) (facesB s + 1 + i) ≡ renamed (to s) (face (tablesOf s) (0 + 1 + i))
   pub of-b : (i : ℕ) → i < facesB s → face (tablesOf t) (0 + 1 + i) ≡ renamed (to s) (face (tablesOf s) (facesA s + 1 + i))
 
--- the masks of t against its A are those of s against its B, and the other way round; so are the numbers of enclosed vertices
+-- such a scene: the tables of s, B's before A's
+unfoldable pub exchangedBytes : List ℕ → List ℕ
+exchangedBytes s = bytesOf (record { a = tablesOf s .b; b = tablesOf s .a; far = tablesOf s .far })
+
+-- no tie is broken: none is between a face and two points that are none of its solid's vertices
+pub record NoTies (s : List ℕ) : Type 0 where
+  pub of-a : (i : ℕ) → i < facesA s → (u v : ℕ) → Clear (pointsOf s) 0 (vertsA s) u → Clear (pointsOf s) 0 (vertsA s) v → u ≢ v →
+      Untied (rowsOf s) u v (face (tablesOf s) (0 + 1 + i))
+  pub of-b : (i : ℕ) → i < facesB s → (u v : ℕ) → Clear (pointsOf s) (vertsA s) (verts s) u → Clear (pointsOf s) (vertsA s) (verts s) v → u ≢ v →
+      Untied (rowsOf s) u v (face (tablesOf s) (facesA s + 1 + i))
+
+-- a pair of s in the numbers of t; the listing of s so told: edges of B with faces of A come first
+abbrev pub carried : List ℕ → Hit → Hit
+carried s h = record { low = to s (h .low); high = to s (h .high); face = faceTo s (h .face) }
+
+unfoldable pub listedExchanged : List ℕ → List Hit
+listedExchanged s = map (carried s) (solidHits (seen s) (inB s) ++ solidHits (seen s) (inA s))
+
+-- the verdict of s so told: the first such pair; if none, the lowest vertex of B enclosed by A; if none, the lowest of A enclosed by B; else apart
+unfoldable pub enclosureExchanged : List ℕ → Verdict
+enclosureExchanged s =
+    let p : ℕ = lowestInside (seen s) (inA s) in
+    let q : ℕ = lowestInside (seen s) (inB s) in
+    cond (leb q (verts s)) (AInB (to s q)) (cond (leb p (vertsA s)) (BInA (to s p)) Apart)
+
+unfoldable pub verdictExchanged : List ℕ → Verdict
+verdictExchanged s = crossOr (firstOf (listedExchanged s)) (enclosureExchanged s)
+
 pub record SameExchanged (s t : List ℕ) : Type 0 where
   pub mask-a : (u v : ℕ) → Clear (pointsOf s) (vertsA s) (verts s) u → Clear (pointsOf s) (vertsA s) (verts s) v → u ≢ v →
       maskA t (to s u) (to s v) ≡ maskB s u v
   pub mask-b : (u v : ℕ) → Clear (pointsOf s) 0 (vertsA s) u → Clear (pointsOf s) 0 (vertsA s) v → u ≢ v →
       maskB t (to s u) (to s v) ≡ maskA s u v
-  pub inside-a : insideCount (seen t) (inA t) ≡ insideCount (seen s) (inB s)
-  pub inside-b : insideCount (seen t) (inB t) ≡ insideCount (seen s) (inA s)
+  pub listing : listed t ≡ listedExchanged s
+  pub counted : countedOf t ≡
+      Counts (record { pairs = length (listed s); «a_in_b» = insideCount (seen s) (inB s); «b_in_a» = insideCount (seen s) (inA s) })
+  pub verdict : verdictOf t ≡ verdictExchanged s
+  -- so both cut each other, or neither do; and both are apart, or neither are
+  pub cross : (verdictNumber (verdictOf t) ≡ 0) ↔ (verdictNumber (verdictOf s) ≡ 0)
+  pub apart : (verdictNumber (verdictOf t) ≡ 3) ↔ (verdictNumber (verdictOf s) ≡ 3)
 
--- a count of as many numbers from another one on
-count-from : (p q : ℕ → Bool) (n a b : ℕ) → ((i : ℕ) → i < n → p (a + i) ≡ q (b + i)) →
-    fold (λ k rest. more (p k) rest) 0 a n ≡ fold (λ k rest. more (q k) rest) 0 b n
-count-from p q zero a b h = refl
-count-from p q (suc n) a b h =
-    ap₂ more (ap p (omega arith) ∙ h 0 (omega arith) ∙ ap q (omega arith))
-    (count-from p q n (suc a) (suc b) (λ i l. ap p (omega arith) ∙ h (suc i) (omega arith) ∙ ap q (omega arith)))
-
-count-shifted : (p q : ℕ → Bool) (a e b f n : ℕ) → e - a ≡ n → f - b ≡ n → ((i : ℕ) → i < n → p (a + i) ≡ q (b + i)) → countOf p a e ≡ countOf q b f
-unfolding countOf over
-count-shifted p q a e b f n x y h = rw (x, y) (count-from p q n a b h)
-
-scene-weighted : (s : List ℕ) → judged s ≡ Accepted → Weighted (pointsOf s) (rowsOf s)
-scene-weighted s ok i a b = weighted limits s ok i a (omega (arith, points-are s))
-
-module _ (s t : List ℕ) (ok : judged s ≡ Accepted) (ok′ : judged t ≡ Accepted) (h : Exchanged s t) (clean : Clean (pointsOf s) (rowsOf s)) where
-  abbrev n : ℕ
-  n = pointsOf s
-
-  same-points : pointsOf t ≡ n
-  same-points = omega (arith, h .verts-a, h .verts-b)
-
-  renumbering : Renumbering n (to s) (rowsOf s) (rowsOf t)
-  renumbering = record { into = into (vertsA s) (vertsB s); apart = apart (vertsA s) (vertsB s); rows = h .rows }
-
-  six : 6 ≤ n
-  six = let c = counts limits s ok in omega (arith, c .vertices-a, c .vertices-b)
-
-  weights : Weighted n (rowsOf t)
-  weights i l b = scene-weighted t ok′ i l (omega (arith, same-points))
-
-  mask-a : (u v : ℕ) → Clear (pointsOf s) (vertsA s) (verts s) u → Clear (pointsOf s) (vertsA s) (verts s) v → u ≢ v →
-      maskA t (to s u) (to s v) ≡ maskB s u v
-  mask-a u v cu cv d =
-      (λ i. maskAgainst (same-points i) (rowsOf t) (face (tablesOf t)) (to s u) (to s v) 0 (h .faces-a i))
-      ∙ mask-renamed n (to s) (rowsOf s) (rowsOf t) renumbering clean six (scene-weighted s ok) weights (face (tablesOf s))
-      (face (tablesOf t)) (facesA s) 0 (facesB s) u v
-      (λ i b. beside (omega arith) (cu .point) (cv .point) d (cu .out) (cv .out) _ (face-of-b limits s ok (facesA s + 1 + i) (omega arith) (omega arith)))
-      (h .of-b)
-
-  mask-b : (u v : ℕ) → Clear (pointsOf s) 0 (vertsA s) u → Clear (pointsOf s) 0 (vertsA s) v → u ≢ v →
-      maskB t (to s u) (to s v) ≡ maskA s u v
-  mask-b u v cu cv d =
-      (λ i. maskAgainst (same-points i) (rowsOf t) (face (tablesOf t)) (to s u) (to s v) (h .faces-a i) (h .faces-b i))
-      ∙ mask-renamed n (to s) (rowsOf s) (rowsOf t) renumbering clean six (scene-weighted s ok) weights (face (tablesOf s))
-      (face (tablesOf t)) 0 (facesB s) (facesA s) u v
-      (λ i b. beside (omega arith) (cu .point) (cv .point) d (cu .out) (cv .out) _ (face-of-a limits s ok (0 + 1 + i) (omega arith) (omega arith)))
-      (h .of-a)
-
-  far-same : pointsOf t ≡ to s n
-  far-same = same-points ∙ sym (of-far (vertsA s) (vertsB s) n (omega arith))
-
-  in-a : (i : ℕ) → i < vertsB s → isInside (seen t) (inA t) (0 + 1 + i) ≡ isInside (seen s) (inB s) (vertsA s + 1 + i)
-  unfolding isInside
-  in-a i b =
-      let u = vertsA s + 1 + i in
-      let e : 0 + 1 + i ≡ u - vertsA s = omega arith in
-      ap₂ (λ (u v : ℕ). isOdd (maskB t u v)) (e ∙ sym (of-b (vertsA s) (vertsB s) u (omega arith) (omega arith))) far-same
-      ∙ ap isOdd (mask-b u n (record { point = omega arith; out = λ h. omega arith }) (record { point = omega arith; out = λ h. omega arith }) (omega arith))
-
-  in-b : (i : ℕ) → i < vertsA s → isInside (seen t) (inB t) (vertsA t + 1 + i) ≡ isInside (seen s) (inA s) (0 + 1 + i)
-  unfolding isInside
-  in-b i b =
-      let u = 0 + 1 + i in
-      let e : vertsA t + 1 + i ≡ vertsB s + u = omega (arith, h .verts-a) in
-      ap₂ (λ (u v : ℕ). isOdd (maskA t u v)) (e ∙ sym (of-a (vertsA s) (vertsB s) u (omega arith))) far-same
-      ∙ ap isOdd (mask-a u n (record { point = omega arith; out = λ h. omega arith }) (record { point = omega arith; out = λ h. omega arith }) (omega arith))
-
-  pub exchange : SameExchanged s t
-  unfolding insideCount
-  exchange =
-      record {
-        mask-a = mask-a;
-        mask-b = mask-b;
-        inside-a =
-            count-shifted (isInside (seen t) (inA t)) (isInside (seen s) (inB s)) (0 + 1) (0 + 1 + vertsA t) (vertsA s + 1) (vertsA s + 1 + vertsB s) (vertsB s)
-            (omega (arith, h .verts-a)) (omega arith) in-a;
-        inside-b =
-            count-shifted (isInside (seen t) (inB t)) (isInside (seen s) (inA s)) (vertsA t + 1) (vertsA t + 1 + vertsB t) (0 + 1) (0 + 1 + vertsA s) (vertsA s)
-            (omega (arith, h .verts-b)) (omega arith) in-b;
-      }
+pub record Exchange : Type 0 where
+  pub untied : (s t : List ℕ) → judged s ≡ Accepted → judged t ≡ Accepted → Exchanged s t → NoTies s → SameExchanged s t
+  pub clean : (s : List ℕ) → judged s ≡ Accepted → Clean (pointsOf s) (rowsOf s) → NoTies s
+  pub written : (s : List ℕ) → judged s ≡ Accepted → (judged (exchangedBytes s) ≡ Accepted) × Exchanged s (exchangedBytes s)

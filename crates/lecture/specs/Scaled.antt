@@ -61,7 +61,8 @@ module _ (row : ℕ → Row) (a b c d i j k l : ℕ) where
 
   abbrev multiples : Powers ℤ
   multiples =
-      powers (pos 0) (pos 1) _+ℤ_ _-ℤ_ _*ℤ_ (multiple _*ℤ_ (pos i) (numbered (pointAt row a))) (multiple _*ℤ_ (pos j) (numbered (pointAt row b))) (multiple _*ℤ_ (pos k) (numbered (pointAt row c)))
+      powers (pos 0) (pos 1) _+ℤ_ _-ℤ_ _*ℤ_ (multiple _*ℤ_ (pos i) (numbered (pointAt row a))) (multiple _*ℤ_ (pos j) (numbered (pointAt row b)))
+      (multiple _*ℤ_ (pos k) (numbered (pointAt row c)))
       (multiple _*ℤ_ (pos l) (numbered (pointAt row d)))
 
   abbrev T : Powers ℤ

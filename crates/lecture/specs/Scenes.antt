@@ -28,7 +28,8 @@ use Rattle.kernel.specs.declared.verdict.Verdict.the-variants.{AInB, BInA, Apar
 use Rattle.lecture.specs.Alike.{Clear, SamePierced, masks-same, hits-same, counts-same, lowests-same}
 use Rattle.lecture.specs.Lecture.{rowsOf, pointsOf, seen, inA, inB, listed, maskA, maskB, SameShape, SameAnswers}
 
-module _ (s t : List ℕ) (ok : judged s ≡ Accepted) (ok′ : judged t ≡ Accepted) (shape : SameShape s t) (same : SamePierced (pointsOf s) (rowsOf s) (rowsOf t)) where
+module _ (s t : List ℕ) (ok : judged s ≡ Accepted) (ok′ : judged t ≡ Accepted) (shape : SameShape s t)
+    (same : SamePierced (pointsOf s) (rowsOf s) (rowsOf t)) where
   abbrev n : ℕ
   n = pointsOf s
 

@@ -41,7 +41,8 @@ module _ (n : ℕ) (m : Map) (row row′ : ℕ → Row) (image : MappedRows n m 
     D = det4 (row a) (row b) (row c) (row d)
 
     det-image : det4 (row′ a) (row′ b) (row′ c) (row′ d) ≡ D *ℤ determinantOf m
-    det-image = (λ i. det4 (image a (f .a-in) i) (image b (f .b-in) i) (image c (f .c-in) i) (image d (f .d-in) i)) ∙ det-mapped m (row a) (row b) (row c) (row d)
+    det-image = (λ i. det4 (image a (f .a-in) i) (image b (f .b-in) i) (image c (f .c-in) i) (image d (f .d-in) i))
+        ∙ det-mapped m (row a) (row b) (row c) (row d)
 
     nonzero : D ≢ pos 0
     nonzero z = clean a b c d f (c0-rows row a b c d ∙ z)
