@@ -1,0 +1,47 @@
+-- Its words, one after the other.
+use Rattle.render.specs.Put.{end-to-end}
+use borrow.Author.Needs.{needs}
+use Rattle.bench.proofs.said.usage.Statement.{statement}
+use Rattle.bench.proofs.said.usage.Tie as tie
+
+slice-aggregate-word : tie.Need-slice-aggregate-word
+slice-aggregate-word c = search needs
+
+word-requires : tie.Need-word-requires
+word-requires c κs = search needs
+
+next-number-requires : tie.Need-next-number-requires
+next-number-requires c κs = search needs
+
+slice-aggregate-next-word : tie.Need-slice-aggregate-next-word
+slice-aggregate-next-word c = search needs
+
+next-word-requires : tie.Need-next-word-requires
+next-word-requires c κs = search needs
+
+newline-requires : tie.Need-newline-requires
+newline-requires c κs = search needs
+
+same-length : tie.Need-same-length
+same-length c = search needs
+
+returns : tie.Need-returns
+returns c =
+    let r4 = c .before .before in
+    let r3 = r4 .before .before .before .before in
+    let r2 = r3 .before .before .before .before .before in
+    let r1 = r2 .before .before .before .before in
+    end-to-end (r1 .word .ensures) (end-to-end (r2 .next-number .ensures) (end-to-end (r3 .next-word .ensures) (r4 .newline .ensures)))
+
+pub usage-spec : {M : Type 1} → statement M
+usage-spec =
+    tie.close
+    (tie.spec
+    slice-aggregate-word
+    word-requires
+    next-number-requires
+    slice-aggregate-next-word
+    next-word-requires
+    newline-requires
+    same-length
+    returns)

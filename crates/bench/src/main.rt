@@ -1,0 +1,206 @@
+// Opens a bench from two scene files and makes the moves of the command line: each answer is a line, and the last line has both groups' counts.
+ghost use Prim.Native.Nat.{_+_, _<_};
+use benches::Answer;
+use benches::Answered;
+use benches::Bench;
+use benches::Group;
+use libc::STDERR_FILENO;
+use libc::STDOUT_FILENO;
+use lines::rows::least;
+use scene::Row;
+use scene::Scene;
+use words::Word;
+use words::number_at;
+
+mod said;
+
+// The first word of the first move, and how many words a move has: whose it is, and five numbers.
+const FIRST: usize = 3;
+
+const WORDS: usize = 6;
+
+enum Who {
+    Group(Group),
+    Lecturer,
+    Nobody,
+}
+
+fn who_at(i: usize) -> Who {
+    // A word that is longer than any name is read as none.
+    let mut w = [0u8; 8];
+    let n = os::arg(i, &mut w);
+    if check::same(&w[..n], b"one") {
+        return Who::Group(Group::One);
+    }
+    if check::same(&w[..n], b"two") {
+        return Who::Group(Group::Two);
+    }
+    if check::same(&w[..n], b"lecturer") {
+        return Who::Lecturer;
+    }
+    Who::Nobody
+}
+
+fn is_name(i: usize) -> bool {
+    let k = who_at(i);
+    match k {
+        Who::Group(_) => true,
+        Who::Lecturer => true,
+        Who::Nobody => false,
+    }
+}
+
+fn is_number(i: usize) -> bool {
+    let w = number_at(i);
+    match w {
+        Word::Number(_) => true,
+        Word::None => false,
+    }
+}
+
+// The first word that is wrong or missing, or 0.
+fn wrong_word(count: usize) -> usize {
+    if count < FIRST {
+        return count;
+    }
+    let mut i = FIRST;
+    while i < count {
+        let right = if i % WORDS == FIRST {
+            is_name(i)
+        } else {
+            is_number(i)
+        };
+        if !right {
+            return i;
+        }
+        i += 1;
+    }
+    if count % WORDS == FIRST { 0 } else { count }
+}
+
+fn value_at(i: usize) -> i64 {
+    let w = number_at(i);
+    match w {
+        Word::Number(z) => z,
+        Word::None => 0,
+    }
+}
+
+// A point's number: nothing has a number below 0, as nothing has 0.
+fn point_at(i: usize) -> usize {
+    let z = value_at(i);
+    if z < 0 {
+        return 0;
+    }
+    render::size(z)
+}
+
+// The move whose name is word i.
+fn moved(b: Bench, i: usize) -> Answered
+    requires { ⌜ i + 6 < 8388608 ⌝ }
+{
+    let p = point_at(i + 1);
+    let v = Row {
+        x: value_at(i + 2),
+        y: value_at(i + 3),
+        z: value_at(i + 4),
+        w: value_at(i + 5),
+    };
+    let Who::Group(g) = who_at(i) else {
+        return b.lecturer_move(p, v);
+    };
+    b.group_move(g, p, v)
+}
+
+fn say(a: Answer) {
+    // `refused` and two numbers, each of no more than 20 digits.
+    let mut out = [0u8; 50];
+    let n = said::answer(&mut out, a);
+    io::write_all(STDOUT_FILENO, &out[0..n]);
+}
+
+// The bench at the end.
+fn play(first: Bench, count: usize) -> Bench
+    requires { ⌜ count < 4194304 ⌝ }
+{
+    let mut b = first;
+    let mut i = FIRST;
+    while i < count {
+        let c = moved(b, i);
+        let a = c.answer;
+        say(a);
+        b = c.bench;
+        i += WORDS;
+    }
+    b
+}
+
+fn say_counts(b: Bench) {
+    let s = b.session(Group::One);
+    let t = b.session(Group::Two);
+    let mut out = [0u8; 140];
+    let n = said::counts(&mut out, s.counts, t.counts);
+    io::write_all(STDOUT_FILENO, &out[0..n]);
+}
+
+fn say_usage(k: usize) {
+    let mut out = [0u8; 160];
+    let n = said::usage(&mut out, k);
+    io::write_all(STDERR_FILENO, &out[0..n]);
+}
+
+// Reading nothing tells a file that can't be read from an empty one.
+fn is_readable(f: i32) -> bool {
+    if f < 0 {
+        return false;
+    }
+    let mut none = [0u8; 1];
+    libc::read(f, &mut none[..0]) >= 0
+}
+
+// The file that word i names, open; below 0 where it cannot be read.
+fn file_at(i: usize) -> i32 {
+    let mut name = [0u8; 4096];
+    let n = os::arg(i, &mut name);
+    let f = os::open_read(&name[..n]);
+    if !is_readable(f) {
+        os::fail(&name[..n]);
+        return -1;
+    }
+    f
+}
+
+// The bench of two open files, and the moves.
+fn run(f: i32, g: i32, count: usize)
+    requires { ⌜ count < 4194304 ⌝ }
+{
+    // One byte more than the longest scene tells that a file is too long.
+    let mut s = [0u8; Scene::LONGEST + 1];
+    let m = io::read_full(f, &mut s);
+    let mut t = [0u8; Scene::LONGEST + 1];
+    let n = io::read_full(g, &mut t);
+    let c = benches::open(&s[..m], &t[..n]);
+    let a = c.answer;
+    say(a);
+    let b = c.bench;
+    say_counts(play(b, count));
+}
+
+fn main() {
+    // No system passes on so many words.
+    let count = least(os::arg_count(), 4194303);
+    let k = wrong_word(count);
+    if k != 0 {
+        say_usage(k);
+        return;
+    }
+    let f = file_at(1);
+    if f < 0 {
+        return;
+    }
+    let g = file_at(2);
+    if g < 0 {
+        return;
+    }
+    run(f, g, count);
+}
