@@ -1,12 +1,13 @@
 """Object files: a pair of Geomview OFF texts and a far point, as a scene or a refusal, in unbounded whole numbers.
 
-    off.py FIRST SECOND X Y Z W          the scene's bytes, or the line `refused N P` on standard error
-    off.py compare PROGRAM... [SEED]     texts at random, against a program that takes the same words
+    off.py FIRST SECOND X Y Z W          the scene's bytes, or on standard error the line `refused N P` and one in words
+    off.py compare PROGRAM SEED COUNT    texts at random, against a program that takes the same words
 """
 
 import os
 import random
 import re
+import shlex
 import subprocess
 import sys
 import tempfile
@@ -116,12 +117,61 @@ def scene_of(first, second, far, room):
     return scene
 
 
+# ---- a refusal in words ---------------------------------------------------------------------
+
+RULES = {2: "a count outside its limits", 5: "a coordinate outside its limits",
+         6: "a weight outside its limits, or a vertex of weight 0", 7: "a corner that the text lacks, or two corners equal",
+         8: "a vertex in no face", 9: "an edge in an odd number of its solid's faces", 14: "four numbers that are all 0",
+         20: "outside the form of an OFF text", 21: "a face that is not a triangle"}
+
+
+def is_of_form(text):
+    try:
+        solid(text, 0)
+    except Refused:
+        return False
+    return True
+
+
+def spot(first, second, place):
+    """The text at fault, its line and its column."""
+    name, text, place = ("second", second, place - len(first)) if is_of_form(first) else ("first", first, place)
+    before = text[:place].split(b"\n")
+    return f"{name} text, line {len(before)}, column {len(before[-1]) + 1}"
+
+
+def record(first, second, place):
+    """What a record of the scene is about in the texts, from 0 as they count."""
+    if place < 2:
+        return ["the texts", "the far point"][place]
+    solids = [solid(first, 0), solid(second, 0)]
+    things = [f"vertex {i} (from 0) of the {name} text" for name, k in zip(("first", "second"), solids) for i in range(len(k[0]))]
+    things += [f"face {i} (from 0) of the {name} text" for name, k in zip(("first", "second"), solids) for i in range(len(k[1]))]
+    return things[place - 2]
+
+
+def words_of(first, second, number, place):
+    if number in (20, 21):
+        where = spot(first, second, place)
+    else:
+        where = record(first, second, place + (number == 8))
+    return f"{where}: {RULES[number]}\n".encode()
+
+
 def answer(first, second, far, room=65536):
     """What a program writes: on standard output, and on standard error."""
     try:
         return scene_of(first, second, far, room), b""
     except Refused as refused:
-        return b"", b"refused %d %d\n" % refused.args
+        return b"", b"refused %d %d\n" % refused.args + words_of(first, second, *refused.args)
+
+
+def text_of(rows, faces):
+    """A solid as a text: OFF, or 4OFF where a weight is not 1."""
+    numbers = 3 if all(row[3] == 1 for row in rows) else 4
+    lines = [["OFF" if numbers == 3 else "4OFF"], [len(rows), len(faces), 0]]
+    lines += [row[:numbers] for row in rows] + [[3, *(corner - 1 for corner in face)] for face in faces]
+    return "".join(" ".join(map(str, line)) + "\n" for line in lines).encode()
 
 
 # ---- texts at random ------------------------------------------------------------------------
@@ -131,7 +181,8 @@ BOX = [(0, 1, 3), (0, 3, 2), (4, 5, 7), (4, 7, 6), (0, 1, 5), (0, 5, 4),
        (2, 3, 7), (2, 7, 6), (0, 2, 6), (0, 6, 4), (1, 3, 7), (1, 7, 5)]
 ODD_WORDS = [b"-1", b"4", b"2", b"+3", b"1.0", b"-", b"--1", b"-0", b"000003", b"3\t", b"\r", b"3x", b"#x\n", b"",
              b"4294967296", b"4294967297", b"18446744073709551616", b"18446744073709551619", b"65536", b"257", b"256",
-             b"99999999999999999999999", b"4095", b"4096", b"-4096", b"16", b"17", b"-17", b"OFF", b"32768", b"-32769"]
+             b"99999999999999999999999", b"9" * 400, b"0" * 300 + b"3", b"-" + b"0" * 40 + b"7", b"3\r", b"0\t1",
+             b"4095", b"4096", b"-4096", b"16", b"17", b"-17", b"OFF", b"32768", b"-32769"]
 
 
 def random_text(rng):
@@ -150,35 +201,69 @@ def random_text(rng):
             case 0:
                 del words[where]
             case 1:
-                words.insert(where, rng.choice(ODD_WORDS))
+                words.insert(rng.choice([where, len(words)]), rng.choice(ODD_WORDS))
             case _:
                 words[where] = rng.choice(ODD_WORDS)
-    gaps = rng.choice([[b" "], [b"\n"], [b" ", b"\n", b"  \n ", b"#c 1\n", b" # OFF\n\n"]])
+    gaps = rng.choice([[b" "], [b"\n"], [b" ", b"\n", b"  \n ", b"#c 1\n", b" # OFF\n\n", b"#" + b"long " * 99 + b"\n"]])
     text = b"".join(word + rng.choice(gaps) for word in words)
     return rng.choice([b"", b"", b"# a solid\n", b" \n"]) + text + rng.choice([b"", b"", b"#end", b"\n"])
 
 
-def compare(program, seed, turns=400):
-    rng = random.Random(seed)
+def damaged(rng, text):
+    """A text with a byte lost, changed or put in, or with its end cut off; most stay as they are."""
+    where = rng.randrange(len(text))
+    match rng.randrange(12):
+        case 0:
+            return text[:where]
+        case 1:
+            return text[:where] + text[where + 1:]
+        case 2:
+            return text[:where] + bytes([rng.choice(b"\t\r\n #-0x\0\xff")]) + text[where + rng.randrange(2):]
+        case _:
+            return text
+
+
+def printed_by(program, words, data=b""):
+    ran = subprocess.run(shlex.split(program) + words, input=data, capture_output=True, check=False)
+    return ran.stdout, ran.stderr
+
+
+def pair_differs(program, names, texts, far):
+    """Whether a program writes otherwise of a pair of texts, or of the solids of their scene."""
+    expected, found = answer(*texts, far), printed_by(program, names + [str(n) for n in far])
+    asked = [(expected, found)]
+    if expected[0]:
+        for k, text in zip("12", texts):
+            asked.append(((text_of(*solid(text, 0)), b""), printed_by(program, ["--write", k], expected[0])))
+    for expected, found in asked:
+        if expected != found:
+            print(f"difference: {texts} {far}\nexpected {expected}\nfound {found}")
+            return True
+    return False
+
+
+def compare(program, seed, count):
+    """What a program writes of pairs of texts at random, on standard output and on standard error."""
+    rng, made = random.Random(seed), 0
     with tempfile.TemporaryDirectory() as folder:
         names = [os.path.join(folder, name) for name in ("first.off", "second.off")]
-        for _ in range(turns):
-            texts = [random_text(rng), random_text(rng)]
-            far = rng.choice([(100, 101, 103, 1), (0, 0, 1, 0), (0, 0, 0, 0), (4096, 0, 0, 1), (1, 2, 3, 17)]
+        for _ in range(count):
+            texts = [damaged(rng, random_text(rng)) for _ in names]
+            far = rng.choice([(100, 101, 103, 1), (0, 0, 1, 0), (0, 0, 0, 0), (4096, 0, 0, 1), (1, 2, 3, 17), (10 ** 30, 0, 0, 1)]
                              if rng.random() < 0.2 else [(1000, 1001, 1003, 1)])
             for name, text in zip(names, texts):
                 with open(name, "wb") as file:
                     file.write(text)
-            ran = subprocess.run(program + names + [str(n) for n in far], capture_output=True, check=False)
-            if (ran.stdout, ran.stderr) != answer(*texts, far):
-                sys.exit(f"differs: {texts} {far}\n{ran.stdout!r} {ran.stderr!r}\n{answer(*texts, far)}")
-    print(f"{turns} pairs of texts, alike")
+            if pair_differs(program, names, texts, far):
+                return 1
+            made += not answer(*texts, far)[1]
+    print(f"{count} pairs of texts alike, {made} of them scenes whose solids are written alike")
+    return 0
 
 
 def main(words):
-    if words[0] == "compare":
-        compare(words[1:-1], int(words[-1]))
-        return
+    if words[:1] == ["compare"] and len(words) == 4:
+        return compare(words[1], int(words[2]), int(words[3]))
     texts = []
     for name in words[:2]:
         with open(name, "rb") as file:
@@ -186,7 +271,8 @@ def main(words):
     out, err = answer(*texts, tuple(int(word) for word in words[2:6]))
     sys.stdout.buffer.write(out)
     sys.stderr.buffer.write(err)
+    return 0
 
 
 if __name__ == "__main__":
-    main(sys.argv[1:])
+    sys.exit(main(sys.argv[1:]))

@@ -9,7 +9,7 @@ use scene::read::byte;
 
 pub const LARGEST: usize = 18446744073709551615;
 
-fn is_digit(c: u8) -> bool
+pub fn is_digit(c: u8) -> bool
     ensures { λ r. ⌜ r ≡ isDigit c ⌝ }
 {
     if c < b'0' {

@@ -1,0 +1,75 @@
+// Why two texts make no scene, as two lines: the refusal's number and place, and in words what stands there and which rule it breaks.
+ghost use mathlib.Core.Path.{_≡_};
+ghost use Prim.Native.Nat.{_-_};
+ghost use Rattle.render.specs.Put.{Put};
+ghost use Rattle.faults.specs.Faults.{refusedLine, spotted, inTexts, wordsOf, faultOf};
+use crate::spots::spot_of;
+use objects::Fault;
+use render::newline;
+use render::next_number;
+use render::word;
+use texts::Reading;
+use texts::form;
+
+pub mod records;
+pub mod spots;
+
+pub fn refused(out: &mut [u8], at: usize, f: Fault) -> usize
+    ensures { λ p. ⌜ Put (now (out .entry)) at (refusedLine f) (now (out .exit)) p ⌝ }
+{
+    let p = word(out, at, b"refused");
+    let q = next_number(out, p, objects::number(f));
+    let e = next_number(out, q, objects::place(f));
+    newline(out, e)
+}
+
+// The byte at offset k of the text that is named.
+fn spotted(out: &mut [u8], at: usize, name: &[u8], text: &[u8], k: usize) -> usize
+    ensures { λ p. ⌜ Put (now (out .entry)) at (spotted (now (name .entry)) (now (text .entry)) k) (now (out .exit)) p ⌝ }
+{
+    let s = spot_of(text, k);
+    let p = word(out, at, name);
+    let q = next_number(out, p, s.line);
+    let r = word(out, q, b", column");
+    next_number(out, r, s.column)
+}
+
+pub fn minus(m: usize, n: usize) -> usize
+    ensures { λ r. ⌜ r ≡ m - n ⌝ }
+{
+    if m < n { 0 } else { m - n }
+}
+
+// The byte at offset k of two texts, of which the first is at fault or else the second. (The first's end is where the second starts.)
+fn in_texts(out: &mut [u8], at: usize, a: &[u8], b: &[u8], k: usize) -> usize
+    ensures { λ p. ⌜ Put (now (out .entry)) at (inTexts (now (a .entry)) (now (b .entry)) k) (now (out .exit)) p ⌝ }
+{
+    match form(a) {
+        Reading::At(_) => spotted(out, at, b"second text, line", b, minus(k, a.len())),
+        Reading::Outside(_) => spotted(out, at, b"first text, line", a, k),
+        Reading::Sides(_) => spotted(out, at, b"first text, line", a, k),
+    }
+}
+
+fn words(out: &mut [u8], at: usize, a: &[u8], b: &[u8], f: Fault) -> usize
+    ensures { λ p. ⌜ Put (now (out .entry)) at (wordsOf (now (a .entry)) (now (b .entry)) f) (now (out .exit)) p ⌝ }
+{
+    match f {
+        Fault::Outside(k) => {
+            let p = in_texts(out, at, a, b, k);
+            word(out, p, b": outside the form of an OFF text\n")
+        }
+        Fault::Sides(k) => {
+            let p = in_texts(out, at, a, b, k);
+            word(out, p, b": a face that is not a triangle\n")
+        }
+        Fault::OfScene(r) => records::words(out, at, a, b, r),
+    }
+}
+
+pub fn fault(out: &mut [u8], at: usize, a: &[u8], b: &[u8], f: Fault) -> usize
+    ensures { λ p. ⌜ Put (now (out .entry)) at (faultOf (now (a .entry)) (now (b .entry)) f) (now (out .exit)) p ⌝ }
+{
+    let p = refused(out, at, f);
+    words(out, p, a, b, f)
+}

@@ -1,0 +1,169 @@
+-- The laws of the stages, in the form in which a call's answer and a branch arrive. Assumes nothing.
+use Prim.Native.Nat.{ℕ, _+_, _<_, _≤_}
+use mathlib.Core.Path.{_≡_, refl, sym, ap, ap₂, _∙_}
+use mathlib.Core.List.{List, _++_}
+use mathlib.Core.Bool.{Bool, true, false, not, cond, _&&_}
+use native.Mathlib.Omega.{arith}
+use native.Mathlib.Decide.{decLt}
+use borrow.Author.Tests.{leb-true, le-leb, lt-leb, not-true, not-false}
+use lib.ListN.{length, take, drop}
+use lib.Dec.{leb}
+use Rattle.scene.specs.Limits.{limits, within}
+use Rattle.scene.specs.declared.Refusal as scene
+use Rattle.scene.specs.declared.Refusal.the-variants.{Counts, Buffer}
+use Rattle.judge.specs.Judge.{judged}
+use Rattle.judge.specs.declared.Judged.{Judged}
+use Rattle.judge.specs.declared.Judged.the-variants as judge
+use Rattle.items.specs.Numbers.{largest, atMost}
+use Rattle.items.specs.Laws.{at-most-low, at-most-high}
+use Rattle.texts.specs.Form.{verticesOf, facesOf, formOf}
+use Rattle.texts.specs.Placed.{form-placed}
+use Rattle.texts.specs.declared.Reading.{Reading}
+use Rattle.texts.specs.declared.Reading.the-variants as reading
+use Rattle.solids.specs.Fitted.{sceneOf}
+use Rattle.solids.specs.Bytes.{Small}
+use Rattle.solids.specs.declared.points.Point.{Point}
+use Rattle.objects.specs.Made.{afterText, afterJudge, countsFit, placed, judgedOf, countedOf, madeOf, leftBy, Makes}
+use Rattle.objects.specs.declared.Fault.the-variants.{Outside, Sides, OfScene}
+use Rattle.objects.specs.declared.Made.{Made}
+use Rattle.objects.specs.declared.Made.the-variants.{Scene, Refused}
+
+-- the same answer by another name
+makes-as : {m n r : Made} {s out out′ : List ℕ} → m ≡ n → Makes m s out out′ r → Makes n s out out′ r
+makes-as e g = record { answer = g .answer ∙ e; left = g .left }
+
+-- a refusal leaves the buffer as it is
+refuses : {m r : Made} {f : _} (s out : List ℕ) → r ≡ Refused f → r ≡ m → Makes m s out out r
+refuses s out e p = record { answer = p; left = ap (λ (r : Made). leftBy r s out) (sym e) }
+
+-- ---- a text
+
+module _ (base : ℕ) (rest : Made) {o x : Reading} (p : o ≡ x) (s out : List ℕ) where
+  pub text-goes-on : {k : ℕ} {r : Made} {out′ : List ℕ} → o ≡ reading.At k → Makes rest s out out′ r → Makes (afterText base x rest) s out out′ r
+  text-goes-on q g = makes-as (ap (λ (r : Reading). afterText base r rest) (sym q ∙ p)) g
+
+  pub text-outside : {k m : ℕ} → o ≡ reading.Outside k → m ≡ base + k → Makes (afterText base x rest) s out out (Refused (Outside m))
+  text-outside q e = refuses s out refl (ap (λ (m : ℕ). Refused (Outside m)) e ∙ ap (λ (r : Reading). afterText base r rest) (sym q ∙ p))
+
+  pub text-sides : {k m : ℕ} → o ≡ reading.Sides k → m ≡ base + k → Makes (afterText base x rest) s out out (Refused (Sides m))
+  text-sides q e = refuses s out refl (ap (λ (m : ℕ). Refused (Sides m)) e ∙ ap (λ (r : Reading). afterText base r rest) (sym q ∙ p))
+
+-- a fault's offset is within the text
+module _ (s : List ℕ) {o : Reading} (p : o ≡ formOf s) where
+  pub outside-within : {k : ℕ} → o ≡ reading.Outside k → k ≤ length s
+  outside-within q = rw (sym p ∙ q) at (form-placed s)
+
+  pub sides-within : {k : ℕ} → o ≡ reading.Sides k → k ≤ length s
+  sides-within q = rw (sym p ∙ q) at (form-placed s)
+
+-- ---- the judge, and the room
+
+module _ (t : List ℕ) (room : ℕ) {o : Judged} (p : o ≡ judged t) (s out : List ℕ) where
+  pub judge-accepts : {r : Made} {out′ : List ℕ} → o ≡ judge.Accepted → Makes (placed t room) s out out′ r → Makes (judgedOf t room) s out out′ r
+  unfolding judgedOf
+  judge-accepts q g = makes-as (ap (λ (j : Judged). afterJudge j (placed t room)) (sym q ∙ p)) g
+
+  pub judge-refuses : {f : scene.Refusal} → o ≡ judge.Refused f → Makes (judgedOf t room) s out out (Refused (OfScene f))
+  unfolding judgedOf
+  judge-refuses q = refuses s out refl (ap (λ (j : Judged). afterJudge j (placed t room)) (sym q ∙ p))
+
+module _ (s out : List ℕ) where
+  pub room-lacks : length out < length s → Makes (placed s (length out)) s out out (Refused (OfScene (Buffer (length s))))
+  unfolding placed
+  room-lacks h = refuses s out refl (sym (ap (λ (b : Bool). cond b (Scene (length s)) (Refused (OfScene (Buffer (length s))))) (lt-leb (length s) (length out) h)))
+
+  pub room-serves : {out′ : List ℕ} → length s ≤ length out → out′ ≡ s ++ drop (length s) out → Makes (placed s (length out)) s out out′ (Scene (length s))
+  unfolding placed
+  room-serves h e =
+      record {
+        answer = sym (ap (λ (b : Bool). cond b (Scene (length s)) (Refused (OfScene (Buffer (length s))))) (le-leb (length s) (length out) h));
+        left = e;
+      }
+
+-- ---- the counts
+
+pub fits-told : (low high n : ℕ) {c : ℕ} {o : Bool} → high < largest → c ≡ atMost largest n → o ≡ within low high c → o ≡ within low high n
+unfolding within
+fits-told low high n {c} h e p = p ∙ by (decLt largest n)
+  where
+    by : Dec (largest < n) → within low high c ≡ within low high n
+    by (yes k) =
+        let f : c ≡ largest = e ∙ at-most-high largest n (omega arith) in
+        (ap (λ (b : Bool). leb low c && b) (lt-leb c high (omega arith)) ∙ none (leb low c))
+        ∙ sym (ap (λ (b : Bool). leb low n && b) (lt-leb n high (omega arith)) ∙ none (leb low n))
+      where
+        none : (b : Bool) → (b && false) ≡ false
+        none true = refl
+        none false = refl
+    by (no k) = ap (within low high) (e ∙ at-most-low largest n (omega arith))
+
+and-first : (a b : Bool) → (a && b) ≡ true → a ≡ true
+and-first true b h = refl
+and-first false b h = h
+
+and-last : (a b : Bool) → (a && b) ≡ true → b ≡ true
+and-last true b h = h
+and-last false b h = cc
+
+pub fits-small : (s : List ℕ) {o : Bool} → o ≡ countsFit s → not o ≡ false → Small s
+unfolding countsFit within
+fits-small s {o} p q =
+    let h = sym p ∙ not-false o q in
+    let fewest = within (limits .leastVertices) (limits .mostVertices) (verticesOf s) in
+    let lowest = within (limits .leastFaces) (limits .mostFaces) (facesOf s) in
+    let v = and-last (leb (limits .leastVertices) (verticesOf s)) (leb (verticesOf s) (limits .mostVertices)) (and-first fewest lowest h) in
+    let f = and-last (leb (limits .leastFaces) (facesOf s)) (leb (facesOf s) (limits .mostFaces)) (and-last fewest lowest h) in
+    record { vertices = leb-true (verticesOf s) (limits .mostVertices) v; faces = leb-true (facesOf s) (limits .mostFaces) f }
+
+module _ (a b : List ℕ) (far : Point) (room : ℕ) (s out : List ℕ) {o : Bool} (p : o ≡ countsFit a) where
+  pub first-unfit : not o ≡ true → Makes (countedOf a b far room) s out out (Refused (OfScene Counts))
+  unfolding countedOf
+  first-unfit q =
+      refuses s out refl (ap (λ (t : Bool). cond (t && countsFit b) (judgedOf (sceneOf a b far) room) (Refused (OfScene Counts))) (sym (not-true o q) ∙ p))
+
+  module _ (q : not o ≡ false) {t : Bool} (e : t ≡ countsFit b) where
+    pub second-unfit : not t ≡ true → Makes (countedOf a b far room) s out out (Refused (OfScene Counts))
+    unfolding countedOf
+    second-unfit f =
+        refuses s out refl
+        (ap₂ (λ (x y : Bool). cond (x && y) (judgedOf (sceneOf a b far) room) (Refused (OfScene Counts))) (sym (not-false o q) ∙ p) (sym (not-true t f) ∙ e))
+
+    pub both-fit : {l : List ℕ} {r : Made} {out′ : List ℕ} → not t ≡ false → l ≡ sceneOf a b far → Makes (judgedOf l room) l out out′ r →
+        Makes (countedOf a b far room) (sceneOf a b far) out out′ r
+    unfolding countedOf
+    both-fit {l} {r} {out′} f d g =
+        makes-as (ap₂ (λ (x y : Bool). cond (x && y) (judgedOf (sceneOf a b far) room) (Refused (OfScene Counts))) (sym (not-false o q) ∙ p) (sym (not-false t f) ∙ e))
+        (rw d at g)
+
+-- ---- the scene's own bytes, and an offset in the first text
+
+pub own-count : (own : List ℕ) {n : ℕ} {l : List ℕ} → n ≡ length l → take n own ≡ l → n ≡ length (take n own)
+own-count own p q = p ∙ sym (ap length q)
+
+pub from-start : (k : ℕ) → k ≡ 0 + k
+from-start k = omega arith
+
+-- ---- a scene that was made has room
+
+module _ (room : ℕ) {n : ℕ} where
+  text-room : (base : ℕ) (x : Reading) (rest : Made) → (rest ≡ Scene n → n ≤ room) → afterText base x rest ≡ Scene n → n ≤ room
+  text-room base (reading.At k) rest h e = h e
+  text-room base (reading.Outside k) rest h e = let z : _≡_ {A = ℕ} 0 1 = cc in absurd (omega arith)
+  text-room base (reading.Sides k) rest h e = let z : _≡_ {A = ℕ} 0 1 = cc in absurd (omega arith)
+
+  judge-room : (x : Judged) (rest : Made) → (rest ≡ Scene n → n ≤ room) → afterJudge x rest ≡ Scene n → n ≤ room
+  judge-room judge.Accepted rest h e = h e
+  judge-room (judge.Refused r) rest h e = let z : _≡_ {A = ℕ} 0 1 = cc in absurd (omega arith)
+
+  test-room : (b : Bool) (x : Made) (f : scene.Refusal) → (b ≡ true → x ≡ Scene n → n ≤ room) → cond b x (Refused (OfScene f)) ≡ Scene n → n ≤ room
+  test-room true x f h e = h refl e
+  test-room false x f h e = let z : _≡_ {A = ℕ} 0 1 = cc in absurd (omega arith)
+
+  pub made-room : (a b : List ℕ) (far : Point) → madeOf a b far room ≡ Scene n → n ≤ room
+  unfolding countedOf judgedOf placed
+  made-room a b far e =
+      let s = sceneOf a b far in
+      text-room _ (formOf a) _ (text-room _ (formOf b) _ (test-room (countsFit a && countsFit b) _ Counts (λ _.
+      judge-room (judged s) _ (test-room (leb (length s) room) _ (Buffer (length s)) (λ h d.
+      let k : length s ≡ n = cc in
+      omega (arith, leb-true (length s) room h)))))) e

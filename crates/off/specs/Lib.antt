@@ -1,4 +1,0 @@
-pub mod Made
-pub mod Copy
-pub mod Laws
-pub mod Exact

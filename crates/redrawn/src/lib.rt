@@ -1,0 +1,1 @@
+// That a drawing reads back: theorems only.
