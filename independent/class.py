@@ -3,7 +3,8 @@
     class.py report < block                       prints the report of a block
     class.py merge < reports                      prints the report of all reports, end to end
     class.py selftest                             runs small blocks whose report is written here
-    class.py compare PROGRAM MERGE SEED COUNT     random blocks, the programs' prints against this one's
+    class.py blocks FOLDER SEED COUNT             writes random blocks into a folder
+    class.py compare PROGRAM MERGE SEED COUNT     random blocks, and sets of them; the programs' prints against this one's
 """
 
 import random
@@ -18,6 +19,7 @@ from scenes import random_scene
 MOST_BYTES = 65536
 WORDS = ["cross", "a-in-b", "b-in-a", "apart"]
 NUMBERS = [1, 2, 3, 4, 5, 6, 7, 8, 9, 14]
+REFUSED = "refused 23 0"
 LINES = ["scenes", *WORDS, *(f"refused {number}" for number in NUMBERS)]
 
 
@@ -59,12 +61,14 @@ def printed(counts, pairs):
 
 
 def report(block):
-    return ["refused 23 0"] if len(block) > MOST_BYTES else printed(*tally(block))
+    return [REFUSED] if len(block) > MOST_BYTES else printed(*tally(block))
 
 
 def merged(text):
-    """The report of all blocks whose reports these are."""
+    """The report of all blocks whose reports these are; refused where one of them is."""
     lines, sums, pairs = text.split("\n")[:-1], dict.fromkeys(LINES, 0), 0
+    if REFUSED in lines:
+        return [REFUSED]
     for start in range(0, len(lines), len(LINES) + 1):
         *counted, mean = lines[start:start + len(LINES) + 1]
         for line in counted:
@@ -108,6 +112,10 @@ def run():
         if said(block) != expected:
             print(f"expected {expected}, found {said(block)}")
             return 1
+    reports = ["\n".join(report(block)) + "\n" for block, _ in cases]
+    if merged("".join(reports[1:4]))[-1] != "mean 3 0 4" or merged("".join(reports)) != [REFUSED]:
+        print("reports are merged otherwise")
+        return 1
     print(f"{len(cases)} blocks as they should be")
     return 0
 
@@ -131,31 +139,94 @@ def random_block(rng):
     return block
 
 
+def ends_whole(block):
+    """Whether each scene of the block is whole, so that another block may follow."""
+    while block:
+        block = scene_at_front(block)[1]
+    return block is not None
+
+
 def printed_by(program, data):
     return subprocess.run(shlex.split(program), input=data, stdout=subprocess.PIPE, check=True).stdout.decode("latin-1")
 
 
-def compare(program, merge, seed, count):
-    """Each block's report; and the merge of all reports that are not refused."""
-    rng, reports = random.Random(seed), ""
+def differs(name, data, expected, found):
+    """Saves what the programs differ on, and says so."""
+    if expected == found:
+        return False
+    open(f"difference-{name}", "wb").write(data)
+    print(f"difference: saved as difference-{name}; expected\n{expected}found\n{found}", end="")
+    return True
+
+
+def compare_sets(program, merge, rng, blocks, reports, count):
+    """Sets of blocks: their reports merged; and, where they can stand end to end, the report of that block."""
+    end_to_end = 0
     for n in range(count):
-        block = random_block(rng)
-        expected, found = "\n".join(report(block)) + "\n", printed_by(program, block)
-        if expected != found:
-            open(f"difference-{seed}-{n}.block", "wb").write(block)
-            print(f"difference: saved as difference-{seed}-{n}.block; expected\n{expected}found\n{found}", end="")
+        chosen = rng.sample(range(len(blocks)), rng.randrange(6))
+        if n == 0:
+            chosen.append(len(blocks) - 1)
+        elif n % 2:
+            chosen = [k for k in chosen if ends_whole(blocks[k]) and len(blocks[k]) < 9000]
+        text = "".join(reports[k] for k in chosen).encode()
+        found = printed_by(merge, text)
+        if differs(f"{n}.reports", text, "\n".join(merged(text.decode())) + "\n", found):
+            return False
+        block = b"".join(blocks[k] for k in chosen)
+        if len(block) <= MOST_BYTES and all(ends_whole(blocks[k]) for k in chosen):
+            end_to_end += 1
+            if differs(f"{n}.block", block, printed_by(program, block), found):
+                return False
+    print(f"{count} sets of reports merged alike, {end_to_end} of them as blocks end to end")
+    return True
+
+
+def refuses(merge, reports):
+    """Texts that are not reports end to end: nothing is printed, and one line says where."""
+    text = "".join(reports)
+    wrong = [text[:-1], text + "x", text.replace("mean ", "mean", 1), text.replace("cross ", "cross  ", 1), text.replace("apart ", "apart -", 1)]
+    for broken in wrong:
+        done = subprocess.run(shlex.split(merge), input=broken.encode(), capture_output=True)
+        if done.stdout or done.stderr.count(b"\n") != 1 or not done.stderr.startswith(b"merge: byte "):
+            print(f"not refused in one line: {done.stdout + done.stderr}")
+            return False
+    print(f"{len(wrong)} texts refused")
+    return True
+
+
+def compare(program, merge, seed, count):
+    """Each block's report, the last one's too long; and sets of half as many, where there is a program that merges."""
+    rng, blocks, reports = random.Random(seed), [], []
+    for n in range(count):
+        blocks.append(random_block(rng) if n + 1 < count else bytes(MOST_BYTES + 1))
+        reports.append(printed_by(program, blocks[n]))
+        if differs(f"{seed}-{n}.block", blocks[n], "\n".join(report(blocks[n])) + "\n", reports[n]):
             return 1
-        reports += "" if expected.startswith("refused") else expected
-    if merge != "-" and printed_by(merge, reports.encode()) != "\n".join(merged(reports)) + "\n":
-        print("the reports end to end are merged otherwise")
-        return 1
     print(f"{count} blocks alike")
+    if merge == "-":
+        return 0
+    return 0 if compare_sets(program, merge, rng, blocks, reports, count // 2) and refuses(merge, reports) else 1
+
+
+def write_blocks(folder, seed, count):
+    """Small blocks, the last scene of some not whole."""
+    rng, scenes = random.Random(seed), []
+    while len(scenes) < 60:
+        scene = random_scene(rng)
+        if ends_whole(scene):
+            scenes.append(scene)
+    for n in range(count):
+        block = b"".join(rng.choices(scenes, k=rng.randrange(4)))
+        with open(f"{folder}/{n + 1:04}.block", "wb") as out:
+            out.write(block if rng.randrange(9) else block[:-1])
     return 0
 
 
 def main(words):
     if words == ["selftest"]:
         return run()
+    if words[:1] == ["blocks"] and len(words) == 4:
+        return write_blocks(words[1], int(words[2]), int(words[3]))
     if words[:1] == ["compare"] and len(words) == 5:
         return compare(words[1], words[2], int(words[3]), int(words[4]))
     data = sys.stdin.buffer.read()

@@ -1,0 +1,5 @@
+pub mod Merged
+pub mod Laws
+pub mod Lines
+pub mod Sheets
+pub mod SheetsProof
