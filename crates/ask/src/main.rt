@@ -90,11 +90,21 @@ fn read_scene(q: Asked, s: &mut [u8]) -> usize
     io::read_full(STDIN_FILENO, s)
 }
 
-fn main() {
+fn reply() {
     let engine = engine_asked();
     let q = question(engine);
     // One byte more than the longest scene tells that the input is too long.
     let mut s = [0u8; Scene::LONGEST + 1];
     let n = read_scene(q, &mut s);
     write_answer(engine, q, &s[..n]);
+}
+
+fn main() {
+    let mut none = [0u8; 1];
+    // Reading nothing tells an input that can't be read from an empty one.
+    if libc::read(STDIN_FILENO, &mut none[..0]) < 0 {
+        os::fail(b"ask: standard input");
+        return;
+    }
+    reply();
 }

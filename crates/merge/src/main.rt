@@ -42,7 +42,7 @@ fn answer(r: Reading, bytes: usize) {
     }
 }
 
-fn main() {
+fn merge_reports() {
     let mut piece = [0u8; 65536];
     let mut r = merged::nothing();
     let mut bytes = 0;
@@ -58,4 +58,14 @@ fn main() {
         left -= 1;
     }
     answer(r, bytes);
+}
+
+fn main() {
+    let mut none = [0u8; 1];
+    // Reading nothing tells an input that can't be read from an empty one.
+    if libc::read(STDIN_FILENO, &mut none[..0]) < 0 {
+        os::fail(b"merge: standard input");
+        return;
+    }
+    merge_reports();
 }

@@ -2,8 +2,8 @@
 use native.Mathlib.Omega.{arith}
 use lib.ListN.{length-take}
 use borrow.Author.Needs.{needs}
-use Rattle.ask.proofs.main.Statement.{statement}
-use Rattle.ask.proofs.main.Tie as tie
+use Rattle.ask.proofs.reply.Statement.{statement}
+use Rattle.ask.proofs.reply.Tie as tie
 
 engine-asked-requires : tie.Need-engine-asked-requires
 engine-asked-requires c κs = search needs
@@ -29,8 +29,8 @@ write-answer-requires c κs = search needs
 returns : tie.Need-returns
 returns c = search needs
 
-pub main-spec : {M : Type 1} → statement M
-main-spec =
+pub reply-spec : {M : Type 1} → statement M
+reply-spec =
     tie.close
     (tie.spec
     engine-asked-requires

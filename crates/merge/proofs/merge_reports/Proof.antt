@@ -5,8 +5,8 @@ use native.Mathlib.Omega.{arith}
 use lib.ListN.{length, length-take, length-drop}
 use borrow.Author.Needs.{needs}
 use Rattle.totals.specs.Branches.{fed-within}
-use Rattle.merge.proofs.main.Statement.{statement}
-use Rattle.merge.proofs.main.Tie as tie
+use Rattle.merge.proofs.merge_reports.Statement.{statement}
+use Rattle.merge.proofs.merge_reports.Tie as tie
 
 abbrev Inv-loop : tie.InvT-loop
 Inv-loop piece₀ r₀ bytes₀ left₀ piece r bytes left = (length piece ≡ 65536) × (bytes + 65536 * left ≤ 65536 * 140737488355328)
@@ -58,8 +58,8 @@ answer-requires c κs = search needs
 returns : tie.Need-returns Inv-loop μ-loop
 returns c = search needs
 
-pub main-spec : {M : Type 1} → statement M
-main-spec =
+pub merge-reports-spec : {M : Type 1} → statement M
+merge-reports-spec =
     tie.close
     (tie.spec
     Inv-loop
