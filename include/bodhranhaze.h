@@ -22,6 +22,31 @@
 extern "C" {
 #endif
 
+/* The limits of a scene, its longest length, and the places of the longest listing. */
+enum {
+    BODHRANHAZE_MOST_VERTICES = 48,
+    BODHRANHAZE_MOST_FACES = 96,
+    BODHRANHAZE_MOST_COORDINATE = 4095,
+    BODHRANHAZE_MOST_WEIGHT = 16,
+    BODHRANHAZE_LONGEST = 17 + 9 * 2 * BODHRANHAZE_MOST_VERTICES + 5 * 2 * BODHRANHAZE_MOST_FACES,
+    BODHRANHAZE_PLACES = 3 * 2 * BODHRANHAZE_MOST_FACES * BODHRANHAZE_MOST_FACES
+};
+
+/* The verdicts; the colours of the light; the places of the facts. */
+enum { BODHRANHAZE_CROSS, BODHRANHAZE_A_IN_B, BODHRANHAZE_B_IN_A, BODHRANHAZE_APART, BODHRANHAZE_REFUSED };
+enum { BODHRANHAZE_GREEN, BODHRANHAZE_AMBER, BODHRANHAZE_RED, BODHRANHAZE_DARK, BODHRANHAZE_UNCOUNTED = 16 };
+enum {
+    BODHRANHAZE_FACT_REFUSAL,
+    BODHRANHAZE_FACT_PLACE,
+    BODHRANHAZE_FACT_VERDICT,
+    BODHRANHAZE_FACT_PAIRS,
+    BODHRANHAZE_FACT_A_IN_B,
+    BODHRANHAZE_FACT_B_IN_A,
+    BODHRANHAZE_FACT_A_WORD,
+    BODHRANHAZE_FACT_B_WORD,
+    BODHRANHAZE_FACTS
+};
+
 /* The number of the scene's refusal, 1 to 9 or 14; 0 where it is accepted. */
 size_t bodhranhaze_refusal(const uint8_t *scene, size_t length);
 

@@ -5,7 +5,7 @@
 #include "bodhranhaze.h"
 #include "libc.h"
 
-enum { GREEN, AMBER, RED, DARK, UNCOUNTED = 16 };
+enum { GREEN = BODHRANHAZE_GREEN, AMBER = BODHRANHAZE_AMBER, RED = BODHRANHAZE_RED, DARK = BODHRANHAZE_DARK, UNCOUNTED = BODHRANHAZE_UNCOUNTED };
 enum { LONGEST = 2048, SCENES = 128, GUARD = 8, MOST = 1000000 };
 
 static struct { uint8_t bytes[LONGEST]; size_t length, colour; } scenes[SCENES];

@@ -5,12 +5,12 @@
 #include "bodhranhaze.h"
 #include "libc.h"
 
-enum { LONGEST = 2048, PLACES = 3 * 2 * 96 * 96, GUARD = 8, SCENES = 128 };
+enum { LONGEST = BODHRANHAZE_LONGEST + 1, PLACES = BODHRANHAZE_PLACES, FACTS = BODHRANHAZE_FACTS, GUARD = 8, SCENES = 128 };
 
 static struct { uint8_t bytes[LONGEST]; size_t length; } scenes[SCENES];
 static int scene_count;
 static uint16_t list[PLACES + GUARD], other[PLACES];
-static uint64_t facts[8 + GUARD];
+static uint64_t facts[FACTS + GUARD];
 
 static void expect(int holds, const char *what) {
     if (!holds) {
@@ -38,24 +38,24 @@ static void expect_alike(const uint8_t *scene, size_t length) {
     expect((size_t)__builtin_popcountll(facts[6]) == facts[4] && (size_t)__builtin_popcountll(facts[7]) == facts[5], "the words of the enclosed vertices");
     expect(bodhranhaze_listing(scene, length, other, PLACES) == pairs, "a listing's count");
     expect(memcmp(list, other, 6 * pairs) == 0, "the listing");
-    expect(is_kept(list + 3 * pairs, list + PLACES + GUARD) && is_kept(facts + 8, facts + 8 + GUARD), "something behind was written");
+    expect(is_kept(list + 3 * pairs, list + PLACES + GUARD) && is_kept(facts + FACTS, facts + FACTS + GUARD), "something behind was written");
 }
 
 static void survey(const uint8_t *scene, size_t length) {
     size_t refusal = bodhranhaze_refusal(scene, length);
     lend();
-    expect(bodhranhaze_survey(scene, length, list, PLACES, facts, 7) == 13, "seven places for facts");
-    expect(is_kept(list, list + PLACES) && is_kept(facts, facts + 8), "something was written under 13");
-    expect(bodhranhaze_survey(scene, length, list, PLACES, facts, 8) == refusal && facts[0] == refusal, "the refusal");
+    expect(bodhranhaze_survey(scene, length, list, PLACES, facts, FACTS - 1) == 13, "seven places for facts");
+    expect(is_kept(list, list + PLACES) && is_kept(facts, facts + FACTS), "something was written under 13");
+    expect(bodhranhaze_survey(scene, length, list, PLACES, facts, FACTS) == refusal && facts[BODHRANHAZE_FACT_REFUSAL] == refusal, "the refusal");
     expect_alike(scene, length);
     size_t pairs = (size_t)facts[3];
     expect(bodhranhaze_listing_refusal(scene, length, 3 * pairs) == refusal && bodhranhaze_inside_refusal(scene, length, 3) == (refusal ? refusal : 11),
            "why a question is refused");
     if (pairs == 0) return;
     lend();
-    expect(bodhranhaze_survey(scene, length, list, 3 * pairs - 1, facts, 8) == 10 && facts[0] == 10 && facts[1] == pairs, "a list one place too short");
+    expect(bodhranhaze_survey(scene, length, list, 3 * pairs - 1, facts, FACTS) == 10 && facts[0] == 10 && facts[1] == pairs, "a list one place too short");
     expect(is_kept(list, list + PLACES) && facts[3] == pairs, "something was written under 10");
-    bodhranhaze_survey(scene, length, list, PLACES, facts, 8);
+    bodhranhaze_survey(scene, length, list, PLACES, facts, FACTS);
 }
 
 static void print_report(const uint8_t *scene) {
