@@ -12,7 +12,7 @@ import subprocess
 import sys
 import tempfile
 
-from judge import COORDINATES, FACE_COUNTS, VERTEX_COUNTS, WEIGHTS, face_edges, scene_bytes
+from judge import COORDINATES, FACE_COUNTS, VERTEX_COUNTS, WEIGHTS, judge, scene_bytes
 
 ITEM = re.compile(rb"#[^\n]*|[^ \n#]+")
 UNSIGNED = re.compile(rb"[0-9]+\Z")
@@ -75,43 +75,28 @@ def judge_point(place, point, is_far):
         raise Refused(14, place)
 
 
-def judge_solids(far, solids):
-    """The scene's 2, 5 to 7 and 14 by record, 8 and 9."""
+def judge_numbers(far, solids):
+    """The scene's 2, and 5 to 7 and 14 by record: what numbers of any size may break."""
     for rows, faces in solids:
         if len(rows) not in VERTEX_COUNTS or len(faces) not in FACE_COUNTS:
             raise Refused(2, 0)
-    judge_point(1, far, True)
-    place = 2
-    for rows, _ in solids:
-        for row in rows:
-            judge_point(place, row, False)
-            place += 1
-    for rows, faces in solids:
-        for face in faces:
-            if any(not 1 <= corner <= len(rows) for corner in face) or len(set(face)) < 3:
-                raise Refused(7, place)
-            place += 1
-    point = 1
-    for rows, faces in solids:
-        used = {corner for face in faces for corner in face}
-        for vertex in range(1, len(rows) + 1):
-            if vertex not in used:
-                raise Refused(8, point)
-            point += 1
-    place = 2 + sum(len(rows) for rows, _ in solids)
-    for _, faces in solids:
-        edges = [edge for face in faces for edge in face_edges(face)]
-        for face in faces:
-            if any(edges.count(edge) % 2 for edge in face_edges(face)):
-                raise Refused(9, place)
-            place += 1
+    points = [far] + [row for rows, _ in solids for row in rows]
+    for place, point in enumerate(points, 1):
+        judge_point(place, point, place == 1)
+    corners = [(face, len(rows)) for rows, faces in solids for face in faces]
+    for place, (face, most) in enumerate(corners, 1 + len(points)):
+        if any(not 1 <= corner <= most for corner in face) or len(set(face)) < 3:
+            raise Refused(7, place)
 
 
 def scene_of(first, second, far, room):
     """The bytes of the scene that two texts and a far point denote, or a refusal."""
     solids = [solid(first, 0), solid(second, len(first))]
-    judge_solids(far, solids)
+    judge_numbers(far, solids)
     scene = scene_bytes(far, *solids[0], *solids[1])
+    refused = judge(scene)
+    if refused:
+        raise Refused(*refused)
     if len(scene) > room:
         raise Refused(13, len(scene))
     return scene

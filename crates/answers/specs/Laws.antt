@@ -7,13 +7,13 @@ use native.Mathlib.Numerals.{add-one}
 use native.Mathlib.Omega.{arith}
 use lib.ListN.{length, take, drop, set}
 use lib.Seq.{take-suc-set, take-all, take-at, drop-at, length-take-le}
-use Rattle.laws.specs.Lists.{run, run-append}
+use Rattle.laws.specs.Lists.{run-append}
 use Rattle.scene.specs.declared.Refusal.{Refusal}
 use Rattle.judge.specs.declared.Judged.{Judged}
 use Rattle.judge.specs.declared.Judged.the-variants.{Accepted, Refused}
 use Rattle.record.specs.Shown.{shown, refusal}
-use Rattle.pierce.specs.Faces.{valueOf}
-use Rattle.pierce.specs.declared.faces.Mask.{Mask}
+use Rattle.face_masks.specs.Faces.{valueOf}
+use Rattle.face_masks.specs.declared.Mask.{Mask}
 use Rattle.kernel.specs.Answers.{faces-are, IsListed}
 use Rattle.kernel.specs.declared.lists.Listed.{Listed}
 use Rattle.kernel.specs.declared.masks.Masked.the-variants as masked

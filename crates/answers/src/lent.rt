@@ -8,12 +8,19 @@ ghost use Rattle.answers.specs.Said.{listedLine};
 ghost use Rattle.answers.specs.Lent.{pattern, filled, isTouched, areTouched, IsLent, rowsOf, lentText};
 use engine::Engine;
 use kernel::lists::Listed;
+use kernel::lists::MOST_PAIRS;
 use kernel::lists::listing;
 use lines::pairs;
 use lines::refused;
+use lines::rows::ROW;
 use lines::rows::kept;
 use lines::rows::least;
 use lines::rows::rows;
+
+// Room for the longest listing, and for its rows with the lines beside them.
+pub const PLACES: usize = 3 * MOST_PAIRS;
+
+pub const TEXT: usize = ROW * MOST_PAIRS + 4096;
 
 // What stands at place i.
 fn pattern(i: usize) -> u16

@@ -1,15 +1,15 @@
 // What each question about a scene is answered with, as a line in a lent buffer at a place; the answer is the place behind. Every byte is told by
 // the scene and the question.
-ghost use mathlib.Core.List.{[], _∷_};
 ghost use Rattle.render.specs.Text.{ascii, line};
 ghost use Rattle.render.specs.Put.{Put};
 ghost use Rattle.judge.specs.Judge.{judged};
 ghost use Rattle.record.specs.Shown.{shown, refusal};
-ghost use Rattle.pierce.specs.Faces.{valueOf};
+ghost use Rattle.face_masks.specs.Faces.{valueOf};
 ghost use Rattle.kernel.specs.Answers.{faces-are, signOf, piercesOf, maskedOf, enclosedOf, verdictOf, countedOf};
 ghost use Rattle.lines.specs.Lines.{judgedLine, signLine, answerLine, foundLine, countsLine};
 ghost use Rattle.answers.specs.Said.{wordsLine, shownLine, listingLine};
 use engine::Engine;
+use face_masks::Mask;
 use judge::Judged;
 use kernel::counts;
 use kernel::counts::Counted;
@@ -20,10 +20,11 @@ use kernel::verdict;
 use lines::answers;
 use lines::refused;
 use lines::rows;
-use lines::verdicts;
-use pierce::faces::Mask;
 
+mod found;
 pub mod lent;
+pub mod reports;
+mod told;
 
 pub fn judge(s: &[u8], out: &mut [u8], at: usize) -> usize
     ensures { λ p. ⌜ Put (now (out .entry)) at (line (judgedLine (judged (now (s .entry))))) (now (out .exit)) p ⌝ }
@@ -36,7 +37,7 @@ pub fn sign(s: &[u8], a: usize, b: usize, c: usize, d: usize, out: &mut [u8], at
     ensures { λ p. ⌜ Put (now (out .entry)) at (line (signLine (signOf (now (s .entry)) a b c d))) (now (out .exit)) p ⌝ }
 {
     let x = points::sign(s, a, b, c, d);
-    answers::sign(out, at, x)
+    told::sign(out, at, x)
 }
 
 pub fn pierces(
@@ -51,13 +52,13 @@ pub fn pierces(
     ensures { λ p. ⌜ Put (now (out .entry)) at (line (answerLine (ascii "pierces") (piercesOf (now (s .entry)) u v f))) (now (out .exit)) p ⌝ }
 {
     let x = points::pierces(engine, s, u, v, f);
-    answers::pierces(out, at, x)
+    told::pierces(out, at, x)
 }
 
 fn faces(m: Mask, ones: usize, out: &mut [u8], at: usize) -> usize
     ensures { λ p. ⌜ Put (now (out .entry)) at (line (wordsLine (faces-are (valueOf m) ones))) (now (out .exit)) p ⌝ }
 {
-    answers::mask(out, at, Masked::Faces(m, ones))
+    told::mask(out, at, Masked::Faces(m, ones))
 }
 
 pub fn mask(
@@ -82,14 +83,14 @@ pub fn enclosed(engine: Engine, s: &[u8], i: usize, out: &mut [u8], at: usize) -
     ensures { λ p. ⌜ Put (now (out .entry)) at (line (answerLine (ascii "enclosed") (enclosedOf (now (s .entry)) i))) (now (out .exit)) p ⌝ }
 {
     let x = masks::enclosed(engine, s, i);
-    answers::enclosed(out, at, x)
+    told::enclosed(out, at, x)
 }
 
 pub fn verdict(engine: Engine, s: &[u8], out: &mut [u8], at: usize) -> usize
     ensures { λ p. ⌜ Put (now (out .entry)) at (line (foundLine (verdictOf (now (s .entry))))) (now (out .exit)) p ⌝ }
 {
     let v = verdict::verdict_of(engine, s);
-    verdicts::verdict(out, at, v)
+    found::verdict(out, at, v)
 }
 
 pub fn count(engine: Engine, s: &[u8], out: &mut [u8], at: usize) -> usize
@@ -110,7 +111,7 @@ pub fn shown(s: &[u8], k: usize, out: &mut [u8], at: usize) -> usize
     }
 }
 
-// How many pairs there are. The listing's rows follow it (`lines::reports::part`).
+// How many pairs there are. The listing's rows follow it (`reports::part`).
 pub fn listing(engine: Engine, s: &[u8], out: &mut [u8], at: usize) -> usize
     ensures { λ p. ⌜ Put (now (out .entry)) at (line (listingLine (countedOf (now (s .entry))))) (now (out .exit)) p ⌝ }
 {

@@ -5,20 +5,16 @@ use crate::words::Asked;
 use crate::words::engine_asked;
 use crate::words::question;
 use answers::lent;
+use answers::lent::PLACES;
+use answers::lent::TEXT;
+use answers::reports;
 use engine::Engine;
-use kernel::lists::MOST_PAIRS;
 use libc::STDIN_FILENO;
 use libc::STDOUT_FILENO;
-use lines::reports;
 use render::word;
 use scene::Scene;
 
 mod words;
-
-// Room for the longest listing, of three numbers and at most 18 bytes a pair, and for a line before and behind it.
-const PLACES: usize = 3 * MOST_PAIRS;
-
-const TEXT: usize = 18 * MOST_PAIRS + 64;
 
 fn usage(out: &mut [u8]) -> usize
     ensures { λ p. ⌜ p ≤ length (now (out .exit)) ⌝ }
@@ -71,10 +67,13 @@ fn write_rows(engine: Engine, s: &[u8], out: &mut [u8]) {
     io::write_all(STDOUT_FILENO, &out[..end]);
 }
 
+// A write that fails is the last.
 fn write_answer(engine: Engine, q: Asked, s: &[u8]) {
     let mut out = [0u8; TEXT];
     let end = answer(engine, q, s, &mut out);
-    io::write_all(STDOUT_FILENO, &out[..end]);
+    if !io::write_all(STDOUT_FILENO, &out[..end]) {
+        return;
+    }
     if let Asked::Listing = q {
         write_rows(engine, s, &mut out);
     }

@@ -5,20 +5,20 @@ use mathlib.Core.Bool.{Bool, true, false, cond, not, _&&_}
 use mathlib.Core.List.{List}
 use Prim.Native.Nat.{ℕ, _+_, _*_, _≤_, _<_}
 use native.Mathlib.Omega.{arith}
-use borrow.Author.Tests.{le-leb, lt-leb, eqb-true, ne-eqb, not-true, not-false}
-use lib.Dec.{leb, eqb}
-use lib.ListN.{length, take, getD}
+use borrow.Author.Tests.{le-leb, lt-leb, ne-eqb, not-true, not-false}
+use lib.Dec.{eqb}
+use lib.ListN.{length, take}
 use lib.Seq.{getD-take, length-take-le}
-use Rattle.scene.specs.Limits.{Limits, limits, within}
+use Rattle.scene.specs.Limits.{limits}
 use Rattle.scene.specs.Bytes.{byteAt, twoAt}
-use Rattle.scene.specs.Records.{vertsA, vertsB, facesA, facesB, lengthOf, markSC}
+use Rattle.scene.specs.Records.{lengthOf, markSC}
 use Rattle.scene.specs.Refusal.{numberOf}
 use Rattle.scene.specs.declared.Refusal.{Refusal}
 use Rattle.scene.specs.declared.Refusal.the-variants.{Opening, Counts, Length}
 use Rattle.judge.specs.Judge.{rule, andThen, opens, countsOk, headerFault, judgedAt, judged}
 use Rattle.judge.specs.declared.Judged.{Judged}
 use Rattle.judge.specs.declared.Judged.the-variants.{Accepted, Refused}
-use Rattle.block.specs.Block.{headed, whole, sizeOf, endAt}
+use Rattle.block.specs.Block.{headed, whole, sizeOf}
 
 -- the first n bytes of s have the header of s
 module _ (s : List ℕ) (n : ℕ) (m : 6 ≤ n) (h : n ≤ length s) where

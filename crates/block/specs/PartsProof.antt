@@ -1,11 +1,11 @@
 -- The proofs of `Parts`: by the cases of a header, and along the scenes. Assumes nothing.
 use mathlib.Core.Path.{_≡_, refl, sym, ap, ap₂, _∙_, subst}
-use mathlib.Core.Bool.{Bool, true, false, cond, _&&_}
+use mathlib.Core.Bool.{Bool, true, false, _&&_}
 use mathlib.Core.List.{List, [], _∷_, _++_}
-use Prim.Native.Nat.{ℕ, zero, suc, _+_, _≤_, _<_}
+use Prim.Native.Nat.{ℕ, zero, suc, _≤_, _<_}
 use native.Mathlib.Omega.{arith}
 use borrow.Author.Tests.{le-leb, lt-leb, leb-true, eq-eqb, ne-eqb}
-use lib.Dec.{leb, eqb}
+use lib.Dec.{leb}
 use lib.ListN.{length, take, drop, length-append, length-drop}
 use lib.Seq.{take-length, drop-length, take-append-le, drop-append-le, take-append-seam}
 use denote.Ref.{RefT, now}
@@ -18,8 +18,7 @@ use Rattle.judge.specs.declared.Judged.the-variants.{Accepted, Refused}
 use Rattle.block.specs.Block.{headed, whole, sizeOf, sceneOf, behind, scenesOf, endAt}
 use Rattle.block.specs.Scenes.{size-most, size-some, scenes-end, scenes-next, byte-left, behind-here}
 use Rattle.block.specs.Header.{front-long, opens-same, counts-same, length-same}
-use Rattle.block.specs.Parts.{Last, Scenes, Runs, over, then, Ended, Parts}
-use Rattle.block.specs.Reading.{Handed}
+use Rattle.block.specs.Parts.{Scenes, Runs, over, then, Ended, Parts}
 use Rattle.block.specs.declared.Reader.{Reader}
 
 -- ---- the last scene
@@ -127,7 +126,8 @@ runs r ss (then {r′ = r′} {s = s} {ss = tail} l h more) =
     let b = now (r .block) in
     let here : drop (r′ .at) (now (r′ .block)) ≡ behind (drop (r .at) b) =
     ap₂ (λ (n : ℕ) (x : RefT (List ℕ)). drop n (now x)) (h .at) (h .block) ∙ sym (behind-here b (r .at) l (endAt b (r .at)) refl) in
-    ap₂ (λ (x : List ℕ) (xs : List (List ℕ)). x ∷ xs) (h .scene) (runs r′ tail more ∙ ap scenesOf here) ∙ sym (scenes-next (drop (r .at) b) (byte-left b (r .at) l))
+    ap₂ (λ (x : List ℕ) (xs : List (List ℕ)). x ∷ xs) (h .scene) (runs r′ tail more ∙ ap scenesOf here)
+    ∙ sym (scenes-next (drop (r .at) b) (byte-left b (r .at) l))
 
 -- ---- two blocks end to end
 

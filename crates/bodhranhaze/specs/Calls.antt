@@ -62,7 +62,8 @@ unfolding answered
 number-of f refuse h Accepted x = refl
 number-of f refuse h (Refused r) x = h r
 
-pub pairs-are : (s : List ℕ) {o x : Listed} {n : ℕ} → o ≡ answered listed.Refused (judged s) (listed.Count (length (listingIn (viewOf s)))) → o ≡ x → n ≡ counted x →
+pub pairs-are : (s : List ℕ) {o x : Listed} {n : ℕ} →
+    o ≡ answered listed.Refused (judged s) (listed.Count (length (listingIn (viewOf s)))) → o ≡ x → n ≡ counted x →
     n ≡ pairsOf s
 unfolding pairsOf
 pairs-are s e q p = by-case counted e q p ∙ number-of counted listed.Refused (λ r. refl) (judged s) (listed.Count (length (listingIn (viewOf s))))

@@ -7,13 +7,13 @@ use native.Mathlib.Omega.{arith}
 use borrow.Author.Tests.{le-leb, lt-leb, le-ltb, lt-ltb}
 use lib.Dec.{ltb, leb}
 use lib.ListN.{length, drop, set}
-use Rattle.scene.specs.View.{View, viewOf}
+use Rattle.scene.specs.View.{viewOf}
 use Rattle.scene.specs.declared.Refusal.{Refusal}
 use Rattle.scene.specs.declared.Refusal.the-variants.{Room}
 use Rattle.judge.specs.Judge.{rule, andThen, judged}
 use Rattle.judge.specs.declared.Judged.{Judged}
 use Rattle.judge.specs.declared.Judged.the-variants.{Accepted, Refused}
-use Rattle.kernel.specs.Answers.{answered, listingIn, countsIn, listFault, heldIn, verdictNumber}
+use Rattle.kernel.specs.Answers.{answered, countsIn, listFault, heldIn, verdictNumber}
 use Rattle.kernel.specs.Facts.{factsIn, IsSurvey}
 use Rattle.kernel.specs.declared.facts.Facts.{Facts}
 use Rattle.kernel.specs.declared.facts.Surveyed.{Surveyed}
@@ -68,7 +68,8 @@ put-eight (_ ∷ []) a b c e f g h i l = absurd (omega arith)
 put-eight [] a b c e f g h i l = absurd (omega arith)
 
 pub eight-told : (d : List ℕ) (number place : ℕ) (f : Facts) {v : ℕ} {d′ : List ℕ} → 8 ≤ length d → v ≡ verdictNumber (f .verdict) →
-    d′ ≡ set (set (set (set (set (set (set (set d 0 number) 1 place) 2 v) 3 (f .counts .pairs)) 4 (f .counts .«a_in_b»)) 5 (f .counts .«b_in_a»)) 6 (f .«a_inside»)) 7 (f .«b_inside») →
+    d′ ≡ set (set (set (set (set (set (set (set d 0 number) 1 place) 2 v) 3 (f .counts .pairs)) 4 (f .counts .«a_in_b»)) 5
+    (f .counts .«b_in_a»)) 6 (f .«a_inside»)) 7 (f .«b_inside») →
     d′ ≡ told number place f d
 eight-told d number place f l e p =
     p ∙ put-eight d number place _ _ _ _ _ _ l

@@ -58,8 +58,12 @@ module _ (s : List ℕ) (places : ℕ) {o : Judged} (e : o ≡ judged s) where
 
     pub why-room : places / 3 < n → 10 ≡ listingRefusal s places
     unfolding roomFault rule
-    why-room h = sym (ap (λ b. refusalNumber (rule b (Room (length (listingIn (viewOf s)))) Accepted)) (lt-leb (3 * length (listingIn (viewOf s))) places (omega (arith, count-is)))) ∙ told
+    why-room h =
+        sym (ap (λ b. refusalNumber (rule b (Room (length (listingIn (viewOf s)))) Accepted))
+        (lt-leb (3 * length (listingIn (viewOf s))) places (omega (arith, count-is)))) ∙ told
 
     pub why-none : n ≤ places / 3 → 0 ≡ listingRefusal s places
     unfolding roomFault rule
-    why-none h = sym (ap (λ b. refusalNumber (rule b (Room (length (listingIn (viewOf s)))) Accepted)) (le-leb (3 * length (listingIn (viewOf s))) places (omega (arith, count-is)))) ∙ told
+    why-none h =
+        sym (ap (λ b. refusalNumber (rule b (Room (length (listingIn (viewOf s)))) Accepted))
+        (le-leb (3 * length (listingIn (viewOf s))) places (omega (arith, count-is)))) ∙ told

@@ -2,8 +2,6 @@
 ghost use mathlib.Core.Path.{_≡_};
 ghost use Prim.Native.Nat.{_≤_};
 ghost use lib.ListN.{length};
-ghost use Rattle.scene.specs.Refusal.{numberOf, placeOf};
-ghost use Rattle.bodhranhaze.specs.Calls.{refusalNumber, refusalPlace};
 ghost use Rattle.bodhranhaze.specs.Facts.{roomFor, told, nothingKnown, Told, IsFacts};
 use crate::number_of;
 use crate::place_of;

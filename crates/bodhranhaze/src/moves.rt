@@ -1,5 +1,4 @@
 // Changes to a scene in place, for C: 0 where the scene was changed; else the number of a refusal, the scene's own first, and no byte is changed.
-ghost use mathlib.Core.Path.{_≡_};
 ghost use Prim.Native.Nat.{_-_};
 ghost use Rattle.scene.specs.Write.{rowPut};
 ghost use Rattle.session.specs.Session.{turnedIn};
@@ -12,7 +11,8 @@ use session::place;
 // A vertex, by its point number.
 #[no_mangle]
 pub extern "C" fn bodhranhaze_move(s: &mut [u8], p: usize, x: i64, y: i64, z: i64, w: i64) -> usize
-    ensures { λ r. ⌜ IsAnswered (moveFault (now (s .entry)) p (rowOf x y z w)) (now (s .entry)) (rowPut (now (s .entry)) p (rowOf x y z w)) (now (s .exit)) r ⌝ }
+    ensures { λ r. ⌜ IsAnswered (moveFault (now (s .entry)) p (rowOf x y z w)) (now (s .entry)) (rowPut (now (s .entry)) p (rowOf x y z w))
+        (now (s .exit)) r ⌝ }
 {
     let v = Row {
         x: x,
@@ -30,7 +30,8 @@ pub extern "C" fn bodhranhaze_move(s: &mut [u8], p: usize, x: i64, y: i64, z: i6
 // The far point.
 #[no_mangle]
 pub extern "C" fn bodhranhaze_move_far(s: &mut [u8], x: i64, y: i64, z: i64, w: i64) -> usize
-    ensures { λ r. ⌜ IsAnswered (moveFarFault (now (s .entry)) (rowOf x y z w)) (now (s .entry)) (rowPut (now (s .entry)) 0 (rowOf x y z w)) (now (s .exit)) r ⌝ }
+    ensures { λ r. ⌜ IsAnswered (moveFarFault (now (s .entry)) (rowOf x y z w)) (now (s .entry)) (rowPut (now (s .entry)) 0 (rowOf x y z w))
+        (now (s .exit)) r ⌝ }
 {
     let v = Row {
         x: x,

@@ -65,5 +65,6 @@ take-once κs a r q e f x y = (x .answer ∙ sym (y .answer), x .held ∙ sym (y
 pub light-once : (κs a r q e f : _) → light.Post κs a r e → light.Post κs a q f → (r ≡ q) × (now (e .1 .0) ≡ now (f .1 .0))
 light-once κs a r q e f x y = (x .answer ∙ sym (y .answer), x .held ∙ sym (y .held))
 
-pub survey-once : (κs a r q e f : _) → survey.Post κs a r e → survey.Post κs a q f → (r ≡ q) × (now (e .1 .0) ≡ now (f .1 .0)) × (now (e .1 .1 .0) ≡ now (f .1 .1 .0))
+pub survey-once : (κs a r q e f : _) → survey.Post κs a r e → survey.Post κs a q f →
+    (r ≡ q) × (now (e .1 .0) ≡ now (f .1 .0)) × (now (e .1 .1 .0) ≡ now (f .1 .1 .0))
 survey-once κs a r q e f x y = (x .answer ∙ sym (y .answer), x .held ∙ sym (y .held), x .facts ∙ sym (y .facts))

@@ -1,18 +1,16 @@
 -- A tally as it grows: what is counted so far, and what the rest of the block adds, make the whole. Assumes nothing.
 use mathlib.Core.Path.{_≡_, refl, sym, ap, ap₂, _∙_}
-use mathlib.Core.Logic.{_≢_}
 use mathlib.Core.Bool.{Bool, true, false, cond, _||_}
 use mathlib.Core.List.{List, [], _∷_, map}
-use Prim.Native.Nat.{ℕ, zero, suc, _+_, _*_, _-_, _≤_, _<_}
+use Prim.Native.Nat.{ℕ, suc, _+_, _*_, _-_, _≤_, _<_}
 use native.Mathlib.Omega.{arith}
 use native.Mathlib.Nat.{suc-mul}
 use native.Mathlib.Decide.{ℕ-discrete}
 use borrow.Author.Tests.{eq-eqb, ne-eqb, leb-true, le-leb, lt-leb}
 use lib.Dec.{eqb, leb, lit<}
-use lib.ListN.{length, getD, set, replicate, take, drop, length-set, length-replicate, getD-replicate, length-drop, length-map}
-use lib.Seq.{getD-set-same, getD-set-other, drop-drop}
+use lib.ListN.{length, getD, set, replicate, take, drop, length-set, getD-replicate, length-drop, length-map}
+use lib.Seq.{getD-set-same, getD-set-other}
 use Rattle.laws.specs.Range.{more}
-use Rattle.scene.specs.Limits.{limits}
 use Rattle.scene.specs.Refusal.{numberOf}
 use Rattle.scene.specs.declared.Refusal.{Refusal}
 use Rattle.scene.specs.View.{viewOf}
@@ -27,7 +25,7 @@ use Rattle.kernel.specs.declared.facts.Surveyed.the-variants as surveyed
 use Rattle.kernel.specs.declared.verdict.Verdict.{Verdict}
 use Rattle.kernel.specs.declared.verdict.Verdict.the-variants as verdict
 use Rattle.kernel.specs.declared.counts.Counted.the-variants as counted
-use Rattle.block.specs.Block.{mostBytes, sizeOf, sceneOf, behind, scenesOf, endAt}
+use Rattle.block.specs.Block.{mostBytes, sceneOf, behind, scenesOf, endAt}
 use Rattle.block.specs.Scenes.{scenes-end, scenes-next, scenes-few, byte-left, end-within, scene-here, behind-here}
 use Rattle.class.specs.Most.{mostPairs, pairs-most}
 use Rattle.class.specs.Merge.{made-same}
@@ -98,7 +96,10 @@ module _ (s : List ℕ) {d d′ : List ℕ} {o : Surveyed} (x : IsSurvey s d d�
     where
       go : (j : Judged) → surveyed.Refused r ≡ answered surveyed.Refused j (surveyed.Facts (factsIn (viewOf s))) →
           _≡_ {A = Mark} (record { line = k; pairs = 0 })
-          (record { line = lineOf (answered verdict.Refused j (verdictIn (viewOf s))); pairs = pairsIn (answered counted.Refused j (counted.Counts (countsIn (viewOf s)))) })
+          (record {
+            line = lineOf (answered verdict.Refused j (verdictIn (viewOf s)));
+            pairs = pairsIn (answered counted.Refused j (counted.Counts (countsIn (viewOf s))));
+          })
       go Accepted p = let c : _≡_ {A = ℕ} 0 1 = cc in absurd (omega arith)
       go (Refused w) p =
           let same : r ≡ w = cc in
@@ -111,7 +112,10 @@ module _ (s : List ℕ) {d d′ : List ℕ} {o : Surveyed} (x : IsSurvey s d d�
     where
       go : (j : Judged) → surveyed.Facts f ≡ answered surveyed.Refused j (surveyed.Facts (factsIn (viewOf s))) →
           markBy f
-          ≡ record { line = lineOf (answered verdict.Refused j (verdictIn (viewOf s))); pairs = pairsIn (answered counted.Refused j (counted.Counts (countsIn (viewOf s)))) }
+          ≡ record {
+            line = lineOf (answered verdict.Refused j (verdictIn (viewOf s)));
+            pairs = pairsIn (answered counted.Refused j (counted.Counts (countsIn (viewOf s))));
+          }
       go Accepted p = let same : f ≡ factsIn (viewOf s) = cc in ap markBy same
       go (Refused w) p = let c : _≡_ {A = ℕ} 0 1 = cc in absurd (omega arith)
 
@@ -208,7 +212,8 @@ module _ (block : List ℕ) (at : ℕ) (l : List ℕ) (p : ℕ) (so : Sofar bloc
       module _ (m : Mark) (is : m ≡ markOf (take (e - at) (drop at block))) where
         marked : marksOf (drop at block) ≡ m ∷ marksOf (drop e block)
         marked = marks-next (drop at block) (byte-left block at more-left)
-            ∙ ap₂ (λ (x : Mark) (s : List ℕ). x ∷ marksOf s) (sym (is ∙ ap markOf (scene-here block at more-left e ends))) (behind-here block at more-left e ends)
+            ∙ ap₂ (λ (x : Mark) (s : List ℕ). x ∷ marksOf s) (sym (is ∙ ap markOf (scene-here block at more-left e ends)))
+            (behind-here block at more-left e ends)
 
         pub line-here : (1 ≤ m .line) × (m .line < lines)
         unfolding markOf

@@ -1,14 +1,10 @@
 -- Reports added: for blocks that end with a whole scene, the tally of two of them end to end is the sum of their tallies, so that the order and
 -- the split do not matter; and the mean's three numbers give back the sum of pairs. Assumes nothing.
-use mathlib.Core.Path.{_≡_, refl, sym, ap, ap₂, _∙_}
-use mathlib.Core.Bool.{Bool, true, false}
-use mathlib.Core.List.{List, [], _∷_, _++_, map}
-use Prim.Native.Nat.{ℕ, zero, suc, _+_, _*_, _/_, _%_, _<_, _≤_}
-use native.Mathlib.Omega.{arith}
+use mathlib.Core.Path.{_≡_, refl}
+use Prim.Native.Nat.{ℕ, zero, suc, _+_, _/_, _%_, _<_}
 use lib.Dec.{lit<}
 use Rattle.class.specs.Tally.{made, meanOver, meanOf}
 use Rattle.class.specs.declared.Tally.{Tally}
-use Rattle.class.specs.declared.Mean.{Mean}
 
 -- two tallies whose 15 lines and pairs are the same
 pub made-same : (f g : ℕ → ℕ) {p q : ℕ} → ((k : ℕ) → k < 15 → f k ≡ g k) → p ≡ q → made f p ≡ made g q

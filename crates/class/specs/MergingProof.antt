@@ -1,9 +1,9 @@
 -- The proofs of `Merging`. Assumes nothing.
-use mathlib.Core.Path.{_≡_, refl, sym, ap, ap₂, _∙_}
-use mathlib.Core.Logic.{_⊎_, inl, inr, ⊎-elim}
+use mathlib.Core.Path.{_≡_, refl, sym, ap, _∙_}
+use mathlib.Core.Logic.{⊎-elim}
 use mathlib.Core.Bool.{Bool, true, false, _||_}
 use mathlib.Core.List.{List, [], _∷_, _++_, map, map-append}
-use Prim.Native.Nat.{ℕ, zero, suc, _+_, _*_, _/_, _%_, _≤_, _<_}
+use Prim.Native.Nat.{ℕ, zero, suc, _+_, _≤_, _<_}
 use native.Mathlib.Omega.{arith}
 use native.Mathlib.Nat.{div-add-mod', mod-lt}
 use native.Mathlib.Decide.{ℕ-discrete}
@@ -11,7 +11,7 @@ use borrow.Author.Tests.{eq-eqb}
 use lib.Dec.{eqb}
 use Rattle.laws.specs.Range.{more}
 use Rattle.block.specs.Block.{scenesOf}
-use Rattle.block.specs.Parts.{Ended, Parts}
+use Rattle.block.specs.Parts.{Ended}
 use Rattle.block.specs.PartsProof.{parts}
 use Rattle.class.specs.Tally.{markOf, counts, inLine, pairsOf, made, tallyOf, marksOf, meanOver, meanOf}
 use Rattle.class.specs.Most.{pairs-or-line}
@@ -67,7 +67,8 @@ unfolding tallyOf marksOf
 sum x y e =
     let m : marksOf (x ++ y) ≡ marksOf x ++ marksOf y = ap (map markOf) (parts .joined x y e) ∙ map-append markOf (scenesOf x) (scenesOf y) in
     ap tallyOf m
-    ∙ made-same (λ k. inLine k (marksOf x ++ marksOf y)) (λ k. inLine k (marksOf x) + inLine k (marksOf y)) (λ k h. in-line-sum k (marksOf x) (marksOf y)) (pairs-sum (marksOf x) (marksOf y))
+    ∙ made-same (λ k. inLine k (marksOf x ++ marksOf y)) (λ k. inLine k (marksOf x) + inLine k (marksOf y))
+    (λ k h. in-line-sum k (marksOf x) (marksOf y)) (pairs-sum (marksOf x) (marksOf y))
     ∙ made-sum (λ k. inLine k (marksOf x)) (λ k. inLine k (marksOf y)) (pairsOf (marksOf x)) (pairsOf (marksOf y))
 
 add-swap : (a b : ℕ) → a + b ≡ b + a

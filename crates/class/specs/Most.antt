@@ -6,7 +6,6 @@ use mathlib.Core.Bool.{Bool, true, false, cond, _&&_}
 use mathlib.Core.List.{List}
 use Prim.Native.Nat.{ℕ, _+_, _*_, _≤_}
 use native.Mathlib.Omega.{arith}
-use native.Mathlib.Nat.{mul-le-mul}
 use lib.Dec.{ltb, leb}
 use lib.ListN.{length, length-append}
 use Rattle.scene.specs.Limits.{limits}
@@ -91,6 +90,7 @@ pub pairs-or-line : (s : List ℕ) → (markOf s .pairs ≡ 0) ⊎ (markOf s .li
 unfolding markOf countedOf verdictOf answered
 pairs-or-line s = go (judged s)
   where
-    go : (j : Judged) → (pairsIn (answered counted.Refused j (counted.Counts (countsIn (viewOf s)))) ≡ 0) ⊎ (lineOf (answered verdict.Refused j (verdictIn (viewOf s))) ≤ 4)
+    go : (j : Judged) → (pairsIn (answered counted.Refused j (counted.Counts (countsIn (viewOf s)))) ≡ 0)
+        ⊎ (lineOf (answered verdict.Refused j (verdictIn (viewOf s))) ≤ 4)
     go Accepted = inr (within-words s)
     go (Refused r) = inl refl

@@ -2,7 +2,7 @@
 use mathlib.Core.Path.{_≡_, refl, sym, ap, _∙_}
 use mathlib.Core.Logic.{_≢_, _↔_}
 use mathlib.Core.Bool.{Bool, true, false, true≢false}
-use Prim.Native.Nat.{ℕ, zero, suc, _+_, _^_, _≤_, _<_}
+use Prim.Native.Nat.{ℕ, zero, suc, _+_, _^_, _<_}
 use native.Mathlib.Decide.{ℕ-discrete}
 use native.Mathlib.Omega.{arith}
 use borrow.Author.Tests.{eq-eqb, ne-eqb}
@@ -12,6 +12,7 @@ use lib.Signed.{mag}
 use mir.Syntax.{w64}
 use mir.Val.{toZ, ofZ}
 use Rattle.laws.specs.Range.{anyOf}
+use Rattle.laws.specs.None.{none-iff}
 use Rattle.laws.specs.Size.{called}
 use Rattle.scene.specs.declared.Row.{Row}
 use Rattle.orient.specs.Determinant.{det4}
@@ -20,7 +21,6 @@ use Rattle.orient.specs.Laws.{swap12, swap23, swap34}
 use Rattle.orient.specs.Signs.{Four, Upto}
 use Rattle.orient.specs.Terms.{c0, pointAt}
 use Rattle.clean.specs.Planes.{planeOf, dotOf, plane-det}
-use Rattle.clean.specs.None.{none-iff}
 use Rattle.clean.specs.Sorted.{by-rising}
 
 -- of the points 1 to n, no four different ones have c0 = 0

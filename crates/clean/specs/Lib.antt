@@ -1,4 +1,3 @@
-pub mod None
 pub mod Sorted
 pub mod Planes
 pub mod Sizes

@@ -3,7 +3,7 @@
 use mathlib.Core.Path.{_≡_}
 use mathlib.Core.List.{[], _∷_}
 use lib.IntN.{ℤ, _+ℤ_, _-ℤ_, _*ℤ_}
-use Rattle.laws.specs.Ring.{Expr, ring}
+use Rattle.laws.specs.Ring.{ring}
 use Rattle.laws.specs.Ring.Expr.{_⊕_, _⊖_, _⊗_}
 use Rattle.scene.specs.declared.Row.{Row}
 use Rattle.orient.specs.Determinant.{Entries, entries, det4}
@@ -30,12 +30,14 @@ module _ {R : Type 0} where
   abbrev but-w : Entries R → Triple R
   but-w r = record { x = r .x; y = r .y; z = r .z }
 
-module _ {R : Type 0} (_+_ _-_ _*_ : R → R → R) where
-  infixl 6 _+_ _-_
-  infixl 7 _*_
+module _ {R : Type 0} (_plus_ _minus_ _times_ : R → R → R) where
+  infixl 6 _plus_ _minus_
+  infixl 7 _times_
   -- the determinant of three triples
   abbrev volume-of : Triple R → Triple R → Triple R → R
-  volume-of a b c = a .x * (b .y * c .z - b .z * c .y) - a .y * (b .x * c .z - b .z * c .x) + a .z * (b .x * c .y - b .y * c .x)
+  volume-of a b c =
+      a .x times (b .y times c .z minus b .z times c .y) minus a .y times (b .x times c .z minus b .z times c .x)
+      plus a .z times (b .x times c .y minus b .y times c .x)
 
   abbrev plane-of : Entries R → Entries R → Entries R → Entries R
   plane-of a b c =
@@ -47,7 +49,7 @@ module _ {R : Type 0} (_+_ _-_ _*_ : R → R → R) where
       }
 
   abbrev dot-of : Entries R → Entries R → R
-  dot-of p t = p .x * t .x + p .y * t .y + p .z * t .z + p .w * t .w
+  dot-of p t = p .x times t .x plus p .y times t .y plus p .z times t .z plus p .w times t .w
 
 -- ---- of whole numbers
 

@@ -1,17 +1,16 @@
--- The numbers formed for planes are small: of rows within a scene's limits no product or sum on the way leaves the 64-bit numbers.
--- Assumes nothing.
+-- The numbers formed for planes are small: of rows within a scene's limits no product or sum on the way is above 24·C⁴, C the largest coordinate, and
+-- so none above what may be formed for a sign. Assumes nothing.
 use mathlib.Core.Path.{_≡_, sym, subst}
 use Prim.Native.Nat.{ℕ, _+_, _*_, _≤_}
 use native.Mathlib.Nat.{le-trans}
 use native.Mathlib.Omega.{arith}
 use lib.Dec.{lit<, lit≤}
 use lib.IntN.{ℤ, _+ℤ_, _-ℤ_, _*ℤ_}
-use mir.Syntax.{w64}
-use mir.Val.{SFits}
-use Rattle.laws.specs.Size.{Small, Held, held, times, plus, less, fit, kept, reread, _⊗_, _⊕_, _⊖_, below}
+use Rattle.laws.specs.Size.{Small, Held, held, times, plus, less, reread, below}
 use Rattle.scene.specs.Limits.{limits}
 use Rattle.scene.specs.Arrays.{AllWithin}
 use Rattle.scene.specs.declared.Row.{Row}
+use Rattle.orient.specs.Formed.{mostFormed}
 use Rattle.clean.specs.Planes.{butX, butY, butZ, butW, volumeOf, planeOf, dotOf}
 use Rattle.clean.specs.declared.planes.Three.{Three}
 
@@ -42,8 +41,8 @@ VolumeSmall a b c = ThreeSmall a × ThreeSmall b × ThreeSmall c
 abbrev formed : (a b c d e : ℤ) → ℤ
 formed a b c d e = reread e *ℤ reread (reread (reread a *ℤ reread b) -ℤ reread (reread c *ℤ reread d))
 
-abbrev mostFormed : ℕ
-mostFormed = mostEntry * (mostEntry * mostEntry + mostEntry * mostEntry)
+abbrev mostTerm : ℕ
+mostTerm = mostEntry * (mostEntry * mostEntry + mostEntry * mostEntry)
 
 module _ {a b : ℤ} (ha : Small mostEntry a) (hb : Small mostEntry b) where
   pub two : Held (mostEntry * mostEntry) (reread a *ℤ reread b) (a *ℤ b)
@@ -53,17 +52,17 @@ module _ {a b c d : ℤ} (ha : Small mostEntry a) (hb : Small mostEntry b) (hc :
   pub cross : Held (mostEntry * mostEntry + mostEntry * mostEntry) (reread (reread a *ℤ reread b) -ℤ reread (reread c *ℤ reread d)) (a *ℤ b -ℤ c *ℤ d)
   cross = less (two ha hb) (two hc hd) (lit< tt)
 
-  pub third : {e : ℤ} → Small mostEntry e → Held mostFormed (formed a b c d e) (e *ℤ (a *ℤ b -ℤ c *ℤ d))
+  pub third : {e : ℤ} → Small mostEntry e → Held mostTerm (formed a b c d e) (e *ℤ (a *ℤ b -ℤ c *ℤ d))
   third he = times (held he (lit< tt)) cross (lit< tt)
 
 module _ {a b c : Three} (h : VolumeSmall a b c) where
-  pub both : Held (mostFormed + mostFormed)
+  pub both : Held (mostTerm + mostTerm)
       (reread (formed (b .y) (c .z) (b .z) (c .y) (a .x)) -ℤ reread (formed (b .x) (c .z) (b .z) (c .x) (a .y)))
       (a .x *ℤ (b .y *ℤ c .z -ℤ b .z *ℤ c .y) -ℤ a .y *ℤ (b .x *ℤ c .z -ℤ b .z *ℤ c .x))
   both =
       less (third (h .1 .y) (h .2 .z) (h .1 .z) (h .2 .y) (h .0 .x)) (third (h .1 .x) (h .2 .z) (h .1 .z) (h .2 .x) (h .0 .y)) (lit< tt)
 
-  pub whole : Held (mostFormed + mostFormed + mostFormed)
+  pub whole : Held (mostTerm + mostTerm + mostTerm)
       (reread (reread (formed (b .y) (c .z) (b .z) (c .y) (a .x)) -ℤ reread (formed (b .x) (c .z) (b .z) (c .x) (a .y)))
       +ℤ reread (formed (b .x) (c .y) (b .y) (c .x) (a .z)))
       (volumeOf a b c)
@@ -122,6 +121,9 @@ module _ {p t : Row} (h : RowSmall mostCoefficient p × RowSmall mostEntry t) wh
   unfolding dotOf
   dotted = plus dot-xyz dot-w (lit< tt)
 
+pub dot-formed : mostProduct + mostProduct + mostProduct + mostProduct ≤ mostFormed
+dot-formed = lit≤ tt
+
 -- ---- the rows of a scene
 
 pub row-small : {row : ℕ → Row} → AllWithin limits row → (i : ℕ) {r : Row} → r ≡ row i → RowSmall mostEntry r
@@ -131,5 +133,6 @@ row-small {row} h i e =
     (record { x = record { size = k .x }; y = record { size = k .y }; z = record { size = k .z }; w = record { size = le-trans (k .w) (lit≤ tt) } })
 
 -- the plane of three of them
-pub three-small : {row : ℕ → Row} → AllWithin limits row → {i j k : ℕ} {a b c p : Row} → a ≡ row i → b ≡ row j → c ≡ row k → p ≡ planeOf a b c → RowSmall mostCoefficient p
+pub three-small : {row : ℕ → Row} → AllWithin limits row → {i j k : ℕ} {a b c p : Row} → a ≡ row i → b ≡ row j → c ≡ row k →
+    p ≡ planeOf a b c → RowSmall mostCoefficient p
 three-small h {i} {j} {k} ea eb ec e = subst (RowSmall mostCoefficient) (sym e) (plane-size (row-small h i ea) (row-small h j eb) (row-small h k ec))

@@ -1,15 +1,14 @@
 -- Demand 1. "Every question takes the scene's bytes, so a scene refusal (1 to 9, and 14) always comes before the question's own (10 to 12)", "11 comes before
 -- 12", and "Each number carries its place and nothing else": for each question, the refusals that it can give and for each of them exactly when, nothing
--- earlier in the order being at fault. The statements are `Answers`, `Numbers` and `Places`; their proofs are in `AnswersProof`.
--- That each number is given is `AnswersGiven`. Assumes nothing.
+-- earlier in the order being at fault. The statement is `Answers`; its proof is `AnswersProof.answers`. What follows of numbers and places is `Numbers`;
+-- that each number is given is `AnswersGiven`. Assumes nothing.
 use mathlib.Core.Path.{_≡_}
 use mathlib.Core.Logic.{_⊎_, _↔_}
-use mathlib.Core.List.{List, [], _∷_}
+use mathlib.Core.List.{List, []}
 use Prim.Native.Nat.{ℕ, _*_, _<_}
 use lib.ListN.{length}
-use Rattle.laws.specs.Lists.{Some}
 use Rattle.scene.specs.Limits.{limits}
-use Rattle.scene.specs.Refusal.{numberOf, placeOf}
+use Rattle.scene.specs.Refusal.{numberOf}
 use Rattle.scene.specs.declared.Refusal.{Refusal}
 use Rattle.scene.specs.declared.Refusal.the-variants.{Room, Lacking, Same, Buffer}
 use Rattle.judge.specs.declared.Judged.the-variants.{Refused}
@@ -26,12 +25,6 @@ use Rattle.kernel.specs.declared.verdict.Verdict.the-variants as verdict
 use Rattle.kernel.specs.declared.lists.Listed.{Listed}
 use Rattle.kernel.specs.declared.lists.Listed.the-variants as listed
 use Rattle.demands.specs.Words.{Vertex, RecordNumber, FourPoints, TwoAlike, EdgeAndFace, AlikeOrCorner, EdgeAndSolid, AlikeOrVertex, SolidNumber}
-
--- the places of 11 and 12 are 0, that of 10 is the count
-pub record Places : Type 0 where
-  pub room : (n : ℕ) → placeOf (Room n) ≡ n
-  pub lacking : placeOf Lacking ≡ 0
-  pub same : placeOf Same ≡ 0
 
 abbrev pub Never : Type 0
 Never = ⊥
@@ -85,19 +78,3 @@ pub record Answers (s : List ℕ) : Type 0 where
   -- the listing from one of its pairs on, as far as there is room
   pub part : (from : ℕ) (d d′ : List ℕ) (x : Listed) → IsPart s from d d′ x → Refusals s (λ r. x ≡ listed.Refused r) Always Never
   pub part-kept : (from : ℕ) (d d′ : List ℕ) (x : Listed) → IsPart s from d d′ x → (r : Refusal) → x ≡ listed.Refused r → d′ ≡ d
-
--- the refusal numbers that a question can give: the scene's, and its own
-abbrev pub By : List ℕ → Refusal → Type 0
-By own r = OfScene (numberOf r) ⊎ Some (λ n. numberOf r ≡ n) own
-
-pub record Numbers (s : List ℕ) : Type 0 where
-  pub sign : (a b c d : ℕ) (r : Refusal) → signOf s a b c d ≡ sign.Refused r → By (11 ∷ 12 ∷ []) r
-  pub pierces : (u v f : ℕ) (r : Refusal) → piercesOf s u v f ≡ answer.Refused r → By (11 ∷ 12 ∷ []) r
-  pub mask : (u v k : ℕ) (r : Refusal) → maskedOf s u v k ≡ refused r → By (11 ∷ 12 ∷ []) r
-  pub enclosed : (i : ℕ) (r : Refusal) → enclosedOf s i ≡ answer.Refused r → By (11 ∷ []) r
-  pub record-shown : (k : ℕ) (r : Refusal) → refusal s k ≡ Refused r → By (11 ∷ []) r
-  pub verdict : (r : Refusal) → verdictOf s ≡ verdict.Refused r → By [] r
-  pub counts : (r : Refusal) → countedOf s ≡ counted.Refused r → By [] r
-  pub inside : (k : ℕ) (r : Refusal) → insideOf s k ≡ enclosing.Refused r → By (11 ∷ []) r
-  pub listing : (d d′ : List ℕ) (x : Listed) → IsListed s d d′ x → (r : Refusal) → x ≡ listed.Refused r → By (10 ∷ []) r
-  pub part : (from : ℕ) (d d′ : List ℕ) (x : Listed) → IsPart s from d d′ x → (r : Refusal) → x ≡ listed.Refused r → By [] r

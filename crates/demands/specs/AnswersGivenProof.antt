@@ -12,9 +12,12 @@ use Rattle.scene.specs.Limits.{limits, within}
 use Rattle.scene.specs.Bytes.{twoAt, coordinateAt, weightAt}
 use Rattle.scene.specs.Refusal.{numberOf}
 use Rattle.scene.specs.Tables.{cornerAt, row, face}
+use Rattle.scene.specs.Faces.{isCorner, hasBoth}
 use Rattle.scene.specs.declared.Refusal.{Refusal}
 use Rattle.scene.specs.declared.Refusal.the-variants.{Opening, Counts, Length, Mark, Coordinate, Weight, Corner, Unused, Edge, Room, Lacking, Same, Nowhere}
-use Rattle.judge.specs.Judge.{rule, andThen, opens, countsOk, headerFault, coordinateOk, weightOk, nowhere, somewhereOk, pointFault, areCorners, vertsAt, cornersOk, faceFault, endFault, recordFault, recordsFault, isCorner, isEdge, isUsed, unusedFault, unusedsFault, edgeOk, sidesOk, closedAt, edgeFault, edgesFault, judgedAt, judged}
+use Rattle.judge.specs.Judge.{rule, andThen, opens, countsOk, headerFault, coordinateOk, weightOk, nowhere, somewhereOk, pointFault, areCorners}
+use Rattle.judge.specs.Judge.{vertsAt, cornersOk, faceFault, endFault, recordFault, recordsFault, isCornerOf, isEdge, isUsed, unusedFault}
+use Rattle.judge.specs.Judge.{unusedsFault, edgeOk, sidesOk, closedAt, edgeFault, edgesFault, judgedAt, judged}
 use Rattle.judge.specs.declared.Judged.the-variants.{Accepted, Refused}
 use Rattle.rules.specs.Rules.{FileOk}
 use Rattle.rules.specs.Grounds.{Grounds}
@@ -28,7 +31,8 @@ use Rattle.kernel.specs.Answers.{answered, IsListed, IsPart, listingIn, listedI
 use Rattle.kernel.specs.declared.lists.Listed.{Listed}
 use Rattle.kernel.specs.declared.lists.Listed.the-variants as listed
 use Rattle.demands.specs.Words.{Pierces, CornerOf}
-use Rattle.demands.specs.AnswersGiven.{Given, ofScene, BySign, ByPierces, ByMask, ByEnclosed, ByRecord, ByVerdict, ByCounts, ByListing, ByPart, AllGiven, ByInside}
+use Rattle.demands.specs.AnswersGiven.{Given, ofScene, BySign, ByPierces, ByMask, ByEnclosed, ByRecord}
+use Rattle.demands.specs.AnswersGiven.{ByVerdict, ByCounts, ByListing, ByPart, AllGiven, ByInside}
 use Rattle.demands.specs.AnswersProof.{answers}
 use Rattle.demands.specs.Answers.{OfScene}
 use Rattle.demands.specs.ExactPairs.{members}
@@ -43,7 +47,7 @@ abbrev four : List ℕ
 four = 83 ∷ 67 ∷ 4 ∷ 2 ∷ 3 ∷ 2 ∷ 70 ∷ 80 ∷ 100 ∷ 0 ∷ 101 ∷ 0 ∷ 103 ∷ 0 ∷ 1 ∷ 86 ∷ 88 ∷ 0 ∷ 0 ∷ 0 ∷ 0 ∷ 0 ∷ 0 ∷ 1 ∷ 86 ∷ 88 ∷ 4 ∷ 0 ∷ 0 ∷ 0 ∷ 0 ∷ 0 ∷ 1 ∷ 86 ∷ 88 ∷ 0 ∷ 0 ∷ 4 ∷ 0 ∷ 0 ∷ 0 ∷ 1 ∷ 86 ∷ 88 ∷ 0 ∷ 0 ∷ 0 ∷ 0 ∷ 4 ∷ 0 ∷ 1 ∷ 86 ∷ 88 ∷ 1 ∷ 0 ∷ 1 ∷ 0 ∷ 253 ∷ 255 ∷ 1 ∷ 86 ∷ 88 ∷ 1 ∷ 0 ∷ 1 ∷ 0 ∷ 5 ∷ 0 ∷ 1 ∷ 86 ∷ 88 ∷ 9 ∷ 0 ∷ 9 ∷ 0 ∷ 9 ∷ 0 ∷ 1 ∷ 70 ∷ 67 ∷ 1 ∷ 2 ∷ 3 ∷ 70 ∷ 67 ∷ 1 ∷ 2 ∷ 3 ∷ 70 ∷ 67 ∷ 1 ∷ 2 ∷ 3 ∷ 70 ∷ 67 ∷ 1 ∷ 2 ∷ 3 ∷ 69 ∷ 78 ∷ []
 
 base-accepted : judged base ≡ Accepted
-unfolding judgedAt andThen rule headerFault opens countsOk within recordsFault firstOf over recordFault pointFault coordinateOk weightOk nowhere somewhereOk faceFault cornersOk areCorners vertsAt endFault unusedsFault unusedFault isUsed isCorner anyOf edgesFault edgeFault closedAt sidesOk edgeOk isEdge countOf cornerAt twoAt coordinateAt weightAt
+unfolding judgedAt andThen rule headerFault opens countsOk within recordsFault firstOf over recordFault pointFault coordinateOk weightOk nowhere somewhereOk faceFault cornersOk areCorners vertsAt endFault unusedsFault unusedFault isUsed isCornerOf isCorner anyOf edgesFault edgeFault closedAt sidesOk edgeOk isEdge hasBoth countOf cornerAt twoAt coordinateAt weightAt
 base-accepted = refl
 
 keeps : FileOk limits base
@@ -56,7 +60,7 @@ abbrev ByScene : Refusal → Type 0
 ByScene r = (s : List ℕ) × (judged s ≡ Refused r)
 
 ten : Each (Given ByScene) ofScene
-unfolding judgedAt andThen rule headerFault opens countsOk within recordsFault firstOf over recordFault pointFault coordinateOk weightOk nowhere somewhereOk faceFault cornersOk areCorners vertsAt endFault unusedsFault unusedFault isUsed isCorner anyOf edgesFault edgeFault closedAt sidesOk edgeOk isEdge countOf cornerAt twoAt coordinateAt weightAt
+unfolding judgedAt andThen rule headerFault opens countsOk within recordsFault firstOf over recordFault pointFault coordinateOk weightOk nowhere somewhereOk faceFault cornersOk areCorners vertsAt endFault unusedsFault unusedFault isUsed isCornerOf isCorner anyOf edgesFault edgeFault closedAt sidesOk edgeOk isEdge hasBoth countOf cornerAt twoAt coordinateAt weightAt
 ten = (
   (Opening, refl, ([], refl)),
   (

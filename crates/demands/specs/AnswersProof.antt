@@ -1,8 +1,8 @@
 -- Demand 1, proved: question by question. Assumes nothing.
-use mathlib.Core.Path.{_≡_, refl, sym, ap, _∙_}
-use mathlib.Core.Logic.{inl, inr, ⊎-elim, _↔_, Iff·trans, Iff·and}
+use mathlib.Core.Path.{_≡_, sym, ap, _∙_}
+use mathlib.Core.Logic.{⊎-elim, _↔_, Iff·trans, Iff·and}
 use mathlib.Core.Bool.{Bool, true, false, cond, true≢false}
-use mathlib.Core.List.{List, [], _∷_}
+use mathlib.Core.List.{List, []}
 use Prim.Native.Nat.{ℕ, suc, _+_, _*_, _<_}
 use native.Mathlib.Omega.{arith}
 use lib.Dec.{leb}
@@ -13,7 +13,7 @@ use Rattle.scene.specs.Limits.{limits, within}
 use Rattle.scene.specs.Records.{vertsA, verts, lastRecord}
 use Rattle.scene.specs.Tables.{tablesOf, row, face}
 use Rattle.scene.specs.declared.Refusal.{Refusal}
-use Rattle.scene.specs.declared.Refusal.the-variants.{Opening, Counts, Length, Mark, Coordinate, Weight, Corner as BadCorner, Unused, Edge, Room, Lacking, Same, Buffer, Nowhere}
+use Rattle.scene.specs.declared.Refusal.the-variants.{Room, Lacking, Same, Buffer}
 use Rattle.judge.specs.Judge.{rule, andThen, judged}
 use Rattle.judge.specs.declared.Judged.{Judged}
 use Rattle.judge.specs.declared.Judged.the-variants.{Accepted, Refused}
@@ -40,7 +40,7 @@ use Rattle.kernel.specs.declared.verdict.Verdict.the-variants as verdict
 use Rattle.kernel.specs.declared.lists.Listed.{Listed}
 use Rattle.kernel.specs.declared.lists.Listed.the-variants as listed
 use Rattle.demands.specs.Words.{Vertex, RecordNumber, FourPoints, TwoAlike, EdgeAndFace, AlikeOrCorner, EdgeAndSolid, AlikeOrVertex, SolidNumber}
-use Rattle.demands.specs.Answers.{Places, Refusals, ListingRefusals, Never, Always, Answers, By, Numbers}
+use Rattle.demands.specs.Answers.{Refusals, ListingRefusals, Never, Always, Answers}
 use Rattle.demands.specs.AnswersTests.{scene-turn, asked, plain, told, nonsense, answered-iff, twice-iff, points-iff, edge-iff, mask-iff, alike-points, alike-corner, alike-vertex}
 
 -- ---- an answer is no refusal
@@ -174,51 +174,3 @@ answers s =
       part = of-part s;
       part-kept = part-kept s;
     }
-
--- ---- the numbers
-
-by : (own : List ℕ) (R : Refusal → Type 0) → ((n : ℕ) → ¬ R (Buffer n)) → ((n : ℕ) → R (Room n) → By own (Room n)) → (R Lacking → By own Lacking) → (R Same → By own Same) → (r : Refusal) → R r → By own r
-by own R buffer room lacking same Opening e = inl (inl (omega arith))
-by own R buffer room lacking same Counts e = inl (inl (omega arith))
-by own R buffer room lacking same Length e = inl (inl (omega arith))
-by own R buffer room lacking same (Mark k) e = inl (inl (omega arith))
-by own R buffer room lacking same (Coordinate k) e = inl (inl (omega arith))
-by own R buffer room lacking same (Weight k) e = inl (inl (omega arith))
-by own R buffer room lacking same (BadCorner k) e = inl (inl (omega arith))
-by own R buffer room lacking same (Unused k) e = inl (inl (omega arith))
-by own R buffer room lacking same (Edge k) e = inl (inl (omega arith))
-by own R buffer room lacking same (Nowhere k) e = inl (inr refl)
-by own R buffer room lacking same (Room n) e = room n e
-by own R buffer room lacking same Lacking e = lacking e
-by own R buffer room lacking same Same e = same e
-by own R buffer room lacking same (Buffer n) e = absurd (buffer n e)
-
-module _ {s : List ℕ} {R : Refusal → Type 0} {Has Alike : Type 0} (t : Refusals s R Has Alike) where
-  by-both : (r : Refusal) → R r → By (11 ∷ 12 ∷ []) r
-  by-both = by (11 ∷ 12 ∷ []) R (t .buffer) (λ n e. absurd (t .room n e)) (λ e. inr (inl refl)) (λ e. inr (inr (inl refl)))
-
-  by-lacking : ¬ Alike → (r : Refusal) → R r → By (11 ∷ []) r
-  by-lacking n = by (11 ∷ []) R (t .buffer) (λ n e. absurd (t .room n e)) (λ e. inr (inl refl)) (λ e. absurd (n (t .same .0 e .2)))
-
-  by-scene : Has → ¬ Alike → (r : Refusal) → R r → By [] r
-  by-scene h n = by [] R (t .buffer) (λ n e. absurd (t .room n e)) (λ e. absurd (t .lacking .0 e .1 h)) (λ e. absurd (n (t .same .0 e .2)))
-
-pub numbers : (s : List ℕ) → Numbers s
-numbers s =
-    record {
-      sign = λ a b c d. by-both (of-sign s a b c d);
-      pierces = λ u v f. by-both (of-pierces s u v f);
-      mask = λ u v k. by-both (of-mask s u v k);
-      enclosed = λ i. by-lacking (of-enclosed s i) (λ e. e);
-      record-shown = λ k. by-lacking (of-record s k) (λ e. e);
-      verdict = by-scene (of-verdict s) tt (λ e. e);
-      counts = by-scene (of-counts s) tt (λ e. e);
-      inside = λ k. by-lacking (of-inside s k) (λ e. e);
-      listing = λ d d′ x h.
-          let t = of-listing s d d′ x h in
-          by (10 ∷ []) (λ r. x ≡ listed.Refused r) (t .buffer) (λ n e. inr (inl refl)) (λ e. absurd (t .lacking e)) (λ e. absurd (t .same e));
-      part = λ from d d′ x h. by-scene (of-part s from d d′ x h) tt (λ e. e);
-    }
-
-pub places : Places
-places = record { room = λ n. refl; lacking = refl; same = refl }

@@ -8,15 +8,15 @@ use Prim.Native.Nat.{ℕ, suc, _≤_}
 use native.Mathlib.Omega.{arith}
 use lib.Dec.{eqb}
 use borrow.Author.Tests.{not-false}
-use Rattle.laws.specs.Decides.{eqb-iff, and-iff, or-iff, fails-iff}
+use Rattle.laws.specs.Decides.{eqb-iff, and-iff, fails-iff}
 use Rattle.scene.specs.Limits.{limits}
 use Rattle.scene.specs.View.{viewOf}
 use Rattle.scene.specs.Tables.{tablesOf, face}
-use Rattle.scene.specs.Faces.{Corner}
+use Rattle.scene.specs.Faces.{corner-iff}
 use Rattle.scene.specs.Refusal.{numberOf}
-use Rattle.scene.specs.declared.Face.{Face}
 use Rattle.scene.specs.declared.Refusal.{Refusal}
-use Rattle.scene.specs.declared.Refusal.the-variants.{Opening, Counts, Length, Mark, Coordinate, Weight, Corner as BadCorner, Unused, Edge, Room, Lacking, Same, Buffer, Nowhere}
+use Rattle.scene.specs.declared.Refusal.the-variants.{Opening, Counts, Length, Mark, Coordinate, Weight, Corner as BadCorner}
+use Rattle.scene.specs.declared.Refusal.the-variants.{Unused, Edge, Room, Lacking, Same, Buffer, Nowhere}
 use Rattle.judge.specs.Judge.{rule, andThen, judged}
 use Rattle.judge.specs.declared.Judged.{Judged}
 use Rattle.judge.specs.declared.Judged.the-variants.{Accepted, Refused}
@@ -26,7 +26,6 @@ use Rattle.rules.specs.Numbers.{turnOf, Gives, gives-none, gives-rule, gives-wi
 use Rattle.rules.specs.Parts.{refused-by}
 use Rattle.rules.specs.Accepted.{accepted}
 use Rattle.rules.specs.Refused as table
-use Rattle.edges.specs.Edges.{isCorner}
 use Rattle.kernel.specs.Laws.{answered-then}
 use Rattle.kernel.specs.Answers.{answered, isPoint, isFace, other, differ, arePoints, clear, edgeAndFace, isVertexOf, edgeAndSolid, outside, refused, isSolid}
 use Rattle.demands.specs.Words.{SolidNumber, VertexOf, FourPoints, TwoAlike, EdgeAndFace, AlikeOrCorner, EdgeAndSolid, AlikeOrVertex}
@@ -85,16 +84,20 @@ module _ (s : List ℕ) where
     pub asked : Refusals s (λ r. andThen (judged s) own ≡ Refused r) Has Alike
     asked =
         record {
-          scene = λ r h. Iff·trans (then-here (judged s) own r 13 (gives-wider (suc (turnOf r)) 13 (omega (arith, scene-turn r h)) (omega arith) own-gives)) (table.refused limits s r);
-          room = λ n e. ⊎-elim (λ k. omega (arith, refused-by limits s (Room n) k)) (λ k. omega (arith, own-gives (Room n) (k .1))) (then-refused (judged s) own (Room n) .0 e);
-          buffer = λ n e. ⊎-elim (λ k. omega (arith, refused-by limits s (Buffer n) k)) (λ k. omega (arith, own-gives (Buffer n) (k .1))) (then-refused (judged s) own (Buffer n) .0 e);
+          scene = λ r h. Iff·trans (then-here (judged s) own r 13
+              (gives-wider (suc (turnOf r)) 13 (omega (arith, scene-turn r h)) (omega arith) own-gives)) (table.refused limits s r);
+          room = λ n e. ⊎-elim (λ k. omega (arith, refused-by limits s (Room n) k)) (λ k. omega (arith, own-gives (Room n) (k .1)))
+              (then-refused (judged s) own (Room n) .0 e);
+          buffer = λ n e. ⊎-elim (λ k. omega (arith, refused-by limits s (Buffer n) k)) (λ k. omega (arith, own-gives (Buffer n) (k .1)))
+              (then-refused (judged s) own (Buffer n) .0 e);
           lacking =
               Iff·trans (then-next (judged s) own Lacking 1 10 (refused-by limits s) (omega arith))
               (Iff·and (accepted limits s)
               (Iff·trans (rule-here p Lacking Lacking alone 13 alone-gives) (λ h. fails-iff p has .0 (h .0), λ n. (fails-iff p has .1 n, refl))));
           same =
               Iff·trans (then-next (judged s) own Same 1 10 (refused-by limits s) (omega arith))
-              (Iff·trans (Iff·and (accepted limits s) (Iff·trans (rule-next p Lacking Same alone (omega arith)) (Iff·and Iff·rfl (rule-here q Same Same Accepted 14 (gives-none 14 14))))) (
+              (Iff·trans (Iff·and (accepted limits s) (Iff·trans (rule-next p Lacking Same alone (omega arith))
+              (Iff·and Iff·rfl (rule-here q Same Same Accepted 14 (gives-none 14 14))))) (
                 λ h. let x = has .0 (h .1 .0) in (h .0, x, alike x .0 (h .1 .1 .0)),
                 λ h. (h .0, (has .1 (h .1), (alike (h .1) .1 (h .2), refl))),
               ));
@@ -103,7 +106,8 @@ module _ (s : List ℕ) where
     -- none of them is at fault
     pub asked-ok : (andThen (judged s) own ≡ Accepted) ↔ (FileOk limits s × Has × ¬ Alike)
     asked-ok =
-        Iff·trans (then-iff (judged s) own) (Iff·trans (Iff·and (accepted limits s) (Iff·trans (rule-iff p Lacking alone) (Iff·and has (rule-iff q Same Accepted)))) (
+        Iff·trans (then-iff (judged s) own)
+        (Iff·trans (Iff·and (accepted limits s) (Iff·trans (rule-iff p Lacking alone) (Iff·and has (rule-iff q Same Accepted)))) (
           λ h. (h .0, h .1 .0, λ x. true≢false (sym (h .1 .1 .0) ∙ alike (h .1 .0) .1 x)),
           λ h. (h .0, (h .1, (passes q (alike (h .1)) (h .2), refl))),
         ))
@@ -145,7 +149,8 @@ answered-iff refuse one x not-refused Accepted r = (λ e. absurd (not-refused r 
 answered-iff refuse one x not-refused (Refused q) r = (λ e. ap Refused (one q r e), λ e. let d : q ≡ r = cc in ap refuse d)
 
 -- and it is another answer exactly when nothing is
-pub answered-ok : {X : Type 0} (refuse : Refusal → X) (v : X) → ((r : Refusal) → ¬ (refuse r ≡ v)) → (j : Judged) (x : X) → (answered refuse j x ≡ v) ↔ ((j ≡ Accepted) × (x ≡ v))
+pub answered-ok : {X : Type 0} (refuse : Refusal → X) (v : X) → ((r : Refusal) → ¬ (refuse r ≡ v)) → (j : Judged) (x : X) →
+    (answered refuse j x ≡ v) ↔ ((j ≡ Accepted) × (x ≡ v))
 unfolding answered
 answered-ok refuse v n Accepted x = (λ e. (refl, e), λ h. h .1)
 answered-ok refuse v n (Refused r) x = (λ e. absurd (n r e), λ h. absurd (never (sym (h .0))))
@@ -160,10 +165,6 @@ pub twice-ok : {X : Type 0} (refuse : Refusal → X) (v : X) → ((r : Refusal) 
 twice-ok refuse v n j k x = rw (answered-then refuse j k x) (answered-ok refuse v n (andThen j k) x)
 
 -- ---- what each question asks of its numbers
-
-pub corner-iff : (i : ℕ) (f : Face) → (isCorner i f ≡ true) ↔ Corner i f
-unfolding isCorner
-corner-iff i f = or-iff _ _ (eqb-iff (f .p) i) (or-iff _ _ (eqb-iff (f .q) i) (eqb-iff (f .r) i))
 
 module _ (s : List ℕ) where
   pub points-iff : (a b c d : ℕ) → (arePoints (viewOf s) a b c d ≡ true) ↔ FourPoints s a b c d

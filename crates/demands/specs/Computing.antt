@@ -6,7 +6,10 @@ use Prim.Native.Nat.{ℕ}
 use Rattle.laws.specs.Range.{over, firstOf, anyOf, countOf, lowestOf}
 use Rattle.scene.specs.Bytes.{twoAt, coordinateAt, weightAt}
 use Rattle.scene.specs.Tables.{cornerAt, row, face, tablesOf}
-use Rattle.judge.specs.Judge.{rule, andThen, opens, countsOk, headerFault, coordinateOk, weightOk, nowhere, somewhereOk, pointFault, areCorners, vertsAt, cornersOk, faceFault, endFault, recordFault, recordsFault, isCorner, isEdge, isUsed, unusedFault, unusedsFault, edgeOk, sidesOk, closedAt, edgeFault, edgesFault, judgedAt, judged}
+use Rattle.scene.specs.Faces.{isCorner, hasBoth}
+use Rattle.judge.specs.Judge.{rule, andThen, opens, countsOk, headerFault, coordinateOk, weightOk, nowhere, somewhereOk, pointFault, areCorners}
+use Rattle.judge.specs.Judge.{vertsAt, cornersOk, faceFault, endFault, recordFault, recordsFault, isCornerOf, isEdge, isUsed, unusedFault}
+use Rattle.judge.specs.Judge.{unusedsFault, edgeOk, sidesOk, closedAt, edgeFault, edgesFault, judgedAt, judged}
 use Rattle.scene.specs.Limits.{within}
 use Rattle.judge.specs.declared.Judged.{Judged}
 use Rattle.orient.specs.Terms.{terms, orientation, positiveAt}
@@ -14,7 +17,7 @@ use Rattle.pierce.specs.Formula.{canHelp, helper, counts, sidesCount, formula, 
 
 -- the judge
 unfoldable pub judging : List ℕ → Judged
-unfolding flatMap over firstOf anyOf countOf twoAt coordinateAt weightAt cornerAt rule andThen within opens countsOk headerFault coordinateOk weightOk nowhere somewhereOk pointFault areCorners vertsAt cornersOk faceFault endFault recordFault recordsFault isCorner isEdge isUsed unusedFault unusedsFault edgeOk sidesOk closedAt edgeFault edgesFault judgedAt
+unfolding flatMap over firstOf anyOf countOf twoAt coordinateAt weightAt cornerAt rule andThen within opens countsOk headerFault coordinateOk weightOk nowhere somewhereOk pointFault areCorners vertsAt cornersOk faceFault endFault recordFault recordsFault isCornerOf isCorner isEdge hasBoth isUsed unusedFault unusedsFault edgeOk sidesOk closedAt edgeFault edgesFault judgedAt
 judging = judged
 
 -- the formula, on the scene's rows and faces

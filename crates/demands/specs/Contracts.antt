@@ -10,7 +10,8 @@ use Rattle.judge.proofs.judge.Reads as judge
 use Rattle.record.specs.Shown.{refusal, shown}
 use Rattle.record.proofs.record.Reads as record-shown
 use Rattle.record.proofs.record_refusal.Reads as record-refusal
-use Rattle.kernel.specs.Answers.{answered, isPoint, signOf, piercesOf, saidMask, maskedOf, enclosedOf, countedOf, insideOf, verdictOf, listingIn, listedIn, IsListed, IsPart}
+use Rattle.kernel.specs.Answers.{answered, isPoint, signOf, piercesOf, saidMask, maskedOf, enclosedOf, countedOf}
+use Rattle.kernel.specs.Answers.{insideOf, verdictOf, listingIn, listedIn, IsListed, IsPart}
 use Rattle.kernel.specs.declared.lists.Listed.the-variants.{Refused, Count}
 use Rattle.kernel.proofs.points.is_point.Reads as is-point
 use Rattle.kernel.proofs.points.sign.Reads as sign

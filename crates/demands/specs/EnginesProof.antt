@@ -11,9 +11,9 @@ use Rattle.judge.specs.declared.Judged.the-variants.{Accepted}
 use Rattle.rules.specs.Given.{counts}
 use Rattle.orient.specs.Rules.{rules}
 use Rattle.orient.specs.Signs.{Upto, Rules}
-use Rattle.pierce.specs.Five.{hits, any-helper, by-helper}
+use Rattle.pierce.specs.Five.{any-helper, by-helper}
 use Rattle.pierce.specs.Formula.{pierces}
-use Rattle.pierce.specs.Scene.{scene-five}
+use Rattle.plain.specs.Five.{five-pierce}
 use Rattle.kernel.specs.Ready.{scene-weighted}
 use Rattle.demands.specs.Engines.{signIn, SameEngines, AnyHelper}
 
@@ -25,8 +25,7 @@ module _ (s : List ℕ) (ok : judged s ≡ Accepted) where
   signs = rules (verts s + 1) (row (tablesOf s)) (scene-weighted s ok)
 
 pub same-engines : SameEngines
-unfolding hits
-same-engines s ok u v f d = sym (scene-five (verts s + 1) (row (tablesOf s)) (scene-weighted s ok) u v f (six s ok) d)
+same-engines s ok u v f d = five-pierce (verts s + 1) (row (tablesOf s)) (scene-weighted s ok) u v f (six s ok) d
 
 pub any-helper-alike : AnyHelper
 unfolding pierces

@@ -32,7 +32,8 @@ use Rattle.kernel.specs.declared.inside.Enclosing.the-variants as enclosing
 use Rattle.kernel.specs.declared.verdict.Verdict.the-variants as verdict
 use Rattle.kernel.specs.declared.lists.Listed.{Listed}
 use Rattle.kernel.specs.declared.lists.Listed.the-variants as listed
-use Rattle.demands.specs.Words.{VertexOfA, VertexOfB, Vertex, farPoint, FaceOfA, FaceOfB, EdgeOfA, EdgeOfB, Pierces, Enclosed, FourPoints, TwoAlike, EdgeAndFace, AlikeOrCorner, EdgeAndSolid, AlikeOrVertex}
+use Rattle.demands.specs.Words.{VertexOfA, VertexOfB, Vertex, farPoint, FaceOfA, FaceOfB, EdgeOfA, EdgeOfB, Pierces, Enclosed}
+use Rattle.demands.specs.Words.{FourPoints, TwoAlike, EdgeAndFace, AlikeOrCorner, EdgeAndSolid, AlikeOrVertex}
 
 -- ---- an order of numbers in a row: by the first in which they differ
 
@@ -55,7 +56,8 @@ Rising R [] = Unit {0}
 Rising R (x ∷ xs) = Each (R x) xs × Rising R xs
 
 module _ (s : List ℕ) where
-  -- ---- the listing: "every pierced pair once", "Edges of A with faces of B first, then edges of B with faces of A; by lower point, then higher point, then face"
+  -- ---- the listing: "every pierced pair once", "Edges of A with faces of B first, then edges of B with faces of A; by lower point, then higher point,
+  -- then face"
 
   -- an edge of a solid and a face of the other that it pierces
   abbrev pub PiercedPair : Hit → Type 0
@@ -121,7 +123,8 @@ module _ (s : List ℕ) where
 
   pub record MasksAre (u v mask ones : ℕ) : Type 0 where
     pub of-a : (maskedOf s u v 1 ≡ faces-are mask ones) ↔ (FileOk limits s × EdgeAndSolid s u v 1 × ¬ AlikeOrVertex s u v 1 × MaskIs u v 0 (facesA s) mask ones)
-    pub of-b : (maskedOf s u v 2 ≡ faces-are mask ones) ↔ (FileOk limits s × EdgeAndSolid s u v 2 × ¬ AlikeOrVertex s u v 2 × MaskIs u v (facesA s) (facesB s) mask ones)
+    pub of-b : (maskedOf s u v 2 ≡ faces-are mask ones)
+        ↔ (FileOk limits s × EdgeAndSolid s u v 2 × ¬ AlikeOrVertex s u v 2 × MaskIs u v (facesA s) (facesB s) mask ones)
 
   -- ---- "a vertex is enclosed by the other solid exactly when its mask toward the far point has an odd number of ones"
 

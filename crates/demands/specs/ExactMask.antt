@@ -16,7 +16,8 @@ use Rattle.laws.specs.Lists.{Number, number-iff, number-once}
 use Rattle.scene.specs.Records.{vertsA, facesA, facesB}
 use Rattle.scene.specs.Tables.{tablesOf, row, face}
 use Rattle.pierce.specs.Formula.{pierced}
-use Rattle.pierce.specs.Faces.{maskAgainst, isOdd}
+use Rattle.face_masks.specs.Faces.{isOdd}
+use Rattle.pierce.specs.Against.{maskAgainst}
 use Rattle.scene.specs.View.{solid}
 use Rattle.kernel.specs.Answers.{maskIn, isEnclosed, otherSolid}
 use Rattle.demands.specs.Words.{VertexOfA, VertexOfB, farPoint, Pierces, Enclosed}
@@ -42,7 +43,8 @@ unfolding maskOf
 by-bits zero m h = omega arith
 by-bits (suc n) m h =
     let low = mask-low n (testBit m) in
-    let rest : maskOf (λ k. testBit m (suc k)) n ≡ m / 2 = mask-same (λ k. testBit m (suc k)) (testBit (m / 2)) n (λ k b. next-bit m k) ∙ by-bits n (m / 2) (omega (arith, pow-suc 2 n)) in
+    let rest : maskOf (λ k. testBit m (suc k)) n ≡ m / 2 =
+    mask-same (λ k. testBit m (suc k)) (testBit (m / 2)) n (λ k b. next-bit m k) ∙ by-bits n (m / 2) (omega (arith, pow-suc 2 n)) in
     let bit = lowest-bit m in
     low ∙ omega arith
 

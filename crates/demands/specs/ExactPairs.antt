@@ -1,6 +1,6 @@
 -- The entries of the listing of an accepted scene are the pierced pairs, each once, and they rise. Assumes nothing.
 use mathlib.Core.Path.{_≡_, sym, _∙_, subst}
-use mathlib.Core.Logic.{inl, inr, ⊎-elim, _↔_, Iff·trans, Iff·and}
+use mathlib.Core.Logic.{inl, inr, ⊎-elim, _↔_, Iff·trans}
 use mathlib.Core.Bool.{true, _&&_}
 use mathlib.Core.List.{List, [], _∷_}
 use Prim.Native.Nat.{ℕ, _+_, _-_, _≤_, _<_}
@@ -12,12 +12,12 @@ use Rattle.laws.specs.Lists.{Some, any-iff, each-map}
 use Rattle.scene.specs.Limits.{limits}
 use Rattle.scene.specs.Records.{vertsA, vertsB, verts}
 use Rattle.scene.specs.Tables.{tablesOf, row, face}
-use Rattle.scene.specs.Faces.{Corner, Both, Vertex, FaceOf}
+use Rattle.scene.specs.Faces.{Corner, Both, Vertex, FaceOf, both-iff}
 use Rattle.scene.specs.declared.Face.{Face}
 use Rattle.judge.specs.Judge.{judged}
 use Rattle.judge.specs.declared.Judged.the-variants.{Accepted}
 use Rattle.rules.specs.Given.{face-of-a, face-of-b}
-use Rattle.edges.specs.Edges.{hasBoth, joined, Corners}
+use Rattle.edges.specs.Edges.{joined, Corners}
 use Rattle.scene.specs.declared.Solid.{Solid}
 use Rattle.pierce.specs.Formula.{pierced}
 use Rattle.listing.specs.Hits.{Seen, Hit, faceHits, edgeHits, pairHits, pairsAt, vertexHits, solidHits}
@@ -28,7 +28,6 @@ use Rattle.demands.specs.Words.{FaceOfA, FaceOfB, EdgeOfA, EdgeOfB, Pier
 use Rattle.demands.specs.Exact.{Rising, PiercedPair, solidOf, Before, ListingIs}
 use Rattle.demands.specs.ExactRuns.{some-append, some-upTo, some-only, some-run, rising-append, rising-map, rising-once}
 use Rattle.demands.specs.ExactListing.{less-never, Lower, solid-each, solid-rises}
-use Rattle.demands.specs.AnswersTests.{corner-iff}
 
 -- a corner of one of the solid's faces is one of its vertices
 corner-vertex : {low high i : ℕ} (f : Face) → FaceOf low high f → Corner i f → Vertex low high i
@@ -44,10 +43,10 @@ module _ (v : Seen) (k : Solid) where
   Joined u w = (f : ℕ) × ((k .first + 1 ≤ f) × (f < k .first + 1 + k .count)) × Both u w (v .face f)
 
   joined-iff : (u w : ℕ) → (joined (v .face) k u w ≡ true) ↔ Joined u w
-  unfolding joined hasBoth
+  unfolding joined
   joined-iff u w =
       Iff·trans (any-iff (λ f. Both u w (v .face f)) (λ f. f) _ (k .first + 1) (k .first + 1 + k .count) (k .count) (omega arith)
-      (λ f. Iff·trans (and-iff _ _) (Iff·and (corner-iff u (v .face f)) (corner-iff w (v .face f)))))
+      (λ f. both-iff u w (v .face f)))
       (some-run (λ f. Both u w (v .face f)) (λ f. f) (k .first + 1) (k .count))
 
   pub record IsHit (h : Hit) : Type 0 where
@@ -200,7 +199,8 @@ module _ (s : List ℕ) where
   unfolding listingIn solid
   rises =
       rising-append (Before s) of-a of-b rises-a rises-b
-      (each-map (λ x p. each-map (λ y q. inl (omega (arith, solid-a (x .low) p, solid-b (y .low) q))) of-b (solid-each (seen (viewOf s)) (solidB (viewOf s)))) of-a
+      (each-map (λ x p. each-map (λ y q. inl (omega (arith, solid-a (x .low) p, solid-b (y .low) q))) of-b
+      (solid-each (seen (viewOf s)) (solidB (viewOf s)))) of-a
       (solid-each (seen (viewOf s)) (solidA (viewOf s))))
 
   pub listing-is : judged s ≡ Accepted → ListingIs s

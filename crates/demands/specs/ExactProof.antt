@@ -27,10 +27,13 @@ use Rattle.orient.specs.Terms.{positiveAt, termsAt}
 use Rattle.orient.specs.declared.Terms.{Terms}
 use Rattle.pierce.specs.Formula.{pierced}
 use Rattle.listing.specs.Hits.{isInside, insideCount}
-use Rattle.listing.specs.Pour.{allIn, partIn}
+use Rattle.listing.specs.Pour.{allIn}
 use Rattle.scene.specs.View.{viewOf, solidA, solidB, solid}
 use Rattle.kernel.specs.Laws.{answered-then}
-use Rattle.kernel.specs.Answers.{answered, enclosedIn, maskedIn, piercesIn, signIn, signFault, signOf, yesNo, piercesFault, piercesOf, maskIn, maskFault, maskedOf, refused, faces-are, isEnclosed, enclosedFault, enclosedOf, countsIn, countedOf, verdictIn, verdictOf, listFault, listedIn, heldIn, IsListed, isVertex, listingIn, seen, insideIn, insideFault, enclosingIn, insideOf, isSolid, IsPart}
+use Rattle.kernel.specs.Answers.{answered, enclosedIn, maskedIn, piercesIn, signIn, signFault, signOf, yesNo, piercesFault, piercesOf}
+use Rattle.kernel.specs.Answers.{maskIn, maskFault, maskedOf, refused, faces-are, isEnclosed, enclosedFault, enclosedOf, countsIn}
+use Rattle.kernel.specs.Answers.{countedOf, verdictIn, verdictOf, listFault, listedIn, heldIn, IsListed, isVertex, listingIn}
+use Rattle.kernel.specs.Answers.{seen, insideIn, insideFault, enclosingIn, insideOf, isSolid, IsPart}
 use Rattle.kernel.specs.declared.points.Signed.the-variants as sign
 use Rattle.kernel.specs.declared.points.Answer.{Answer}
 use Rattle.kernel.specs.declared.points.Answer.the-variants as answer
@@ -43,7 +46,8 @@ use Rattle.kernel.specs.declared.lists.Listed.{Listed}
 use Rattle.kernel.specs.declared.lists.Listed.the-variants as listed
 use Rattle.demands.specs.Words.{Vertex, Enclosed, EdgeAndFace, AlikeOrCorner, EdgeAndSolid, AlikeOrVertex}
 use Rattle.demands.specs.Exact.{VerdictIs, ListedIs, numbered, MaskIs, MasksAre, EnclosedIs, CountsAre, SignIs, PiercesIs, Exact, PartIs, InsideIs}
-use Rattle.demands.specs.AnswersTests.{asked-ok, nonsense, answered-ok, twice-ok, points-iff, edge-iff, mask-iff, alike-points, alike-corner, alike-vertex}
+use Rattle.demands.specs.AnswersTests.{asked-ok, nonsense, answered-ok, twice-ok, points-iff, edge-iff}
+use Rattle.demands.specs.AnswersTests.{mask-iff, alike-points, alike-corner, alike-vertex}
 use Rattle.demands.specs.ExactMask.{mask, mask-is, mask-once, enclosed-a, enclosed-b}
 use Rattle.demands.specs.ExactPairs.{listing-is}
 use Rattle.demands.specs.ExactVerdict.{inside-a, inside-b, Says, verdict-iff}
@@ -125,8 +129,10 @@ module _ (s : List ℕ) where
       (maskedOf s u v k ≡ faces-are m o) ↔ (FileOk limits s × EdgeAndSolid s u v k × ¬ AlikeOrVertex s u v k × MaskIs s u v behind n m o)
   unfolding maskedOf maskedIn maskFault
   masked u v k behind n e m o =
-      Iff·trans (twice-ok refused (faces-are m o) (λ r e. nonsense (cc)) (judged s) (maskFault (viewOf s) u v k) (faces-are (maskIn (viewOf s) u v k) (ones (maskIn (viewOf s) u v k))))
-      (Iff·trans (Iff·and (asked-ok s _ _ (mask-iff s u v k) (alike-vertex s u v k)) same) (λ h. (h .0 .0, h .0 .1, h .0 .2, h .1), λ h. ((h .0, h .1, h .2), h .3)))
+      Iff·trans (twice-ok refused (faces-are m o) (λ r e. nonsense (cc)) (judged s) (maskFault (viewOf s) u v k)
+      (faces-are (maskIn (viewOf s) u v k) (ones (maskIn (viewOf s) u v k))))
+      (Iff·trans (Iff·and (asked-ok s _ _ (mask-iff s u v k) (alike-vertex s u v k)) same)
+      (λ h. (h .0 .0, h .0 .1, h .0 .2, h .1), λ h. ((h .0, h .1, h .2), h .3)))
     where
       same : (faces-are (maskIn (viewOf s) u v k) (ones (maskIn (viewOf s) u v k)) ≡ faces-are m o) ↔ MaskIs s u v behind n m o
       same = (
@@ -150,10 +156,14 @@ module _ (s : List ℕ) where
   sign-is : (a b c d : ℕ) (t : Terms) (p : Bool) → (signOf s a b c d ≡ sign.Sign t p) ↔ (FileOk limits s × SignIs s a b c d t p)
   unfolding signOf signIn signFault
   sign-is a b c d t p =
-      Iff·trans (twice-ok sign.Refused (sign.Sign t p) (λ r e. nonsense (cc)) (judged s) (signFault (viewOf s) a b c d) (sign.Sign (termsAt (row (tablesOf s)) a b c d) (positiveAt (row (tablesOf s)) a b c d)))
+      Iff·trans (twice-ok sign.Refused (sign.Sign t p) (λ r e. nonsense (cc)) (judged s) (signFault (viewOf s) a b c d)
+      (sign.Sign (termsAt (row (tablesOf s)) a b c d) (positiveAt (row (tablesOf s)) a b c d)))
       (Iff·trans (Iff·and (asked-ok s _ _ (points-iff s a b c d) (λ h. alike-points s a b c d)) Iff·rfl) (
         λ h. let e = h .1 in (h .0 .0, record { points = h .0 .1; different = h .0 .2; terms = cc; sign = cc }),
-        λ h. let r = h .1 in ((h .0, r .points, r .different), ap (λ (t : Terms). sign.Sign t (positiveAt (row (tablesOf s)) a b c d)) (sym (r .terms)) ∙ ap (sign.Sign t) (sym (r .sign))),
+        λ h. let r = h .1 in (
+          (h .0, r .points, r .different),
+          ap (λ (t : Terms). sign.Sign t (positiveAt (row (tablesOf s)) a b c d)) (sym (r .terms)) ∙ ap (sign.Sign t) (sym (r .sign)),
+        ),
       ))
 
   yes-iff : (b : Bool) → (yesNo b ≡ answer.Yes) ↔ (b ≡ true)
@@ -175,7 +185,8 @@ module _ (s : List ℕ) where
           (piercesOf s u v f ≡ x) ↔ (FileOk limits s × EdgeAndFace s u v f × ¬ AlikeOrCorner s u v f × X)
       by x n e =
           Iff·trans (twice-ok answer.Refused x n (judged s) (piercesFault (viewOf s) u v f) (yesNo test))
-          (Iff·trans (Iff·and (asked-ok s _ _ (edge-iff s u v f) (λ h. alike-corner s u v f)) e) (λ h. (h .0 .0, h .0 .1, h .0 .2, h .1), λ h. ((h .0, h .1, h .2), h .3)))
+          (Iff·trans (Iff·and (asked-ok s _ _ (edge-iff s u v f) (λ h. alike-corner s u v f)) e)
+          (λ h. (h .0 .0, h .0 .1, h .0 .2, h .1), λ h. ((h .0, h .1, h .2), h .3)))
 
   enclosed-is : EnclosedIs s
   unfolding enclosedOf enclosedIn enclosedFault isVertex
@@ -187,18 +198,22 @@ module _ (s : List ℕ) where
         no = λ i. by i answer.No (λ r e. nonsense (cc)) (no-iff (isEnclosed (viewOf s) i));
       }
     where
-      by : {X : Type 0} (i : ℕ) (x : Answer) → ((r : Refusal) → ¬ (answer.Refused r ≡ x)) → (yesNo (isEnclosed (viewOf s) i) ≡ x) ↔ X → (enclosedOf s i ≡ x) ↔ (FileOk limits s × Vertex s i × X)
+      by : {X : Type 0} (i : ℕ) (x : Answer) → ((r : Refusal) → ¬ (answer.Refused r ≡ x)) → (yesNo (isEnclosed (viewOf s) i) ≡ x) ↔ X →
+          (enclosedOf s i ≡ x) ↔ (FileOk limits s × Vertex s i × X)
       by i x n e =
           Iff·trans (twice-ok answer.Refused x n (judged s) (enclosedFault (viewOf s) i) (yesNo (isEnclosed (viewOf s) i)))
-          (Iff·trans (Iff·and (Iff·trans (then-iff _ _) (Iff·and accepted (Iff·trans (rule-iff _ _ _) (λ h. within-iff 1 (verts s) i .0 (h .0), λ h. (within-iff 1 (verts s) i .1 h, refl))))) e)
+          (Iff·trans (Iff·and (Iff·trans (then-iff _ _) (Iff·and accepted
+          (Iff·trans (rule-iff _ _ _) (λ h. within-iff 1 (verts s) i .0 (h .0), λ h. (within-iff 1 (verts s) i .1 h, refl))))) e)
           (λ h. (h .0 .0, h .0 .1, h .1), λ h. ((h .0, h .1), h .2)))
 
   -- ---- counts
 
-  inside-number : (p : ℕ → Bool) (a n : ℕ) → ((i : ℕ) → a ≤ i → i < a + n → p i ≡ isEnclosed (viewOf s) i) → Number (Enclosed s) (numbered a n) (countOf p a (a + n))
+  inside-number : (p : ℕ → Bool) (a n : ℕ) → ((i : ℕ) → a ≤ i → i < a + n → p i ≡ isEnclosed (viewOf s) i) →
+      Number (Enclosed s) (numbered a n) (countOf p a (a + n))
   inside-number p a n h =
       number-iff (Enclosed s) (isEnclosed (viewOf s)) (λ i. Iff·rfl) (numbered a n) (countOf p a (a + n)) .0
-      (sym (count-run (λ i. i) p p a (a + n) n (omega arith) (λ i. refl) ∙ count-same p (isEnclosed (viewOf s)) (numbered a n) (run-each (λ i. p i ≡ isEnclosed (viewOf s) i) (λ i. i) a n h)))
+      (sym (count-run (λ i. i) p p a (a + n) n (omega arith) (λ i. refl)
+      ∙ count-same p (isEnclosed (viewOf s)) (numbered a n) (run-each (λ i. p i ≡ isEnclosed (viewOf s) i) (λ i. i) a n h)))
 
   number-a : Number (Enclosed s) (numbered 1 (vertsA s)) (insideCount (seen (viewOf s)) (solidA (viewOf s)))
   unfolding insideCount
@@ -226,9 +241,17 @@ module _ (s : List ℕ) where
   inside-is n =
       record {
         of-a = Iff·trans (answered-ok enclosing.Refused (enclosing.Count n) (λ r e. nonsense (cc)) (judged s) _)
-            (Iff·and accepted (λ e. let d : _ ≡ n = cc in subst (Number (Enclosed s) (numbered 1 (vertsA s))) d number-a, λ h. ap enclosing.Count (number-once number-a h)));
+            (Iff·and accepted (
+              λ e. let d : _ ≡ n =
+                  cc in subst (Number (Enclosed s) (numbered 1 (vertsA s))) d number-a,
+              λ h. ap enclosing.Count (number-once number-a h),
+            ));
         of-b = Iff·trans (answered-ok enclosing.Refused (enclosing.Count n) (λ r e. nonsense (cc)) (judged s) _)
-            (Iff·and accepted (λ e. let d : _ ≡ n = cc in subst (Number (Enclosed s) (numbered (vertsA s + 1) (vertsB s))) d number-b, λ h. ap enclosing.Count (number-once number-b h)));
+            (Iff·and accepted (
+              λ e. let d : _ ≡ n =
+                  cc in subst (Number (Enclosed s) (numbered (vertsA s + 1) (vertsB s))) d number-b,
+              λ h. ap enclosing.Count (number-once number-b h),
+            ));
       }
 
 -- ---- the demand

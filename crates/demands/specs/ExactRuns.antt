@@ -55,7 +55,8 @@ module _ {A : Type 0} where
       λ h. there h (ℕ-discrete (h .0) k) (some-run f (suc k) n .1),
     )
       where
-        there : (h : (i : ℕ) × ((k ≤ i) × (i < k + suc n)) × P (f i)) → Dec (h .0 ≡ k) → ((i : ℕ) × ((suc k ≤ i) × (i < suc k + n)) × P (f i) → Some P (run f (suc k) n)) →
+        there : (h : (i : ℕ) × ((k ≤ i) × (i < k + suc n)) × P (f i)) → Dec (h .0 ≡ k) →
+            ((i : ℕ) × ((suc k ≤ i) × (i < suc k + n)) × P (f i) → Some P (run f (suc k) n)) →
             P (f k) ⊎ Some P (run f (suc k) n)
         there h (yes e) next = inl (subst (λ (i : ℕ). P (f i)) e (h .2))
         there h (no d) next = inr (next (h .0, (omega (arith, h .1), omega (arith, h .1)), h .2))

@@ -15,7 +15,7 @@ use Rattle.scene.specs.Records.{vertsA, vertsB, verts}
 use Rattle.judge.specs.Judge.{judged}
 use Rattle.judge.specs.declared.Judged.the-variants.{Accepted, Refused}
 use Rattle.scene.specs.declared.Solid.{Solid}
-use Rattle.pierce.specs.Faces.{enclosed}
+use Rattle.pierce.specs.Against.{enclosed}
 use Rattle.listing.specs.Hits.{Hit, isInside, lowestInside}
 use Rattle.listing.specs.First.{firstOf}
 use Rattle.listing.specs.Pour.{three}

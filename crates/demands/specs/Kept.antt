@@ -1,7 +1,9 @@
--- What the change requests left as it was: scenes accepted before are accepted still, with the same answers. Assumes nothing.
+-- What the change requests left as it was: scenes accepted before, by what the definitions were, are accepted still, with the same answers.
+-- Assumes nothing.
 use mathlib.Core.Path.{_≡_}
+use mathlib.Core.Bool.{Bool}
 use mathlib.Core.List.{List}
-use Prim.Native.Nat.{ℕ, _+_, _*_, _≤_, _<_}
+use Prim.Native.Nat.{ℕ, _+_, _≤_, _<_}
 use lib.IntN.{ℤ, pos, _+ℤ_, _-ℤ_, _*ℤ_}
 use lib.ListN.{length}
 use Rattle.laws.specs.Lists.{Number}
@@ -10,18 +12,24 @@ use Rattle.scene.specs.Records.{facesA, verts, faces, lastRecord}
 use Rattle.scene.specs.Tables.{rowAt, faceAt, tablesOf, row}
 use Rattle.scene.specs.View.{viewOf}
 use Rattle.scene.specs.Faces.{Both, Sides}
+use Rattle.scene.specs.declared.Face.{Face}
 use Rattle.scene.specs.declared.Refusal.the-variants.{Counts}
 use Rattle.judge.specs.Judge.{judgedAt, judged}
 use Rattle.judge.specs.declared.Judged.the-variants.{Accepted, Refused}
 use Rattle.rules.specs.Rules.{CountsOk, HeaderOk, MarkOk, CoordinatesOk, WeightIn, CornersOk, RecordsOk, AllUsed, SidesOk}
 use Rattle.laws.specs.Sign.{sign, _or_}
 use Rattle.orient.specs.Terms.{Numbered, Powers, powers, isPlus, positiveAt, termsAt}
+use Rattle.pierce.specs.Beside.{Beside}
+use Rattle.pierce.specs.Formula.{pierces, pierced}
 use Rattle.listing.specs.Pour.{partIn}
-use Rattle.kernel.specs.Answers.{signIn, signOf, piercesIn, piercesOf, maskedIn, maskedOf, enclosedIn, enclosedOf, countsIn, countedOf, enclosingIn, insideOf, verdictIn, verdictOf, listingIn, listedIn, heldIn, IsListed, IsPart}
+use Rattle.kernel.specs.Answers.{signIn, piercesIn, maskedIn, enclosedIn, countsIn, enclosingIn, verdictIn, listingIn, listedIn, heldIn}
+use Rattle.kernel.specs.Answers.{signOf, piercesOf, maskedOf, enclosedOf, countedOf, insideOf, verdictOf, IsListed, IsPart}
 use Rattle.kernel.specs.declared.counts.Counted.the-variants as counted
 use Rattle.kernel.specs.declared.lists.Listed.{Listed}
 use Rattle.kernel.specs.declared.lists.Listed.the-variants as listed
 use Rattle.demands.specs.Words.{FourPoints}
+use Rattle.demands.specs.Before.{judgedBefore}
+use Rattle.demands.specs.Witnesses.{printed}
 
 -- ---- the answers about a scene that is accepted: those of what its bytes denote, whatever rules accepted it
 
@@ -80,21 +88,25 @@ module _ (s : List ℕ) where
   byWeight i = let r = row (tablesOf s) i in record { x = r .x; y = r .y; z = r .z; w = r .w; k = r .w; i = pos i }
 
   abbrev pub termsByWeight : (a b c d : ℕ) → Powers ℤ
-  termsByWeight a b c d = powers (pos 0) (pos 1) _+ℤ_ _-ℤ_ _*ℤ_ (byWeight a) (byWeight b) (byWeight c) (byWeight d)
+  termsByWeight a b c d = powers (pos 0) _+ℤ_ _-ℤ_ _*ℤ_ (byWeight a) (byWeight b) (byWeight c) (byWeight d)
 
-  -- the terms and the sign, on which every other answer rests
+  abbrev pub signByWeight : (a b c d : ℕ) → Bool
+  signByWeight a b c d = let t = termsByWeight a b c d in isPlus (sign (t .e0) or (sign (t .e1) or sign (t .e2) or sign (t .e3)))
+
+  -- the terms and the sign
   pub record SameTerms (a b c d : ℕ) : Type 0 where
     pub t0 : termsAt (row (tablesOf s)) a b c d .c0 ≡ termsByWeight a b c d .e0
     pub t1 : termsAt (row (tablesOf s)) a b c d .c1 ≡ termsByWeight a b c d .e1
     pub t2 : termsAt (row (tablesOf s)) a b c d .c2 ≡ termsByWeight a b c d .e2
     pub t3 : termsAt (row (tablesOf s)) a b c d .c3 ≡ termsByWeight a b c d .e3
-    pub positive :
-        positiveAt (row (tablesOf s)) a b c d
-        ≡ isPlus (let t = termsByWeight a b c d in sign (t .e0) or (sign (t .e1) or sign (t .e2) or sign (t .e3)))
+    pub positive : positiveAt (row (tablesOf s)) a b c d ≡ signByWeight a b c d
 
+  -- and piercing, of an edge and a face of five different points: by it all that is asked of edges, faces and vertices is told (`Exact`)
   pub record AllWeighted : Type 0 where
     pub still : Still
     pub terms : (a b c d : ℕ) → FourPoints s a b c d → SameTerms a b c d
+    pub pierces : (u v : ℕ) (f : Face) → Beside (verts s + 1) u v f →
+        pierced (verts s + 1) (row (tablesOf s)) u v f ≡ pierces (verts s + 1) signByWeight u v f
 
 abbrev pub SharedEdges : Type 0
 SharedEdges = (s : List ℕ) → RulesOfTwo s → Still s
@@ -104,3 +116,9 @@ LargerModels = (s : List ℕ) → SmallerLimits s
 
 abbrev pub FarAtInfinity : Type 0
 FarAtInfinity = (s : List ℕ) → RulesOfWeights s → AllWeighted s
+
+-- ---- before all of them: what the judge of document 01 accepted, its printed scene among it
+
+pub record FirstKernel : Type 0 where
+  pub kept : (s : List ℕ) → judgedBefore s ≡ Accepted → AllWeighted s
+  pub printed-scene : judgedBefore printed ≡ Accepted

@@ -2,13 +2,13 @@
 use mathlib.Core.Path.{_≡_, refl, sym, ap, subst, _∙_}
 use mathlib.Core.List.{List}
 use mathlib.Core.Logic.{_≢_}
-use Prim.Native.Nat.{ℕ, zero, suc, _+_, _≤_, _<_}
+use Prim.Native.Nat.{ℕ, _+_, _≤_, _<_}
 use native.Mathlib.Decide.{decLt}
 use lib.IntN.{pos, natAbs, _+ℤ_, _-ℤ_, _*ℤ_}
 use Rattle.laws.specs.Lists.{Number}
 use native.Mathlib.Omega.{arith}
 use Rattle.laws.specs.Decides.{fails-iff}
-use Rattle.scene.specs.Limits.{limits, limitsBefore, leastWeight}
+use Rattle.scene.specs.Limits.{limits, limitsBefore}
 use Rattle.scene.specs.Records.{verts}
 use Rattle.scene.specs.Tables.{rowAt, tablesOf, row}
 use Rattle.scene.specs.Read.{row-is, far-is}
@@ -33,7 +33,12 @@ use Rattle.kernel.specs.declared.counts.Counted.the-variants as counted
 use Rattle.kernel.specs.declared.inside.Enclosing.the-variants as enclosing
 use Rattle.kernel.specs.declared.verdict.Verdict.the-variants as verdict
 use Rattle.kernel.specs.declared.lists.Listed.the-variants as listed
-use Rattle.demands.specs.Kept.{Answers, Still, SharedEdges, LargerModels, RulesOfWeights, byWeight, termsByWeight, SameTerms, FarAtInfinity}
+use Rattle.demands.specs.Kept.{Answers, Still, RulesOfWeights, byWeight, termsByWeight, signByWeight, SameTerms, AllWeighted}
+use Rattle.demands.specs.Kept.{SharedEdges, LargerModels, FarAtInfinity, FirstKernel}
+use Rattle.demands.specs.Before.{judgedBefore}
+use Rattle.demands.specs.Computing.{judging}
+use Rattle.demands.specs.BeforeProof.{least-one, before-accepted, before-weighs}
+use Rattle.demands.specs.Same.{pierces-same}
 
 -- the scene's judgement comes first, and says nothing
 taken : {X : Type 0} (refuse : Refusal → X) {j : Judged} → j ≡ Accepted → (x : X) → answered refuse j x ≡ x
@@ -113,10 +118,6 @@ larger-models s =
 -- ---- a far point at infinity: where each weight is not 0, it is the factor of its shift
 
 module _ (s : List ℕ) (h : RulesOfWeights s) where
-  least-one : (j : ℕ) → leastWeight j ≤ 1
-  least-one zero = omega arith
-  least-one (suc j) = omega arith
-
   file-ok : FileOk limits s
   file-ok =
       record {
@@ -158,14 +159,15 @@ module _ (s : List ℕ) (h : RulesOfWeights s) where
       λ j. record { x = r .x; y = r .y; z = r .z; w = r .w; k = e j; i = pos i }
 
   same-powers : (a b c d : ℕ) → FourPoints s a b c d →
-      terms (pointAt (row (tablesOf s)) a) (pointAt (row (tablesOf s)) b) (pointAt (row (tablesOf s)) c) (pointAt (row (tablesOf s)) d) ≡ termsByWeight s a b c d
+      terms (pointAt (row (tablesOf s)) a) (pointAt (row (tablesOf s)) b) (pointAt (row (tablesOf s)) c) (pointAt (row (tablesOf s)) d)
+      ≡ termsByWeight s a b c d
   unfolding terms
   same-powers a b c d f =
       let na = numbered-same a (f .0) in
       let nb = numbered-same b (f .1) in
       let nc = numbered-same c (f .2) in
       let nd = numbered-same d (f .3) in
-      λ j. powers (pos 0) (pos 1) _+ℤ_ _-ℤ_ _*ℤ_ (na j) (nb j) (nc j) (nd j)
+      λ j. powers (pos 0) _+ℤ_ _-ℤ_ _*ℤ_ (na j) (nb j) (nc j) (nd j)
 
   same-terms : (a b c d : ℕ) → FourPoints s a b c d → SameTerms s a b c d
   unfolding termsAt positiveAt orientation
@@ -180,4 +182,37 @@ module _ (s : List ℕ) (h : RulesOfWeights s) where
       }
 
 pub far-at-infinity : FarAtInfinity
-far-at-infinity s h = record { still = still s (file-ok s h); terms = same-terms s h }
+far-at-infinity s h =
+    record {
+      still = still s (file-ok s h);
+      terms = same-terms s h;
+      pierces =
+          pierces-same (verts s + 1) (positiveAt (row (tablesOf s))) (signByWeight s)
+          (λ a b c d f. same-terms s h a b c d (f .a-in, f .b-in, f .c-in, f .d-in) .positive) (let c = h .header .counts in omega arith);
+    }
+
+-- ---- what the judge of document 01 accepted keeps the rules of weights
+
+before-weighted : (s : List ℕ) → judgedBefore s ≡ Accepted → AllWeighted s
+before-weighted s e =
+    let a = before-accepted s e in
+    let h = accepted limits s .0 (sym (alike s (accepted limitsBefore s .0 a .header .counts)) ∙ a) in
+    far-at-infinity s
+    (record {
+      header = h .header;
+      records =
+          λ k p q.
+          let r = h .records k p q in
+          record {
+            mark = r .mark;
+            coordinates = r .coordinates;
+            weight = λ j c d. (before-weighs s e j c, r .weight j c d .1);
+            corners = r .corners;
+          };
+      used = h .used;
+      sides = h .sides;
+    })
+
+pub first-kernel : FirstKernel
+unfolding judging
+first-kernel = record { kept = before-weighted; printed-scene = refl }

@@ -1,6 +1,7 @@
 pub mod Words
 pub mod Solids
 pub mod Answers
+pub mod Numbers
 pub mod AnswersGiven
 pub mod Exact
 pub mod Parity
@@ -15,10 +16,12 @@ pub mod Computing
 pub mod Marked
 pub mod Witnesses
 pub mod Shift
+pub mod Before
 pub mod Kept
 pub mod Engines
 pub mod AnswersTests
 pub mod AnswersProof
+pub mod NumbersProof
 pub mod AnswersGivenProof
 pub mod ExactRuns
 pub mod ExactListing
@@ -36,5 +39,6 @@ pub mod MarkedProof
 pub mod WitnessesProof
 pub mod Same
 pub mod ShiftProof
+pub mod BeforeProof
 pub mod KeptProof
 pub mod EnginesProof

@@ -66,14 +66,19 @@ abbrev five : Row
 five = at (pos 5) (pos 5) (pos 5)
 
 pub record Marked : Type 0 where
-  pub s1 : SignIs (fourOf (at (pos 0) (pos 0) (pos 0)) (at (pos 1) (pos 0) (pos 0)) (at (pos 0) (pos 1) (pos 0)) (at (pos 0) (pos 0) (pos 1))) 1 2 3 4 (minus 1 ∷ []) false
-  pub s2 : SignIs (fourOf (at (pos 0) (pos 0) (pos 0)) (at (pos 1) (pos 0) (pos 0)) (at (pos 0) (pos 1) (pos 0)) (weighted (pos 0) (pos 0) (minus 1) (minus 1))) 1 2 3 4 (pos 1 ∷ []) true
+  pub s1 : SignIs (fourOf (at (pos 0) (pos 0) (pos 0)) (at (pos 1) (pos 0) (pos 0)) (at (pos 0) (pos 1) (pos 0))
+      (at (pos 0) (pos 0) (pos 1))) 1 2 3 4 (minus 1 ∷ []) false
+  pub s2 : SignIs (fourOf (at (pos 0) (pos 0) (pos 0)) (at (pos 1) (pos 0) (pos 0)) (at (pos 0) (pos 1) (pos 0))
+      (weighted (pos 0) (pos 0) (minus 1) (minus 1))) 1 2 3 4 (pos 1 ∷ []) true
   pub s3 : SignIs (fourOf five five five five) 1 2 3 4 (pos 0 ∷ pos 0 ∷ pos 0 ∷ minus 12 ∷ []) false
   pub s4 : SignIs (fourOf five five five five) 2 1 3 4 (pos 0 ∷ pos 0 ∷ pos 0 ∷ pos 12 ∷ []) true
-  pub s5 : SignIs (fourOf (at (pos 0) (pos 0) (pos 0)) (at (pos 1) (pos 0) (pos 0)) (at (pos 0) (pos 1) (pos 0)) (at (pos 1) (pos 1) (pos 0))) 1 2 3 4 (pos 0 ∷ minus 30 ∷ []) false
-  pub s6 : SignIs (fourOf (at (pos 0) (pos 0) (pos 0)) (at (pos 1) (pos 0) (pos 0)) (at (pos 0) (pos 1) (pos 0)) (at (pos 9) (pos 0) (pos 0))) 1 2 3 4 (pos 0 ∷ pos 0 ∷ minus 354 ∷ []) false
+  pub s5 : SignIs (fourOf (at (pos 0) (pos 0) (pos 0)) (at (pos 1) (pos 0) (pos 0)) (at (pos 0) (pos 1) (pos 0))
+      (at (pos 1) (pos 1) (pos 0))) 1 2 3 4 (pos 0 ∷ minus 30 ∷ []) false
+  pub s6 : SignIs (fourOf (at (pos 0) (pos 0) (pos 0)) (at (pos 1) (pos 0) (pos 0)) (at (pos 0) (pos 1) (pos 0))
+      (at (pos 9) (pos 0) (pos 0))) 1 2 3 4 (pos 0 ∷ pos 0 ∷ minus 354 ∷ []) false
   pub s7 : SignIs (fourOf five five five (weighted (minus 5) (minus 5) (minus 5) (minus 1))) 1 2 3 4 (pos 0 ∷ pos 0 ∷ pos 0 ∷ pos 12 ∷ []) true
-  pub s8 : SignIs (fourOf (at (pos 0) (pos 0) (pos 0)) (weighted (pos 2) (pos 0) (pos 0) (pos 2)) (at (pos 0) (pos 1) (pos 0)) (at (pos 1) (pos 1) (pos 0))) 1 2 3 4 (pos 0 ∷ minus 60 ∷ []) false
+  pub s8 : SignIs (fourOf (at (pos 0) (pos 0) (pos 0)) (weighted (pos 2) (pos 0) (pos 0) (pos 2)) (at (pos 0) (pos 1) (pos 0))
+      (at (pos 1) (pos 1) (pos 0))) 1 2 3 4 (pos 0 ∷ minus 60 ∷ []) false
   pub e1 : PiercedIs (edgeOf (at (pos 1) (pos 1) (minus 3)) (at (pos 1) (pos 1) (pos 1))) Yes
   pub e2 : PiercedIs (edgeOf (at (pos 1) (pos 1) (minus 3)) (weighted (minus 1) (minus 1) (minus 1) (minus 1))) No
   pub e3 : PiercedIs (edgeOf (at (pos 5) (pos 5) (minus 3)) (at (pos 5) (pos 5) (pos 1))) No

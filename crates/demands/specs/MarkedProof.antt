@@ -1,8 +1,9 @@
 -- The marked examples, computed. Assumes nothing.
 use mathlib.Core.Path.{refl}
+use Rattle.scene.specs.Faces.{isCorner}
 use Rattle.orient.specs.Terms.{termsAt}
-use Rattle.edges.specs.Edges.{isCorner}
-use Rattle.kernel.specs.Answers.{answered, isPoint, isFace, differ, arePoints, signFault, signOf, clear, edgeAndFace, piercesFault, piercesOf, signIn, piercesIn}
+use Rattle.kernel.specs.Answers.{answered, isPoint, isFace, differ, arePoints, signFault, signOf, clear}
+use Rattle.kernel.specs.Answers.{edgeAndFace, piercesFault, piercesOf, signIn, piercesIn}
 use Rattle.demands.specs.Computing.{judging, piercing}
 use Rattle.demands.specs.Marked.{Marked}
 

@@ -17,6 +17,7 @@ use Rattle.scene.specs.Records.{countsOf}
 use Rattle.scene.specs.Tables.{tablesOf, row, face}
 use Rattle.scene.specs.View.{viewOf, verts, points, faces, solid}
 use Rattle.scene.specs.Arrays.{rowIn, faceIn}
+use Rattle.scene.specs.Faces.{isCorner}
 use Rattle.scene.specs.declared.Refusal.{Refusal}
 use Rattle.scene.specs.declared.Scene.{Scene}
 use Rattle.scene.specs.declared.Row.{Row}
@@ -26,11 +27,12 @@ use Rattle.judge.specs.declared.Judged.{Judged}
 use Rattle.record.specs.Shown.{refusal, shown}
 use Rattle.orient.specs.Terms.{positiveAt, termsAt}
 use Rattle.orient.specs.declared.Terms.{Terms}
-use Rattle.edges.specs.Edges.{isCorner}
 use Rattle.scene.specs.declared.Solid.{Solid}
 use Rattle.pierce.specs.Formula.{pierced}
-use Rattle.pierce.specs.Faces.{maskAgainst, enclosed, valueOf, isOdd, hasFace, firstFace}
-use Rattle.pierce.specs.declared.faces.Mask.{Mask}
+use Rattle.face_masks.specs.Faces.{valueOf, isOdd, hasFace, firstFace}
+use Rattle.pierce.specs.Against.{maskAgainst, enclosed}
+use Rattle.face_masks.specs.declared.Mask.{Mask}
+use Rattle.plain.specs.Five.{fiveSigns}
 use Rattle.kernel.specs.declared.inside.Enclosing.{Enclosing}
 use Rattle.kernel.specs.Answers.{isPoint, signOf, piercesOf, saidMask, maskedOf, enclosedOf, countedOf, verdictOf, IsListed, IsPart, insideOf}
 use Rattle.kernel.specs.declared.points.Signed.{Signed}
@@ -93,6 +95,7 @@ pub record PierceOnce : Type 0 where
       OnceOfWords Words (λ (rows : List ℤ) (r : Mask). valueOf r ≡ maskAgainst n (rowIn rows) (faceIn corners) u v first count)
   pub is-enclosed : (corners : List ℕ) (n u first count : ℕ) → Once (λ (rows : List ℤ) (r : Bool). r ≡ enclosed n (rowIn rows) (faceIn corners) u first count)
   pub pierces : (n u v : ℕ) (f : Face) → Once (λ (rows : List ℤ) (r : Bool). r ≡ pierced n (rowIn rows) u v f)
+  pub plain-pierces : (u v : ℕ) (f : Face) → Once (λ (rows : List ℤ) (r : Bool). r ≡ fiveSigns (rowIn rows) u v f)
   pub ones-of : Once (λ (m : Mask) (r : ℕ). r ≡ ones (valueOf m))
   pub is-odd : Once (λ (m : Mask) (r : Bool). r ≡ isOdd (valueOf m))
   pub has-face : Once (λ (m : Mask) (r : Bool). r ≡ hasFace (valueOf m))

@@ -12,8 +12,8 @@ use Rattle.laws.specs.Unique.{once}
 use Rattle.scene.specs.Arrays.{rowIn, faceIn}
 use Rattle.scene.specs.declared.Row.{Row}
 use Rattle.scene.specs.declared.Face.{Face}
-use Rattle.pierce.specs.Faces.{valueOf}
-use Rattle.pierce.specs.declared.faces.Mask.{Mask}
+use Rattle.face_masks.specs.Faces.{valueOf}
+use Rattle.face_masks.specs.declared.Mask.{Mask}
 use Rattle.kernel.specs.Answers.{saidMask}
 use Rattle.kernel.specs.declared.masks.Masked.{Masked}
 use Rattle.kernel.specs.declared.masks.Masked.the-variants.{Refused, Faces}
@@ -99,6 +99,7 @@ of-pierce =
       mask = λ corners n u v first count rows b c x y p q. same-mask b c x y (p ∙ sym q);
       is-enclosed = λ corners n u first count. once _;
       pierces = λ n u v f. once _;
+      plain-pierces = λ u v f. once _;
       ones-of = once _;
       is-odd = once _;
       has-face = once _;

@@ -18,7 +18,8 @@ use Rattle.edges.specs.Edges.{joined}
 use Rattle.pierce.specs.Formula.{helper, sidesCount, formula, pierces, pierced}
 use Rattle.pierce.specs.Helper.{helper-found}
 use Rattle.pierce.specs.Beside.{Beside, BesideAll}
-use Rattle.pierce.specs.Faces.{maskAgainst, isOdd}
+use Rattle.face_masks.specs.Faces.{isOdd}
+use Rattle.pierce.specs.Against.{maskAgainst}
 use Rattle.listing.specs.Hits.{Seen, Hit, faceHits, edgeHits, pairHits, pairsAt, vertexHits, solidHits, isInside, insideCount, lowestInside, Own, Sound}
 use Rattle.listing.specs.First.{firstOf}
 use Rattle.listing.specs.Laws.{upTo-same}
@@ -42,7 +43,7 @@ module _ (n : ℕ) (s t : ℕ → ℕ → ℕ → ℕ → Bool) (same : (a b c d
       let e8 = same u v r p (search ne-sym) in
       rw (e1, e2, e3, e4, e5, e6, e7, e8)
 
-  pierces-same : 6 ≤ n → (u v : ℕ) (f : Face) → Beside n u v f → pierces n s u v f ≡ pierces n t u v f
+  pub pierces-same : 6 ≤ n → (u v : ℕ) (f : Face) → Beside n u v f → pierces n s u v f ≡ pierces n t u v f
   unfolding pierces
   pierces-same l u v f d = formula-same u v (helper n u v f) (f .p) (f .q) (f .r) (helper-found n u v f l d)
 

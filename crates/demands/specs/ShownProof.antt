@@ -33,7 +33,8 @@ module _ (s : List ℕ) (ok : judged s ≡ Accepted) where
   point-part : (j : ℕ) → j ≤ verts s → shown s (suc j) ≡ part s (pointStart j) 9
   point-part j h =
       let e : suc j - 1 ≡ j = omega arith in
-      by-part (suc j) (pointStart j) 9 (omega arith) (at-point s (suc j) (λ z. omega (arith, z)) (omega arith) (ap (λ (i : ℕ). part s (pointStart i) 9) (sym e)))
+      by-part (suc j) (pointStart j) 9 (omega arith) (at-point s (suc j) (λ z. omega (arith, z)) (omega arith)
+      (ap (λ (i : ℕ). part s (pointStart i) 9) (sym e)))
 
   face-part : (i : ℕ) → i < faces s → shown s (2 + verts s + i) ≡ part s (faceStart s i) 5
   face-part i h =
@@ -52,7 +53,8 @@ module _ (s : List ℕ) (ok : judged s ≡ Accepted) where
   to-point : (j : ℕ) → j ≤ verts s + 1 → endToEnd s (suc j) ≡ take (pointStart j) s
   to-point zero h = ap (λ (x : List ℕ). [] ++ x) header-part
   to-point (suc j) h =
-      ap (λ (x : List ℕ). endToEnd s (suc j) ++ x) (point-part j (omega arith)) ∙ further (pointStart j) 9 (pointStart (suc j)) (to-point j (omega arith)) (omega arith)
+      ap (λ (x : List ℕ). endToEnd s (suc j) ++ x) (point-part j (omega arith))
+      ∙ further (pointStart j) 9 (pointStart (suc j)) (to-point j (omega arith)) (omega arith)
 
   to-face : (i : ℕ) → i ≤ faces s → endToEnd s (2 + verts s + i) ≡ take (faceStart s i) s
   to-face zero h =

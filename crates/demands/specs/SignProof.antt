@@ -1,11 +1,11 @@
 -- The sign is that of the first term that is not zero, and the last never is. Assumes nothing.
 use mathlib.Core.Path.{_≡_, refl, sym, _∙_}
 use mathlib.Core.Logic.{_≢_, _⊎_, _↔_, inl, inr, ⊎-elim, Iff·trans}
-use mathlib.Core.Bool.{Bool, true, false, true≢false, false≢true}
-use Prim.Native.Nat.{ℕ, zero, suc}
+use mathlib.Core.Bool.{true, false, true≢false}
+use Prim.Native.Nat.{zero, suc}
 use lib.IntN.{ℤ, pos, negsuc}
 use Rattle.laws.specs.Decides.{eqb-iff}
-use Rattle.laws.specs.Sign.{Sign, sign, _or_, none, plus, minus}
+use Rattle.laws.specs.Sign.{Sign, sign, _or_, plus, minus}
 use Rattle.scene.specs.View.{viewOf, points}
 use Rattle.orient.specs.Laws.{psi, c3-psi}
 use Rattle.orient.specs.Signs.{Upto, Four}
@@ -14,7 +14,7 @@ use Rattle.orient.specs.Weighted.{c3-nonzero, slide-tells}
 use Rattle.kernel.specs.Ready.{scene-weighted}
 use Rattle.demands.specs.AnswersTests.{nonsense}
 use Rattle.demands.specs.Sign as said
-use Rattle.demands.specs.Sign.{Positive, Negative, SignIs}
+use Rattle.demands.specs.Sign.{Positive, Negative}
 
 positive-iff : (z : ℤ) → (isPlus (sign z) ≡ true) ↔ Positive z
 positive-iff (pos zero) = (λ e. absurd (true≢false (sym e)), λ h. nonsense (cc))

@@ -1,8 +1,7 @@
 -- By five signs: an exchange turns all of them that it turns alike. Assumes nothing.
 use mathlib.Core.Path.{_≡_, refl, sym, _∙_}
 use mathlib.Core.Bool.{Bool, not}
-use mathlib.Core.List.{List}
-use Prim.Native.Nat.{ℕ, _+_, _≤_}
+use Prim.Native.Nat.{ℕ, _≤_}
 use Rattle.laws.specs.Bools.{all, _≐_, law}
 use Rattle.scene.specs.View.{viewOf, points}
 use Rattle.scene.specs.declared.Face.{Face}

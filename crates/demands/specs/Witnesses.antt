@@ -31,12 +31,17 @@ crossing =
     }
 
 abbrev beside : Table
-beside = record { rows = at (pos 20) (pos 0) (pos 0) ∷ at (pos 24) (pos 1) (pos 0) ∷ at (pos 20) (pos 5) (pos 0) ∷ at (pos 21) (pos 0) (pos 4) ∷ []; faces = four }
+beside = record {
+  rows =
+      at (pos 20) (pos 0) (pos 0) ∷ at (pos 24) (pos 1) (pos 0) ∷ at (pos 20) (pos 5) (pos 0) ∷ at (pos 21) (pos 0) (pos 4) ∷ [];
+  faces = four;
+}
 
 abbrev around : Table
 around =
     record {
-      rows = at (minus 30) (minus 30) (minus 30) ∷ at (pos 60) (minus 20) (minus 25) ∷ at (minus 20) (pos 60) (minus 25) ∷ at (minus 25) (minus 20) (pos 60) ∷ [];
+      rows = at (minus 30) (minus 30) (minus 30) ∷ at (pos 60) (minus 20) (minus 25) ∷ at (minus 20) (pos 60) (minus 25) ∷ at (minus 25)
+          (minus 20) (pos 60) ∷ [];
       faces = four;
     }
 

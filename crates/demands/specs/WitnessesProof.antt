@@ -2,11 +2,12 @@
 use mathlib.Core.Path.{refl}
 use lib.Count.{ones}
 use Rattle.laws.specs.Mask.{maskOf}
-use Rattle.edges.specs.Edges.{isCorner, hasBoth, joined}
-use Rattle.pierce.specs.Faces.{isOdd}
+use Rattle.edges.specs.Edges.{joined}
+use Rattle.face_masks.specs.Faces.{isOdd}
 use Rattle.listing.specs.Hits.{upTo, faceHits, edgeHits, pairHits, vertexHits, solidHits, isInside, insideCount, lowestInside}
 use Rattle.listing.specs.First.{firstOf}
 use Rattle.scene.specs.View.{solid}
+use Rattle.scene.specs.Faces.{isCorner, hasBoth}
 use Rattle.kernel.specs.Answers.{answered, countsIn, countedOf, enclosureIn, verdictIn, verdictOf, listingIn, insideIn}
 use Rattle.demands.specs.Computing.{judging, piercing}
 use Rattle.demands.specs.Witnesses.{Witnesses}

@@ -1,5 +1,5 @@
 -- How large an expression can be: its size is at most what `bound` computes from bounds of its variables. Assumes nothing.
-use mathlib.Core.Path.{_≡_, sym, subst}
+use mathlib.Core.Path.{sym, subst}
 use Prim.Native.Nat.{ℕ, _+_, _*_, _≤_}
 use native.Mathlib.Nat.{le-refl, le-trans, add-le-add, mul-le-mul}
 use lib.IntN.{ℤ, natAbs, negℤ}

@@ -21,21 +21,21 @@ use Rattle.doubles.specs.Taking.{Takes, taken-takes}
 use Rattle.doubles.specs.declared.Taken.the-variants.{At}
 use Rattle.doubles.specs.declared.Vertex.{Vertex}
 
-module _ {R : Type 0} (_+_ _-_ _*_ : R → R → R) where
-  infixl 6 _+_ _-_
-  infixl 7 _*_
+module _ {R : Type 0} (_plus_ _minus_ _times_ : R → R → R) where
+  infixl 6 _plus_ _minus_
+  infixl 7 _times_
   abbrev minor : R → R → R → R → R
-  minor a b c d = a * d - b * c
+  minor a b c d = a times d minus b times c
 
   -- by the minors of the first two rows and of the last two
   abbrev by-minors : Entries R → Entries R → Entries R → Entries R → R
   by-minors a b c d =
-      minor (a .x) (a .y) (b .x) (b .y) * minor (c .z) (c .w) (d .z) (d .w)
-      - minor (a .x) (a .z) (b .x) (b .z) * minor (c .y) (c .w) (d .y) (d .w)
-      + minor (a .x) (a .w) (b .x) (b .w) * minor (c .y) (c .z) (d .y) (d .z)
-      + minor (a .y) (a .z) (b .y) (b .z) * minor (c .x) (c .w) (d .x) (d .w)
-      - minor (a .y) (a .w) (b .y) (b .w) * minor (c .x) (c .z) (d .x) (d .z)
-      + minor (a .z) (a .w) (b .z) (b .w) * minor (c .x) (c .y) (d .x) (d .y)
+      minor (a .x) (a .y) (b .x) (b .y) times minor (c .z) (c .w) (d .z) (d .w)
+      minus minor (a .x) (a .z) (b .x) (b .z) times minor (c .y) (c .w) (d .y) (d .w)
+      plus minor (a .x) (a .w) (b .x) (b .w) times minor (c .y) (c .z) (d .y) (d .z)
+      plus minor (a .y) (a .z) (b .y) (b .z) times minor (c .x) (c .w) (d .x) (d .w)
+      minus minor (a .y) (a .w) (b .y) (b .w) times minor (c .x) (c .z) (d .x) (d .z)
+      plus minor (a .z) (a .w) (b .z) (b .w) times minor (c .x) (c .y) (d .x) (d .y)
 
 abbrev fields : Vertex → Entries Float
 fields v = record { x = v .x; y = v .y; z = v .z; w = v .w }

@@ -3,8 +3,8 @@
 -- that the expression is over ℤ (`exact`). Assumes nothing.
 use mathlib.Core.Path.{_≡_, sym, subst}
 use mathlib.Core.Bool.{Bool, true, false}
-use mathlib.Core.List.{List, [], _∷_}
-use Prim.Native.Nat.{ℕ, _+_, _*_, _^_, _≤_, _<_}
+use mathlib.Core.List.{List}
+use Prim.Native.Nat.{ℕ, _+_, _*_, _^_, _≤_}
 use native.Mathlib.Nat.{le-refl, le-of-lt, lt-of-le-of-lt}
 use lib.Dec.{T, ltb, ltb→lt, lt→ltb}
 use lib.IntN.{ℤ, pos, natAbs}
@@ -88,7 +88,8 @@ module _ (l : List Entry) where
   pub settled : (e : Expr) → T (tame (limits l) e) → add binary64 (run (doubles l) e) (fin false 0 (pos 0)) ≡ ofInt binary64 (eval (values l) e)
   settled e t = plus-zero (run (doubles l) e) (eval (values l) e) (exact e t)
 
-  pub settled-is : (e : Expr) → T (tame (limits l) e) → T (ltb (bound (limits l) e) (2 ^ 53)) → Is (add binary64 (run (doubles l) e) (fin false 0 (pos 0))) (eval (values l) e)
+  pub settled-is : (e : Expr) → T (tame (limits l) e) → T (ltb (bound (limits l) e) (2 ^ 53)) →
+      Is (add binary64 (run (doubles l) e) (fin false 0 (pos 0))) (eval (values l) e)
   settled-is e t b =
       let z = eval (values l) e in
       let h = lt-of-le-of-lt (below (values l) (limits l) (λ i. (entry l i) .within) e) (ltb→lt (bound (limits l) e) (2 ^ 53) b) in

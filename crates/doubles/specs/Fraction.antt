@@ -3,9 +3,10 @@
 use mathlib.Core.Path.{_≡_, refl, sym, _∙_, ap, ap₂, subst}
 use mathlib.Core.Bool.{Bool, true, false, not, cond, _&&_, _||_, Bool·beq}
 use Prim.Native.Nat.{ℕ, zero, suc, _+_, _-_, _*_, _/_, _%_, _^_, _≤_, _<_}
-use native.Mathlib.Nat.{add-zero, mul-one, one-mul, zero-mul, mul-pos, mul-right-comm, mod-one, zero-mod, sub-self, zero-lt-suc, le-refl, le-of-lt, lt-of-lt-of-le, lt-of-le-of-lt, lt-irrefl, mul-le-mul-right, mul-le-mul, min-eq-left, div-lt-iff-lt-mul, div-add-mod', mul-mod-left, eq-of-mul-eq-mul-right}
+use native.Mathlib.Nat.{add-zero, mul-one, zero-mul, mul-pos, mul-right-comm, mod-one, zero-mod, sub-self, zero-lt-suc, le-refl, le-of-lt, lt-of-lt-of-le}
+use native.Mathlib.Nat.{lt-irrefl, mul-le-mul-right, min-eq-left, div-lt-iff-lt-mul, div-add-mod', mul-mod-left, eq-of-mul-eq-mul-right}
 use native.Mathlib.Omega.{arith}
-use lib.Dec.{T, ltb, leb, eqb, ltb→lt, lt→ltb, eqb→eq, eqb·suc-zero, lit≤, lit<}
+use lib.Dec.{T, ltb, leb, eqb, ltb→lt, lt→ltb, eqb→eq, lit≤}
 use lib.IntN.{ℤ, pos, negsuc, negℤ, natAbs}
 use lib.Pow.{pow-pos}
 use lib.Ieee.{Float, nan, inf, fin, binary64, up, down, round, sum, add, sub, neg, lt, le, eq, fits, ofInt, toSigned}
@@ -18,7 +19,6 @@ use mir.Syntax.{w64}
 use mir.Val.{toZ, ofZ}
 use mir.Facts.{toZ-ofZ}
 use borrow.Author.Tests.{ltb-true, ltb-false, le-ltb, eq-eqb}
-use Rattle.laws.specs.Size.{size-neg}
 use Rattle.doubles.specs.Whole.{Is, signed, signed-abs, isWhole, ofInt-is}
 
 abbrev ZERO : Float
@@ -189,7 +189,8 @@ cut-test (fin s m e) h g =
     ap (λ (z : ℤ). eq (ofInt binary64 z) (fin s m e)) (cut-is s m e l) ∙ eq-cut (ofInt binary64 (signed s q)) s m e y
 
 -- the same, as it comes back from two calls
-pub by-cut : (x : Float) {n : ℤ} {r : Float} → lt x LARGE ≡ true → lt (neg LARGE) x ≡ true → n ≡ toSigned 63 x → r ≡ ofInt binary64 (toZ w64 (ofZ w64 n)) → eq r x ≡ isWhole x
+pub by-cut : (x : Float) {n : ℤ} {r : Float} → lt x LARGE ≡ true → lt (neg LARGE) x ≡ true → n ≡ toSigned 63 x →
+    r ≡ ofInt binary64 (toZ w64 (ofZ w64 n)) → eq r x ≡ isWhole x
 by-cut x {n} h g p q =
     ap (λ (y : Float). eq y x)
     (q ∙ ap (λ (z : ℤ). ofInt binary64 (toZ w64 (ofZ w64 z))) p ∙ ap (ofInt binary64) (toZ-ofZ (record { sfits = toSigned-in 63 x })))

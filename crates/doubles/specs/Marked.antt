@@ -1,13 +1,11 @@
 -- Vertices that show the order of the tests, as one checked table. Assumes nothing.
 use mathlib.Core.Path.{_≡_, refl}
-use mathlib.Core.Bool.{Bool, true, false}
-use Prim.Native.Nat.{ℕ}
-use lib.IntN.{ℤ, pos, negsuc}
+use mathlib.Core.Bool.{true, false}
+use lib.IntN.{pos, negsuc}
 use lib.Ieee.{Float, nan, inf, fin}
 use Rattle.scene.specs.declared.Refusal.the-variants.{Coordinate, Weight}
 use Rattle.doubles.specs.Taken.{takenOf}
 use Rattle.doubles.specs.declared.Fault.the-variants.{NotWhole, OfScene}
-use Rattle.doubles.specs.declared.Taken.{Taken}
 use Rattle.doubles.specs.declared.Taken.the-variants.{At, Refused}
 use Rattle.doubles.specs.declared.Vertex.{Vertex}
 
@@ -35,7 +33,8 @@ above-and-a-half = fin false 8193 (negsuc 0)
 
 pub record Marked : Type 0 where
   pub zeros : takenOf (vertex minus-zero minus-zero minus-zero one) ≡ At (record { x = pos 0; y = pos 0; z = pos 0; w = pos 1 })
-  pub limits : takenOf (vertex most (fin true 4095 (pos 0)) most (fin true 1 (pos 4))) ≡ At (record { x = pos 4095; y = negsuc 4094; z = pos 4095; w = negsuc 15 })
+  pub limits : takenOf (vertex most (fin true 4095 (pos 0)) most (fin true 1 (pos 4)))
+      ≡ At (record { x = pos 4095; y = negsuc 4094; z = pos 4095; w = negsuc 15 })
   pub half : takenOf (vertex one minus-half one one) ≡ Refused (NotWhole 2)
   pub half-beyond : takenOf (vertex above-and-a-half one one one) ≡ Refused (NotWhole 1)
   pub beyond : takenOf (vertex one one above one) ≡ Refused (OfScene (Coordinate 3))

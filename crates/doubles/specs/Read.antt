@@ -15,7 +15,6 @@ use mir.Val.{toZ, ofZ}
 use mir.Facts.{toZ-ofZ}
 use Rattle.doubles.specs.Whole.{Is, isWhole, valueOf, whole-is, lt-is, neg-is, ofInt-is, plus-zero}
 use Rattle.doubles.specs.Taken.{readingOf, weighed}
-use Rattle.doubles.specs.declared.whole.Reading.{Reading}
 use Rattle.doubles.specs.declared.whole.Reading.the-variants.{NotWhole, Outside, Within}
 
 yes : {b : Bool} → b ≡ true → T b

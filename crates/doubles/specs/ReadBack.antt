@@ -31,7 +31,8 @@ two-read : (s : List ℕ) (k n : ℕ) → byteAt s k ≡ n % 256 → byteAt s (k
 unfolding twoAt
 two-read s k n p q = omega arith
 
-coordinate-read : (s : List ℕ) (k : ℕ) (z : ℤ) → natAbs z < 32768 → byteAt s k ≡ unsigned 32768 z % 256 → byteAt s (k + 1) ≡ unsigned 32768 z / 256 → coordinateAt s k ≡ z
+coordinate-read : (s : List ℕ) (k : ℕ) (z : ℤ) → natAbs z < 32768 → byteAt s k ≡ unsigned 32768 z % 256 →
+    byteAt s (k + 1) ≡ unsigned 32768 z / 256 → coordinateAt s k ≡ z
 unfolding coordinateAt
 coordinate-read s k z l p q = ap (signed 32768) (two-read s k (unsigned 32768 z) p q) ∙ signed-unsigned 32768 z l
 
@@ -48,12 +49,16 @@ module _ (s : List ℕ) (j : ℕ) (r : Row) (h : Stands s (pointStart j) r) wher
   pub row-back : RowWithin limits r → rowAt s j ≡ r
   unfolding weightAt
   row-back b =
-      let x = coordinate-read s (k + 2) (r .x) (omega (arith, b .x)) (next (k + 2) 2 (omega arith) (omega arith)) (next (k + 2 + 1) 3 (omega arith) (omega arith)) in
-      let y = coordinate-read s (k + 4) (r .y) (omega (arith, b .y)) (next (k + 4) 4 (omega arith) (omega arith)) (next (k + 4 + 1) 5 (omega arith) (omega arith)) in
-      let z = coordinate-read s (k + 6) (r .z) (omega (arith, b .z)) (next (k + 6) 6 (omega arith) (omega arith)) (next (k + 6 + 1) 7 (omega arith) (omega arith)) in
+      let x = coordinate-read s (k + 2) (r .x) (omega (arith, b .x)) (next (k + 2) 2 (omega arith) (omega arith))
+      (next (k + 2 + 1) 3 (omega arith) (omega arith)) in
+      let y = coordinate-read s (k + 4) (r .y) (omega (arith, b .y)) (next (k + 4) 4 (omega arith) (omega arith))
+      (next (k + 4 + 1) 5 (omega arith) (omega arith)) in
+      let z = coordinate-read s (k + 6) (r .z) (omega (arith, b .z)) (next (k + 6) 6 (omega arith) (omega arith))
+      (next (k + 6 + 1) 7 (omega arith) (omega arith)) in
       let w : weightAt s (k + 8) ≡ r .w = ap (signed 128) (next (k + 8) 8 (omega arith) (omega arith)) ∙ signed-unsigned 128 (r .w) (omega (arith, b .w)) in
       (λ i. record { x = x i; y = y i; z = z i; w = w i })
 
 -- the record of a vertex that is taken
-pub taken-back : (v : Vertex) (r : Row) → takenOf v ≡ At r → (s : List ℕ) (j : ℕ) → Stands s (pointStart j) r → (twoAt s (pointStart j) ≡ markVX) × (rowAt s j ≡ r)
+pub taken-back : (v : Vertex) (r : Row) → takenOf v ≡ At r → (s : List ℕ) (j : ℕ) → Stands s (pointStart j) r →
+    (twoAt s (pointStart j) ≡ markVX) × (rowAt s j ≡ r)
 taken-back v r e s j h = (mark-back s j r h, row-back s j r h (taken-takes v r e .within))

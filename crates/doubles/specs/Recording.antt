@@ -3,7 +3,6 @@ use mathlib.Core.Path.{_≡_, sym, ap, _∙_}
 use mathlib.Core.Bool.{Bool, cond}
 use mathlib.Core.List.{List, _++_}
 use Prim.Native.Nat.{ℕ, _≤_, _<_}
-use lib.Dec.{leb}
 use lib.ListN.{length, drop}
 use borrow.Author.Tests.{le-leb, lt-leb}
 use Rattle.scene.specs.Limits.{limits}
@@ -36,14 +35,16 @@ module _ (v : Vertex) (d : List ℕ) {t : Taken} (e : t ≡ takenOf v) where
     pub no-room : length d < 9 → IsRecord v d d (Refused (OfScene (Buffer 9)))
     no-room h =
         record {
-          answer = ap (λ (b : Bool). cond b Written (Refused (OfScene (Buffer 9)))) (sym (lt-leb 9 (length d) h)) ∙ ap (λ (t : Taken). recordedBy t (length d)) (sym q ∙ e);
+          answer = ap (λ (b : Bool). cond b Written (Refused (OfScene (Buffer 9)))) (sym (lt-leb 9 (length d) h))
+              ∙ ap (λ (t : Taken). recordedBy t (length d)) (sym q ∙ e);
           held = ap (λ (b : Bool). cond b (vertexBytes r ++ drop 9 d) d) (sym (lt-leb 9 (length d) h)) ∙ ap (λ (t : Taken). leftBy t d) (sym q ∙ e);
         }
 
     pub writes : {d′ : List ℕ} → 9 ≤ length d → d′ ≡ vertexBytes r ++ drop 9 d → IsRecord v d d′ Written
     writes h w =
         record {
-          answer = ap (λ (b : Bool). cond b Written (Refused (OfScene (Buffer 9)))) (sym (le-leb 9 (length d) h)) ∙ ap (λ (t : Taken). recordedBy t (length d)) (sym q ∙ e);
+          answer = ap (λ (b : Bool). cond b Written (Refused (OfScene (Buffer 9)))) (sym (le-leb 9 (length d) h))
+              ∙ ap (λ (t : Taken). recordedBy t (length d)) (sym q ∙ e);
           held = w ∙ ap (λ (b : Bool). cond b (vertexBytes r ++ drop 9 d) d) (sym (le-leb 9 (length d) h)) ∙ ap (λ (t : Taken). leftBy t d) (sym q ∙ e);
         }
 

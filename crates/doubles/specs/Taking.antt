@@ -1,15 +1,14 @@
 -- A vertex is taken exactly when its four doubles are whole numbers within the limits, its weight not 0; and then the row is theirs.
 -- Assumes nothing.
-use mathlib.Core.Path.{_≡_, refl, sym, ap, _∙_, subst}
+use mathlib.Core.Path.{_≡_, refl, ap, _∙_, subst}
 use mathlib.Core.Logic.{_↔_}
-use mathlib.Core.Bool.{Bool, true, false, not, cond}
+use mathlib.Core.Bool.{Bool, true, false, cond}
 use Prim.Native.Nat.{ℕ, zero, suc, _≤_}
 use native.Mathlib.Omega.{arith}
 use borrow.Author.Tests.{le-leb}
 use lib.Dec.{T, leb, leb→le}
 use lib.IntN.{ℤ, pos, negsuc, natAbs}
 use lib.Ieee.{Float}
-use lib.Ieee.Bits.{is-true}
 use Rattle.scene.specs.Limits.{limits}
 use Rattle.scene.specs.Arrays.{RowWithin}
 use Rattle.scene.specs.declared.Refusal.the-variants.{Coordinate, Weight}
@@ -18,7 +17,6 @@ use Rattle.doubles.specs.Whole.{Is, isWhole, valueOf, whole-is, is-whole
 use Rattle.doubles.specs.Taken.{readingOf, coordinateOf, weighed, weightOf, takenBy, takenOf}
 use Rattle.doubles.specs.declared.Fault.{Fault}
 use Rattle.doubles.specs.declared.Fault.the-variants as fault
-use Rattle.doubles.specs.declared.Taken.{Taken}
 use Rattle.doubles.specs.declared.Taken.the-variants.{At, Refused}
 use Rattle.doubles.specs.declared.Vertex.{Vertex}
 use Rattle.doubles.specs.declared.whole.Reading.{Reading}

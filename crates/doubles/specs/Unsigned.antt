@@ -1,8 +1,8 @@
 -- The number that stands for a signed one, as the machine forms it, and the nine stores of a record. Assumes nothing.
-use mathlib.Core.Path.{_≡_, refl, sym, ap, _∙_, subst}
+use mathlib.Core.Path.{_≡_, sym, ap, _∙_, subst}
 use mathlib.Core.Bool.{Bool, true, false}
 use mathlib.Core.List.{List, [], _∷_, _++_}
-use Prim.Native.Nat.{ℕ, zero, suc, _+_, _-_, _/_, _%_, _≤_, _<_, _^_}
+use Prim.Native.Nat.{ℕ, suc, _+_, _-_, _/_, _%_, _≤_, _<_, _^_}
 use native.Mathlib.Omega.{arith}
 use lib.Dec.{T, ltb, ltb→lt}
 use lib.IntN.{ℤ, pos, negsuc, natAbs, _-ℤ_, +ℤ-idl}
@@ -10,7 +10,7 @@ use lib.ListN.{length, drop, set}
 use lib.Seq.{sets-eq}
 use lib.Signed.{ltZ, nonNeg}
 use mir.Syntax.{w64}
-use mir.Val.{toZ, ofZ, SFits, Fits}
+use mir.Val.{SFits, Fits}
 use mir.ValLaws.{toZ-ofZ}
 use Rattle.laws.specs.Size.{reread, again, reads}
 use Rattle.scene.specs.Limits.{limits}
@@ -60,7 +60,8 @@ casts {z = negsuc k} f h = absurd (subst T (plain f h) tt)
 casts {z = pos n} f h =
     subst (λ (x : ℤ). T (nonNeg x) × Fits w64 (natAbs x)) (sym (toZ-ofZ w64 (pos n) f)) (tt, omega (arith, f .sfits))
 
-pub stays : (half : ℕ) {z : ℤ} → SFits w64 z → natAbs z < half → ltZ (reread z) (pos 0) ≡ false → (natAbs (reread z) ≡ unsigned half z) × (natAbs (reread z) < half + half)
+pub stays : (half : ℕ) {z : ℤ} → SFits w64 z → natAbs z < half → ltZ (reread z) (pos 0) ≡ false →
+    (natAbs (reread z) ≡ unsigned half z) × (natAbs (reread z) < half + half)
 stays half {z = negsuc k} f a h = absurd (subst T (plain f h) tt)
 stays half {z = pos n} f a h = let e = ap natAbs (toZ-ofZ w64 (pos n) f) in (e, omega arith)
 
@@ -76,7 +77,8 @@ as-it-is half z {n} h e t = let p : reread z ≡ z = reads {N = n} {z = z} (reco
 -- ---- the nine stores
 
 pub nine : (r : Row) (d : List ℕ) {x y z w : ℕ} (a b c e f g h i j : ℕ) → 9 ≤ length d → RowWithin limits r →
-    (x ≡ unsigned 32768 (reread (r .x))) → (y ≡ unsigned 32768 (reread (r .y))) → (z ≡ unsigned 32768 (reread (r .z))) → (w ≡ unsigned 128 (reread (r .w))) → w < 256 →
+    (x ≡ unsigned 32768 (reread (r .x))) → (y ≡ unsigned 32768 (reread (r .y))) → (z ≡ unsigned 32768 (reread (r .z))) →
+    (w ≡ unsigned 128 (reread (r .w))) → w < 256 →
     a ≡ markVX % 256 → b ≡ markVX / 256 → c ≡ x % 256 → e ≡ x / 256 → f ≡ y % 256 → g ≡ y / 256 → h ≡ z % 256 → i ≡ z / 256 → j ≡ w % 256 →
     set (set (set (set (set (set (set (set (set d 0 a) 1 b) 2 c) 3 e) 4 f) 5 g) 6 h) 7 i) 8 j ≡ vertexBytes r ++ drop 9 d
 nine r d {x} {y} {z} {w} a b c e f g h i j room within ex ey ez ew small pa pb pc pe pf pg ph pi pj =

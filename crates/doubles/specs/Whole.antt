@@ -4,12 +4,14 @@
 use mathlib.Core.Path.{_≡_, refl, sym, _∙_, ap, ap₂, subst}
 use mathlib.Core.Bool.{Bool, true, false, not, _&&_, cond}
 use Prim.Native.Nat.{ℕ, zero, suc, _+_, _-_, _*_, _/_, _%_, _^_, _≤_, _<_, zero-le}
-use native.Mathlib.Nat.{mul-one, mul-pos, add-mul, mul-comm, mul-sub, mul-assoc, mul-right-comm, mul-mul-mul-comm, zero-lt-suc, lt-of-mul-lt-mul-right, le-of-mul-le-mul-right, mul-lt-mul-of-pos-right, mul-le-mul-right, le-of-lt, zero-mul, zero-add, add-zero, div-add-mod', mul-mod-left, mul-div-cancel}
+use native.Mathlib.Nat.{mul-one, mul-pos, add-mul, mul-comm, mul-sub, mul-assoc, mul-right-comm, mul-mul-mul-comm, zero-lt-suc}
+use native.Mathlib.Nat.{lt-of-mul-lt-mul-right, le-of-mul-le-mul-right, mul-lt-mul-of-pos-right, mul-le-mul-right, le-of-lt}
+use native.Mathlib.Nat.{zero-mul, zero-add, add-zero, div-add-mod', mul-mod-left, mul-div-cancel}
 use native.Mathlib.Omega.{arith}
 use lib.Dec.{T, ltb, eqb, ltb→lt, nltb→le, eqb→eq, leb·suc-suc}
 use borrow.Author.Tests.{lt-ltb, le-ltb}
 use lib.Signed.{ltZ}
-use lib.IntN.{ℤ, pos, negsuc, natAbs, negℤ, subℕ, negℤ-negℤ, negℤ-+ℤ, +ℤ-comm, +ℤ-assoc, +ℤ-idl, +ℤ-invl, *ℤ-comm, _+ℤ_, _-ℤ_, _*ℤ_}
+use lib.IntN.{ℤ, pos, negsuc, natAbs, negℤ, negℤ-negℤ, negℤ-+ℤ, +ℤ-comm, +ℤ-assoc, +ℤ-idl, +ℤ-invl, *ℤ-comm, _+ℤ_, _-ℤ_, _*ℤ_}
 use lib.Ieee.{Float, nan, inf, fin, binary64, unlike, up, down, round, neg, sum, add, sub, mul, below, lt, ofInt}
 use lib.Ieee.Fits.{down-pos}
 use lib.Ieee.Exact.{HasValue}
@@ -105,7 +107,8 @@ none : (p q : ℕ) → p ≤ q → p - q ≡ 0
 none p q h = omega arith
 
 apart : (t : Bool) (p q c : ℕ) → 0 < c → natAbs (signed (not t) p +ℤ signed t q) ≤ 2 ^ 53
-    → Is (cond (ltb (p * c) (q * c)) (round binary64 t (q * c - p * c) c) (round binary64 (not t && ltb (q * c) (p * c)) (p * c - q * c) c)) (signed (not t) p +ℤ signed t q)
+    → Is (cond (ltb (p * c) (q * c)) (round binary64 t (q * c - p * c) c) (round binary64 (not t && ltb (q * c) (p * c)) (p * c - q * c) c))
+    (signed (not t) p +ℤ signed t q)
 apart t p q c h l = go (ltb (p * c) (q * c)) (ltb→lt (p * c) (q * c)) (nltb→le (p * c) (q * c))
   where
     go : (b : Bool) → (T b → p * c < q * c) → (T (not b) → q * c ≤ p * c)
@@ -119,7 +122,8 @@ apart t p q c h l = go (ltb (p * c) (q * c)) (ltb→lt (p * c) (q * c)) (nltb→
         let d : signed (not t && ltb (q * c) (p * c)) (p - q) ≡ signed (not t) (p - q) =
         drop-sign (not t) (ltb (q * c) (p * c)) (p - q) (λ k. none p q (le-of-mul-le-mul-right (nltb→le (q * c) (p * c) k) h)) in
         subst (λ (z : ℤ). Is (round binary64 (not t && ltb (q * c) (p * c)) (p * c - q * c) c) z) (d ∙ sym e)
-        (rounded (not t && ltb (q * c) (p * c)) (p * c - q * c) c (p - q) h (sub-mul p q c) (subst (λ (i : ℕ). i ≤ 2 ^ 53) (ap natAbs e ∙ signed-abs (not t) (p - q)) l))
+        (rounded (not t && ltb (q * c) (p * c)) (p * c - q * c) c (p - q) h (sub-mul p q c)
+        (subst (λ (i : ℕ). i ≤ 2 ^ 53) (ap natAbs e ∙ signed-abs (not t) (p - q)) l))
 
 alike : (s : Bool) (p q c : ℕ) → 0 < c → natAbs (signed s p +ℤ signed s q) ≤ 2 ^ 53 → Is (round binary64 s (p * c + q * c) c) (signed s p +ℤ signed s q)
 alike s p q c h l =
@@ -182,7 +186,8 @@ plus-zero (fin s m e) z v =
     let p = v .0 in
     let c = down e * 1 in
     let A : m * up e * 1 ≡ p * c = mul-one (m * up e) ∙ v .1 ∙ ap (λ (k : ℕ). p * k) (sym (mul-one (down e))) in
-    ap₂ (λ (i j : ℕ). sum binary64 s i false j c) A (zero-mul (down e)) ∙ settle s p c (mul-pos (down-pos e) (zero-lt-suc 0)) ∙ ap (λ (k : ℤ). ofInt binary64 k) (v .2)
+    ap₂ (λ (i j : ℕ). sum binary64 s i false j c) A (zero-mul (down e)) ∙ settle s p c (mul-pos (down-pos e) (zero-lt-suc 0))
+    ∙ ap (λ (k : ℤ). ofInt binary64 k) (v .2)
 
 -- ---- comparisons
 
@@ -204,7 +209,8 @@ below-is false false p q c h = scaled-lt p q c h
 below-is false true p zero c h = sym (le-ltb p 0 zero-le)
 below-is false true p (suc q) c h = refl
 below-is true false zero q c h =
-    ap (λ (k : ℕ). ltb 0 (k + q * c)) (zero-mul c) ∙ ap (λ (k : ℕ). ltb 0 k) (zero-add (q * c)) ∙ ap (λ (k : ℕ). ltb k (q * c)) (sym (zero-mul c)) ∙ scaled-lt 0 q c h
+    ap (λ (k : ℕ). ltb 0 (k + q * c)) (zero-mul c) ∙ ap (λ (k : ℕ). ltb 0 k) (zero-add (q * c))
+    ∙ ap (λ (k : ℕ). ltb k (q * c)) (sym (zero-mul c)) ∙ scaled-lt 0 q c h
 below-is true false (suc p) q c h = lt-ltb 0 (suc p * c + q * c) (some p (suc p * c) (q * c) (mul-pos (zero-lt-suc p) h))
 below-is true true zero zero c h = scaled-lt 0 0 c h
 below-is true true zero (suc q) c h = scaled-lt (suc q) 0 c h ∙ le-ltb (suc q) 0 zero-le

@@ -18,7 +18,6 @@ use Rattle.render.specs.Put.{Put, end-to-end, put-nothing}
 use Rattle.scene.specs.Tables.{tablesOf, row, face}
 use Rattle.scene.specs.View.{viewOf, solid}
 use Rattle.scene.specs.declared.Row.{Row}
-use Rattle.scene.specs.declared.Face.{Face}
 use Rattle.scene.specs.declared.Solid.{Solid}
 use Rattle.drawing.specs.Drawing.{isOne, weighted, keywordLine, countsLine, rowWords, faceWords, lowered, rowsIn, facesIn, tableIn, drawn, drawnOf}
 

@@ -7,26 +7,25 @@ use native.Mathlib.Nat.{mul-comm, add-comm}
 use native.Mathlib.Omega.{arith}
 use borrow.Author.Tests.{lt-ltb, le-ltb}
 use lib.Dec.{ltb}
-use lib.ListN.{getD}
 use lib.Pow.{high}
 use Rattle.laws.specs.Mask.{maskOf, mask-lt, mask-join, mask-none, mask-same, testBit}
 use Rattle.laws.specs.Range.{fold, over, anyOf}
-use Rattle.laws.specs.Walk.{places, mask-places}
+use Rattle.laws.specs.Walk.{mask-places}
 use Rattle.links.specs.Bits.{test-beyond}
 use Rattle.links.specs.Links.{outside}
 use Rattle.links.specs.Number.{upWord}
-use Rattle.scene.specs.Faces.{Vertex}
+use Rattle.scene.specs.Faces.{Vertex, isCorner, hasBoth}
 use Rattle.scene.specs.declared.Face.{Face}
 use Rattle.edges.specs.Edges as words
-use Rattle.edges.specs.Edges.{isCorner, hasBoth, joined, neighbours, Corners}
+use Rattle.edges.specs.Edges.{joined, neighbours, Corners}
 use Rattle.scene.specs.declared.Solid.{Solid}
-use Rattle.pierce.specs.Faces.{width}
-use Rattle.listing.specs.Hits.{Seen, Hit, Sound, Own, upTo, only, edgeMask, edgeHits, pairHits, pairsAt, vertexHits, solidHits}
+use Rattle.face_masks.specs.Faces.{width}
+use Rattle.listing.specs.Hits.{Seen, Hit, Sound, upTo, only, edgeMask, edgeHits, pairHits, vertexHits, solidHits}
 use Rattle.listing.specs.Laws.{upTo-same, edge-hits}
-use Rattle.listing.specs.Pour.{maskHit, maskHits}
+use Rattle.listing.specs.Pour.{maskHit}
 use Rattle.table.specs.Table.{Entry, entryIn, entriesIn, entryHits, each, tableHits}
 use Rattle.table.specs.Runs.{upTo-join, upTo-none, each-upTo, each-one, each-only, each-passing}
-use Rattle.edge_masks.specs.Edges.{entry, vertexEdges, solidEdges, bitEdges, Higher, AreLinks}
+use Rattle.edge_masks.specs.Edges.{entry, vertexEdges, solidEdges, bitEdges, Higher}
 
 -- ---- who is joined
 
@@ -104,12 +103,15 @@ module _ (s : Seen) (k : Solid) (sound : Sound s k) where
         ∙ sym (each-passing above edge (words.width - (i + 1)))
         ∙ ap (upTo (λ j. only (above j) (edge j))) (sym wide)
         ∙ upTo-join (λ j. only (above j) (edge j)) (k .verts - (i + 1)) (words.width - k .verts)
-        ∙ ap (λ (l : List Entry). few ++ l) (upTo-none _ (words.width - k .verts) (λ j b. ap (λ (t : Bool). only t (edge (k .verts - (i + 1) + j))) (none-above (k .verts - (i + 1) + j) (omega arith))))
+        ∙ ap (λ (l : List Entry). few ++ l) (upTo-none _ (words.width - k .verts)
+        (λ j b. ap (λ (t : Bool). only t (edge (k .verts - (i + 1) + j))) (none-above (k .verts - (i + 1) + j) (omega arith))))
         ∙ append-nil few
         ∙ sym
         (ap (upTo pair) (sym all) ∙ upTo-join pair (i + 1) (k .verts - (i + 1))
         ∙ ap₂ _++_
-        (upTo-none pair (i + 1) (λ m b. ap (λ (t : Bool). only (t && joined (s .face) k u (k .low + 1 + m)) (entry s k u (k .low + 1 + m) ∷ [])) (le-ltb u (k .low + 1 + m) (omega arith))))
+        (upTo-none pair (i + 1)
+        (λ m b. ap (λ (t : Bool). only (t && joined (s .face) k u (k .low + 1 + m)) (entry s k u (k .low + 1 + m) ∷ []))
+        (le-ltb u (k .low + 1 + m) (omega arith))))
         (upTo-same (λ j. pair (i + 1 + j)) (λ j. only (above j) (edge j)) (k .verts - (i + 1))
         (λ j b. ap (λ (v : ℕ). only (ltb u v && joined (s .face) k u v) (entry s k u v ∷ [])) (place j)
         ∙ ap (λ (t : Bool). only (t && above j) (edge j)) (lt-ltb u (u + 1 + j) (omega arith)))))
@@ -121,7 +123,8 @@ module _ (s : Seen) (k : Solid) (sound : Sound s k) where
         record {
           small =
               rw (shifted e, n)
-              (rw (mask-cut above (k .verts - (i + 1)) (words.width - (i + 1)) (omega (arith, sound .vertices .0)) none-above) (mask-lt above (k .verts - (i + 1))));
+              (rw (mask-cut above (k .verts - (i + 1)) (words.width - (i + 1)) (omega (arith, sound .vertices .0)) none-above)
+              (mask-lt above (k .verts - (i + 1))));
           edges = ap (bitEdges s k u) (shifted e) ∙ by-bits;
         }
 
@@ -137,7 +140,8 @@ module _ (s : Seen) (k : Solid) (sound : Sound s k) where
       let small : w < 2 ^ k .others = mask-lt _ (k .others) in
       ap (upTo g) (sym d) ∙ upTo-join g (k .others) (width - k .others)
       ∙ ap (λ (l : List Hit). upTo g (k .others) ++ l)
-      (upTo-none _ (width - k .others) (λ j b. ap (λ (t : Bool). maskHit t u v (k .other + 1 + (k .others + j))) (test-beyond (k .others) (k .others + j) small (omega arith))))
+      (upTo-none _ (width - k .others) (λ j b. ap (λ (t : Bool). maskHit t u v (k .other + 1 + (k .others + j)))
+      (test-beyond (k .others) (k .others + j) small (omega arith))))
       ∙ append-nil (upTo g (k .others)) ∙ edge-hits s k u v refl
 
   pub edges-hits : each (entryHits (k .other)) (solidEdges s k) ≡ solidHits s k
@@ -148,7 +152,8 @@ module _ (s : Seen) (k : Solid) (sound : Sound s k) where
       ∙ upTo-same _ _ (k .verts)
       (λ i b. each-upTo g _ (k .verts)
       ∙ upTo-same _ _ (k .verts)
-      (λ m c. each-only g (ltb (k .low + 1 + i) (k .low + 1 + m) && joined (s .face) k (k .low + 1 + i) (k .low + 1 + m)) (entry s k (k .low + 1 + i) (k .low + 1 + m) ∷ [])
+      (λ m c. each-only g (ltb (k .low + 1 + i) (k .low + 1 + m) && joined (s .face) k (k .low + 1 + i) (k .low + 1 + m))
+      (entry s k (k .low + 1 + i) (k .low + 1 + m) ∷ [])
       ∙ ap (only (ltb (k .low + 1 + i) (k .low + 1 + m) && joined (s .face) k (k .low + 1 + i) (k .low + 1 + m)))
       (each-one g (entry s k (k .low + 1 + i) (k .low + 1 + m)) ∙ all-faces (k .low + 1 + i) (k .low + 1 + m))))
 

@@ -2,7 +2,7 @@
 use mathlib.Core.Path.{_≡_, refl, sym, ap, ap₂, _∙_}
 use mathlib.Core.Logic.{_⊎_, inl, inr}
 use mathlib.Core.List.{List, [], _∷_}
-use Prim.Native.Nat.{ℕ, zero, suc, _+_, _-_, _*_, _/_, _%_, _^_, _≤_, _<_}
+use Prim.Native.Nat.{ℕ, zero, suc, _+_, _-_, _/_, _%_, _^_, _≤_, _<_}
 use native.Mathlib.Nat.{pow-suc, mod-lt, zero-lt-suc, lt-of-lt-of-le}
 use native.Mathlib.Omega.{arith}
 use lib.Count.{ones, ones-step}
@@ -10,11 +10,10 @@ use lib.ListN.{length}
 use lib.Pow.{pow-mono}
 use Rattle.laws.specs.Walk.{places, placed}
 use Rattle.links.specs.Number.{upWord, sumOf, edgeCount, edges-most}
-use Rattle.scene.specs.Limits.{limits}
 use Rattle.edges.specs.Edges.{neighbours}
 use Rattle.scene.specs.declared.Solid.{Solid}
-use Rattle.listing.specs.Hits.{Seen, Sound, upTo}
-use Rattle.table.specs.Table.{Entry, each, mostEdges}
+use Rattle.listing.specs.Hits.{Seen, upTo}
+use Rattle.table.specs.Table.{each, mostEdges}
 use Rattle.table.specs.Runs.{upTo-length}
 use Rattle.edge_masks.specs.Edges.{entry, vertexEdges, solidEdges, Within}
 use Rattle.edge_masks.specs.Order.{higher, shifted}
@@ -30,7 +29,8 @@ places-ones (suc d) k w h = by (cases (w % 2) (mod-lt w (zero-lt-suc 1))) (place
     cases (suc zero) h = inl refl
     cases (suc (suc r)) h = absurd (omega arith)
 
-    by : (w % 2 ≡ 1) ⊎ (w % 2 ≡ 0) → length (places d (suc k) (w / 2)) ≡ ones (w / 2) → length (placed (w % 2) k (places d (suc k) (w / 2))) ≡ w % 2 + ones (w / 2)
+    by : (w % 2 ≡ 1) ⊎ (w % 2 ≡ 0) → length (places d (suc k) (w / 2)) ≡ ones (w / 2) →
+        length (placed (w % 2) k (places d (suc k) (w / 2))) ≡ w % 2 + ones (w / 2)
     by (inl e) ih = rw e (omega arith)
     by (inr e) ih = rw e (omega arith)
 
@@ -68,7 +68,8 @@ module _ (s : Seen) (k : Solid) (ok : Within s k) where
   vertex-length i h =
       let t = higher s k (ok .sound) i h refl in
       let w : ℕ = neighbours (s .face) k (k .low + 1 + i) / 2 ^ (i + 1) in
-      ap length (sym (t .edges)) ∙ singles (λ j. entry s k (k .low + 1 + i) (k .low + 1 + i + 1 + j)) (places 64 0 w) ∙ places-ones 64 0 w (fits (t .small)) ∙ ap ones (shifted s k (ok .sound) i h refl)
+      ap length (sym (t .edges)) ∙ singles (λ j. entry s k (k .low + 1 + i) (k .low + 1 + i + 1 + j)) (places 64 0 w)
+      ∙ places-ones 64 0 w (fits (t .small)) ∙ ap ones (shifted s k (ok .sound) i h refl)
     where
       fits : {w : ℕ} → w < 2 ^ (k .low + k .verts - (k .low + 1 + i)) → w < 2 ^ 64
       fits b = lt-of-lt-of-le b (pow-mono {j = 64} (omega (arith, ok .sound .vertices .0)))

@@ -3,9 +3,9 @@
 use mathlib.Core.Path.{_≡_}
 use mathlib.Core.List.{List}
 use Prim.Native.Nat.{ℕ, _+_, _<_}
+use Rattle.scene.specs.Faces.{isCorner}
 use Rattle.scene.specs.declared.Solid.{Solid}
 use Rattle.listing.specs.Hits.{Seen, Own}
-use Rattle.edges.specs.Edges.{isCorner}
 use Rattle.sides.specs.Sides.{sidesOf, masksBy}
 use Rattle.sides.specs.Tables.{maskIn}
 use Rattle.narrow.specs.Parted.{parts}

@@ -2,19 +2,19 @@
 use mathlib.Core.Path.{_≡_, refl, sym, ap, ap₂, _∙_}
 use mathlib.Core.Logic.{_≢_}
 use mathlib.Core.List.{List, [], _∷_, _++_, append-assoc, append-nil}
-use Prim.Native.Nat.{ℕ, zero, suc, _+_, _-_, _*_, _^_, _≤_, _<_}
+use Prim.Native.Nat.{ℕ, _+_, _-_, _*_, _^_, _<_}
 use native.Mathlib.Omega.{arith}
 use lib.Bits.{bitAnd}
 use lib.Count.{trailingZeros}
 use lib.ListN.{length, getD, set, length-set, length-append}
 use lib.Seq.{getD-set-same, getD-set-other}
-use Rattle.laws.specs.Walk.{places, places-none, walk-turn}
+use Rattle.laws.specs.Walk.{places-none, walk-turn}
 use Rattle.scene.specs.declared.Solid.{Solid}
-use Rattle.pierce.specs.Faces.{valueOf}
-use Rattle.pierce.specs.declared.faces.Mask.{Mask}
+use Rattle.face_masks.specs.Faces.{valueOf}
+use Rattle.face_masks.specs.declared.Mask.{Mask}
 use Rattle.listing.specs.Hits.{Seen, upTo, edgeMask}
 use Rattle.listing.specs.Laws.{upTo-more, upTo-same}
-use Rattle.table.specs.Table.{Entry, maskIn, entryIn, entriesIn, each}
+use Rattle.table.specs.Table.{Entry, entryIn, entriesIn, each}
 use Rattle.edge_masks.specs.Edges.{entry, bitEdges, Filled}
 
 -- two numbers stored at 2j and 2j + 1
@@ -43,7 +43,8 @@ same-entry : {a b c d m n : ℕ} → a ≡ b → c ≡ d → m ≡ n → _≡_ {
 same-entry p q r i = record { low = p i; high = q i; mask = r i }
 
 module _ (ends masks : List ℕ) (j u v : ℕ) (m : Mask) (he : 2 * j + 1 < length ends) (hm : 2 * j + 1 < length masks) where
-  pub entries-put : entriesIn (pairSet ends j u v) (pairSet masks j (m .low) (m .high)) (j + 1) ≡ entriesIn ends masks j ++ (record { low = u; high = v; mask = valueOf m } ∷ [])
+  pub entries-put : entriesIn (pairSet ends j u v) (pairSet masks j (m .low) (m .high)) (j + 1)
+      ≡ entriesIn ends masks j ++ (record { low = u; high = v; mask = valueOf m } ∷ [])
   unfolding entriesIn valueOf
   entries-put =
       upTo-more _ j
@@ -69,7 +70,8 @@ pub record Filling (rest whole : List Entry) (at : ℕ) (ends masks ends′ mask
   pub entries : entriesIn ends′ masks′ c ++ rest ≡ entriesIn ends masks at ++ whole
 
 module _ (s : Seen) (k : Solid) (u : ℕ) where
-  pub filling-start : (w : ℕ) {whole : List Entry} (at : ℕ) (ends masks : List ℕ) → bitEdges s k u w ≡ whole → Filling (bitEdges s k u w) whole at ends masks ends masks at
+  pub filling-start : (w : ℕ) {whole : List Entry} (at : ℕ) (ends masks : List ℕ) → bitEdges s k u w ≡ whole →
+      Filling (bitEdges s k u w) whole at ends masks ends masks at
   filling-start w at ends masks e =
       record {
         count = ap (λ (l : List Entry). at + length l) e;
@@ -78,13 +80,13 @@ module _ (s : Seen) (k : Solid) (u : ℕ) where
         entries = ap (λ (l : List Entry). entriesIn ends masks at ++ l) e;
       }
 
-  turn : (w : ℕ) → 0 < w → w < 2 ^ 64 → bitEdges s k u w ≡ entry s k u (u + 1 + trailingZeros 64 w) ∷ bitEdges s k u (bitAnd w (w - 1))
+  pub edges-turn : (w : ℕ) → 0 < w → w < 2 ^ 64 → bitEdges s k u w ≡ entry s k u (u + 1 + trailingZeros 64 w) ∷ bitEdges s k u (bitAnd w (w - 1))
   unfolding each
-  turn w some h = ap (each (λ t. entry s k u (u + 1 + t) ∷ [])) (walk-turn 64 w some h)
+  edges-turn w some h = ap (each (λ t. entry s k u (u + 1 + t) ∷ [])) (walk-turn 64 w some h)
 
   pub filling-room : (w : ℕ) {whole : List Entry} {at c : ℕ} {ends masks ends′ masks′ : List ℕ} → 0 < w → w < 2 ^ 64 →
       Filling (bitEdges s k u w) whole at ends masks ends′ masks′ c → c < at + length whole
-  filling-room w some h f = omega (arith, f .count, ap length (turn w some h))
+  filling-room w some h f = omega (arith, f .count, ap length (edges-turn w some h))
 
   pub filling-turn : (w : ℕ) (m : Mask) {whole : List Entry} {at c v x y : ℕ} {ends masks e1 m1 e2 m2 : List ℕ} → 0 < w → w < 2 ^ 64 →
       2 * c + 1 < length ends → 2 * c + 1 < length masks → v ≡ u + 1 + trailingZeros 64 w → valueOf m ≡ edgeMask s k u v →
@@ -93,7 +95,7 @@ module _ (s : Seen) (k : Solid) (u : ℕ) where
   filling-turn w m {whole} {at} {c} {v} {x} {y} {ends} {masks} {e1} {m1} {e2} {m2} some h he hm ev em f ex ey px pm =
       let pe : e2 ≡ pairSet e1 c u v = px ∙ ap₂ (pairSet e1 c) ex ey in
       let rest : List Entry = bitEdges s k u (bitAnd w (w - 1)) in
-      let t : bitEdges s k u w ≡ entry s k u (u + 1 + trailingZeros 64 w) ∷ rest = turn w some h in
+      let t : bitEdges s k u w ≡ entry s k u (u + 1 + trailingZeros 64 w) ∷ rest = edges-turn w some h in
       let new : _≡_ {A = Entry} (record { low = u; high = v; mask = valueOf m }) (entry s k u (u + 1 + trailingZeros 64 w)) =
       same-entry refl ev (em ∙ ap (edgeMask s k u) ev) in
       record {
@@ -108,11 +110,14 @@ module _ (s : Seen) (k : Solid) (u : ℕ) where
             ∙ ap (λ (l : List Entry). entriesIn e1 m1 c ++ l) (sym t) ∙ f .entries;
       }
 
+  pub edges-none : {w : ℕ} → w ≡ 0 → bitEdges s k u w ≡ []
+  unfolding each
+  edges-none e = ap (bitEdges s k u) e ∙ ap (each (λ t. entry s k u (u + 1 + t) ∷ [])) (places-none 64 0)
+
   pub filling-end : {w : ℕ} {whole : List Entry} {at c : ℕ} {ends masks e1 m1 : List ℕ} → w ≡ 0 → Filling (bitEdges s k u w) whole at ends masks e1 m1 c →
       Filled whole at ends masks e1 m1 c
-  unfolding each
   filling-end {w} {whole} {at} {c} {ends} {masks} {e1} {m1} e f =
-      let none : bitEdges s k u w ≡ [] = ap (bitEdges s k u) e ∙ ap (each (λ t. entry s k u (u + 1 + t) ∷ [])) (places-none 64 0) in
+      let none : bitEdges s k u w ≡ [] = edges-none e in
       record {
         count = omega (arith, f .count, ap length none);
         ends-size = f .ends-size;
@@ -126,7 +131,8 @@ pub filled-none : (g : ℕ → List Entry) (ends masks : List ℕ) → Filled (u
 unfolding upTo entriesIn
 filled-none g ends masks = record { count = refl; ends-size = refl; masks-size = refl; entries = refl }
 
-pub filled-more : (g : ℕ → List Entry) (i : ℕ) {c r : ℕ} {ends masks e1 m1 e2 m2 : List ℕ} → Filled (upTo g i) 0 ends masks e1 m1 c → Filled (g i) c e1 m1 e2 m2 r →
+pub filled-more : (g : ℕ → List Entry) (i : ℕ) {c r : ℕ} {ends masks e1 m1 e2 m2 : List ℕ} → Filled (upTo g i) 0 ends masks e1 m1 c →
+    Filled (g i) c e1 m1 e2 m2 r →
     Filled (upTo g (i + 1)) 0 ends masks e2 m2 r
 filled-more g i {c} {r} {ends} {masks} f n =
     record {

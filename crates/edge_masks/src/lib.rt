@@ -2,7 +2,7 @@
 ghost use mathlib.Core.Path.{_≡_};
 ghost use Prim.Native.Nat.{_+_, _*_, _<_, _≤_};
 ghost use lib.ListN.{length};
-ghost use Rattle.pierce.specs.Faces.{valueOf};
+ghost use Rattle.face_masks.specs.Faces.{valueOf};
 ghost use Rattle.scene.specs.Faces.{Vertex};
 ghost use Rattle.listing.specs.Hits.{seenIn, Sound, edgeMask};
 ghost use Rattle.links.specs.Links.{words};
@@ -11,10 +11,10 @@ ghost use Rattle.edge_masks.specs.Edges.{vertexEdges, solidEdges, Higher
 ghost use Rattle.edge_masks.specs.Sides.{Told, Parted};
 ghost use Rattle.edge_masks.specs.Store.{pairSet};
 use engine::Engine;
+use face_masks::Mask;
 use links::Words;
 use narrow::cuts::Cuts;
 use narrow::mask;
-use pierce::faces::Mask;
 use scene::Corners;
 use scene::Rows;
 use scene::Solid;

@@ -1,19 +1,11 @@
 -- The edges of a solid: an edge is a pair of points, lower number first, that one of its faces has as corners. Assumes nothing.
-use mathlib.Core.Bool.{Bool, _&&_, _||_}
+use mathlib.Core.Bool.{Bool}
 use Prim.Native.Nat.{ℕ, _+_, _≤_, _<_}
-use lib.Dec.{eqb}
 use Rattle.laws.specs.Range.{anyOf}
 use Rattle.laws.specs.Mask.{maskOf}
-use Rattle.scene.specs.Faces.{FaceOf}
+use Rattle.scene.specs.Faces.{FaceOf, hasBoth}
 use Rattle.scene.specs.declared.Face.{Face}
 use Rattle.scene.specs.declared.Solid.{Solid}
-
--- i is a corner of the face; i and j are
-unfoldable pub isCorner : ℕ → Face → Bool
-isCorner i f = eqb (f .p) i || (eqb (f .q) i || eqb (f .r) i)
-
-unfoldable pub hasBoth : ℕ → ℕ → Face → Bool
-hasBoth i j f = isCorner i f && isCorner j f
 
 -- one of the solid's faces has both i and j as corners
 unfoldable pub joined : (ℕ → Face) → Solid → (i j : ℕ) → Bool

@@ -9,9 +9,9 @@ use lib.Dec.{eqb}
 use borrow.Author.Tests.{eq-eqb, ne-eqb}
 use Rattle.laws.specs.Range.{anyOf, over, fold, any-more}
 use Rattle.laws.specs.Mask.{maskOf, or-masks, mask-none, mask-same, mask-one}
-use Rattle.scene.specs.Faces.{FaceOf}
+use Rattle.scene.specs.Faces.{FaceOf, isCorner, hasBoth}
 use Rattle.scene.specs.declared.Face.{Face}
-use Rattle.edges.specs.Edges.{width, isCorner, hasBoth}
+use Rattle.edges.specs.Edges.{width}
 
 abbrev pub bitOf : (low i : ℕ) → ℕ
 bitOf low i = 2 ^ (i - (low + 1))
@@ -40,7 +40,8 @@ module _ (low n : ℕ) where
       three : bitOr (bitOr (bitOf low (f .p)) (bitOf low (f .q))) (bitOf low (f .r))
           ≡ maskOf (λ m. eqb (f .p) (low + 1 + m) || (eqb (f .q) (low + 1 + m) || eqb (f .r) (low + 1 + m))) n
       three =
-          ap₂ bitOr (ap₂ bitOr (bit-is (f .p) (ok .p .0) (ok .p .1)) (bit-is (f .q) (ok .q .0) (ok .q .1)) ∙ or-masks _ _ n) (bit-is (f .r) (ok .r .0) (ok .r .1))
+          ap₂ bitOr (ap₂ bitOr (bit-is (f .p) (ok .p .0) (ok .p .1)) (bit-is (f .q) (ok .q .0) (ok .q .1)) ∙ or-masks _ _ n)
+          (bit-is (f .r) (ok .r .0) (ok .r .1))
           ∙ or-masks _ _ n
           ∙ mask-same _ _ n (λ m b. or-assoc (eqb (f .p) (low + 1 + m)) (eqb (f .q) (low + 1 + m)) (eqb (f .r) (low + 1 + m)))
         where

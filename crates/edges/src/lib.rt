@@ -1,6 +1,6 @@
 // A corner of a face.
 ghost use mathlib.Core.Path.{_≡_};
-ghost use Rattle.edges.specs.Edges.{isCorner};
+ghost use Rattle.scene.specs.Faces.{isCorner};
 use scene::Face;
 
 pub fn is_corner(f: Face, i: usize) -> bool

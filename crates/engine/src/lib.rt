@@ -7,10 +7,11 @@ ghost use Rattle.scene.specs.Arrays.{rowIn, faceIn, AllWithin, FaceWithin, Face
 ghost use Rattle.orient.specs.Weighted.{Weighted};
 ghost use Rattle.pierce.specs.Formula.{pierced};
 ghost use Rattle.pierce.specs.Beside.{Beside, BesideAll};
-ghost use Rattle.pierce.specs.Faces.{maskAgainst, enclosed, valueOf};
-use pierce::faces::Mask;
-use pierce::faces::WORD;
-use pierce::faces::is_odd;
+ghost use Rattle.face_masks.specs.Faces.{valueOf};
+ghost use Rattle.pierce.specs.Against.{maskAgainst, enclosed};
+use face_masks::Mask;
+use face_masks::WORD;
+use face_masks::is_odd;
 use scene::Corners;
 use scene::Face;
 use scene::Rows;
@@ -99,7 +100,8 @@ pub fn enclosed(
 
 // The edge from u to v pierces the face, in a scene of n points.
 pub fn pierces(engine: Engine, rows: &Rows, n: usize, u: usize, v: usize, f: Face) -> bool
-    requires points { ⌜ AllWithin limits (rowIn (now rows)) × (6 ≤ n) × (n ≤ mostPoints limits) × (u ≤ mostPoints limits) × (v ≤ mostPoints limits) × FaceWithin limits f ⌝ }
+    requires points { ⌜ AllWithin limits (rowIn (now rows)) × (6 ≤ n) × (n ≤ mostPoints limits) × (u ≤ mostPoints limits) × (v ≤ mostPoints limits)
+        × FaceWithin limits f ⌝ }
     requires edge { ⌜ Weighted n (rowIn (now rows)) × Beside n u v f ⌝ }
     ensures { λ r. ⌜ r ≡ pierced n (rowIn (now (rows .entry))) u v f ⌝ }
 {

@@ -10,12 +10,6 @@ pub struct Entry {
     pub len: usize,
 }
 
-fn least(a: usize, b: usize) -> usize
-    ensures { λ r. ⌜ (r ≤ a) × (r ≤ b) ⌝ }
-{
-    if a < b { a } else { b }
-}
-
 // The next entry at the start of the buffer, as far as there is room. What is read no contract can say, only that it is within the buffer.
 pub fn next(buffer: &mut [u8]) -> Entry
     ensures { λ r. ⌜ r .len ≤ length (now (buffer .exit)) ⌝ }
@@ -27,7 +21,7 @@ pub fn next(buffer: &mut [u8]) -> Entry
             len: 0,
         };
     }
-    let n = least(two(&bytes, 0), buffer.len());
+    let n = io::count(two(&bytes, 0) as isize, buffer);
     Entry {
         is_end: false,
         len: io::read_full(STDIN_FILENO, &mut buffer[..n]),

@@ -5,7 +5,7 @@ use crate::minus;
 use render::next_number;
 use render::word;
 use scene::Refusal;
-use texts::count_at;
+use texts::head_of;
 
 fn of_first(out: &mut [u8], at: usize, w: &[u8], n: usize) -> usize
     ensures { λ p. ⌜ Put (now (out .entry)) at (ofFirst (now (w .entry)) n) (now (out .exit)) p ⌝ }
@@ -27,7 +27,7 @@ fn of_second(out: &mut [u8], at: usize, w: &[u8], n: usize) -> usize
 fn face(out: &mut [u8], at: usize, a: &[u8], n: usize) -> usize
     ensures { λ p. ⌜ Put (now (out .entry)) at (faceIn (now (a .entry)) n) (now (out .exit)) p ⌝ }
 {
-    let m = count_at(a, 2);
+    let m = head_of(a).faces;
     if n < m {
         return of_first(out, at, b"face", n);
     }
@@ -38,7 +38,7 @@ fn face(out: &mut [u8], at: usize, a: &[u8], n: usize) -> usize
 fn rest(out: &mut [u8], at: usize, a: &[u8], b: &[u8], n: usize) -> usize
     ensures { λ p. ⌜ Put (now (out .entry)) at (restIn (now (a .entry)) (now (b .entry)) n) (now (out .exit)) p ⌝ }
 {
-    let m = count_at(b, 1);
+    let m = head_of(b).vertices;
     if n < m {
         return of_second(out, at, b"vertex", n);
     }
@@ -49,7 +49,7 @@ fn rest(out: &mut [u8], at: usize, a: &[u8], b: &[u8], n: usize) -> usize
 fn piece(out: &mut [u8], at: usize, a: &[u8], b: &[u8], n: usize) -> usize
     ensures { λ p. ⌜ Put (now (out .entry)) at (pieceIn (now (a .entry)) (now (b .entry)) n) (now (out .exit)) p ⌝ }
 {
-    let m = count_at(a, 1);
+    let m = head_of(a).vertices;
     if n < m {
         return of_first(out, at, b"vertex", n);
     }

@@ -11,13 +11,13 @@ use lib.ListN.{set}
 use borrow.Author.Tests.{not-true, not-false, eqb-true, le-leb, lt-leb}
 use Rattle.laws.specs.Decides.{decides}
 use Rattle.laws.specs.Lists.{run, run-same}
+use Rattle.laws.specs.None.{none-iff}
 use Rattle.scene.specs.Bytes.{byteAt, twoAt, coordinateAt, weightAt, signed}
 use Rattle.scene.specs.Records.{vertsA, vertsB, verts, facesA, facesB, pointStart, faceStart}
 use Rattle.scene.specs.Tables.{Table, size, rowAt, faceAt, cornerAt, tablesOf}
 use Rattle.scene.specs.Read.{size-b}
 use Rattle.scene.specs.declared.Row.{Row}
 use Rattle.rules.specs.Frame.{SameCounts, row-frame, face-frame}
-use Rattle.clean.specs.None.{none-iff}
 use Rattle.session.specs.Changes.{RowChanged}
 use Rattle.benches.specs.Bench.{differAt, sameBytes, sameCounts, sameFar, sameVertices, sameFaces, isShared}
 

@@ -3,10 +3,9 @@
 use mathlib.Core.Path.{_≡_, refl, sym, ap, _∙_}
 use mathlib.Core.Logic.{_⊎_, inl, inr}
 use mathlib.Core.List.{List, [], _∷_}
-use Prim.Native.Nat.{ℕ, _-_}
+use Prim.Native.Nat.{ℕ}
 use native.Mathlib.Omega.{arith}
 use lib.ListN.{length}
-use lib.Seq.{take-append-seam}
 use Rattle.scene.specs.Limits.{limits}
 use Rattle.scene.specs.Records.{vertsB}
 use Rattle.scene.specs.Read.{size-b}
@@ -18,9 +17,10 @@ use Rattle.judge.specs.Tests.{never}
 use Rattle.judge.specs.declared.Judged.{Judged}
 use Rattle.judge.specs.declared.Judged.the-variants as judge
 use Rattle.rules.specs.Accepted.{accepted}
-use Rattle.session.specs.Session.{scene, empty, fresh, opened, openedBy}
+use Rattle.session.specs.Session.{scene, empty, opened, openedBy}
 use Rattle.session.specs.Kept.{Empty, Full, opened-holds}
 use Rattle.session.specs.Kept as session
+use Rattle.session.specs.Saved.{opened-scene}
 use Rattle.session.specs.declared.Session.{Session}
 use Rattle.benches.specs.Bench as bench
 use Rattle.benches.specs.Bench.{openFault, openedOf, sessionOf, withSession, ownMovedOf, groupMovedOf}
@@ -69,11 +69,6 @@ after b [] = b
 after b (o ∷ os) = after (step b o .bench) os
 
 -- ---- opening
-
--- opening holds the very scene
-opened-scene : (s : List ℕ) → judged s ≡ judge.Accepted → scene (opened s .session) ≡ s
-unfolding opened fresh
-opened-scene s q = ap (λ (j : Judged). scene (openedBy j s .session)) q ∙ take-append-seam s _
 
 opened-full : (s : List ℕ) → judged s ≡ judge.Accepted → Full (opened s .session)
 opened-full s q = go (opened-holds s .state)

@@ -9,6 +9,7 @@ use lib.ListN.{length, getD}
 use borrow.Author.Tests.{eq-eqb}
 use Rattle.laws.specs.Decides.{decides}
 use Rattle.laws.specs.Lists.{length-run}
+use Rattle.laws.specs.None.{none-iff}
 use Rattle.scene.specs.Bytes.{byteAt}
 use Rattle.scene.specs.Limits.{limits}
 use Rattle.scene.specs.Records.{vertsA, vertsB, facesA, facesB, pointStart, faceStart, markFP, markVX}
@@ -21,7 +22,6 @@ use Rattle.rules.specs.Held.{Held, byte-of, length-all}
 use Rattle.rules.specs.ReadBack.{far-stands, b-rows, b-faces}
 use Rattle.rules.specs.Write.{pointBytes, faceBytes, bytesOf}
 use Rattle.rules.specs.Written.{Bytes, accepted-written}
-use Rattle.clean.specs.None.{none-iff}
 use Rattle.benches.specs.Bench.{unless, thenScene, differAt, sameBytes, sameCounts, sameFar, sameVertices, sameFaces, isShared, openFault}
 use Rattle.benches.specs.declared.Fault.the-variants.{Differing}
 use Rattle.benches.specs.declared.Answer.{Answer}

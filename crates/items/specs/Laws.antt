@@ -1,5 +1,5 @@
 -- The laws of items and numbers, in the form in which a loop's turn arrives: the rest equals the whole. Assumes nothing.
-use Prim.Native.Nat.{ℕ, zero, suc, _+_, _*_, _-_, _<_, _≤_}
+use Prim.Native.Nat.{ℕ, suc, _+_, _*_, _-_, _<_, _≤_}
 use mathlib.Core.Path.{_≡_, refl, sym, ap, ap₂, _∙_}
 use mathlib.Core.List.{List, [], _∷_}
 use mathlib.Core.Bool.{Bool, true, false, not, cond, _&&_}
@@ -7,35 +7,50 @@ use native.Mathlib.Omega.{arith}
 use native.Mathlib.Numerals.{add-one}
 use native.Mathlib.Decide.{decLt}
 use borrow.Author.Needs.{needs}
-use borrow.Author.Tests.{le-leb, lt-leb, lt-ltb, le-ltb, not-true, not-false}
+use borrow.Author.Tests.{eq-eqb, ne-eqb, le-leb, lt-leb, lt-ltb, le-ltb, not-true, not-false}
 use lib.Dec.{ltb}
 use lib.ListN.{length, getD, take, drop, drop-of-length-le, length-take}
 use lib.Seq.{drop-cons, slice, slice-cons}
-use Rattle.items.specs.Items.{separates, begins, comments, gap, word, startOf, wordEnd, endOf, after}
+use Rattle.items.specs.Items.{hash, separates, begins, comments, gap, word}
+use Rattle.items.specs.Lines.{lineEnd, comment-passed}
 use Rattle.items.specs.Numbers.{isDigit, digits, value, minusAt, bodyOf, isWhole, sizeOf, largest, atMost}
 
 -- ---- the gap before an item, and the item
 
-module _ (s : List ℕ) (i : ℕ) {w : ℕ} where
-  pub gap-stop : (m : Bool) → i + gap m (drop i s) ≡ w → length s ≤ i → i ≡ w
+module _ (s : List ℕ) (i : ℕ) {w : ℕ} (inv : i + gap false (drop i s) ≡ w) where
+  pub gap-stop : length s ≤ i → i ≡ w
   unfolding gap
-  gap-stop m inv h = omega (arith, ap (gap m) (drop-of-length-le s h), inv)
+  gap-stop h = omega (arith, ap (gap false) (drop-of-length-le s h), inv)
 
-  module _ (h : i < length s) {o : Bool} where
-    pub gap-found : (m : Bool) → i + gap m (drop i s) ≡ w → o ≡ begins m (getD s i 0) → o ≡ true → i ≡ w
+  module _ (h : i < length s) where
+    gap-turn : {b m : Bool} → begins false (getD s i 0) ≡ b → comments false (getD s i 0) ≡ m → i + cond b 0 (suc (gap m (drop (suc i) s))) ≡ w
     unfolding gap
-    gap-found m inv p q =
-        let e : gap m (drop i s) ≡ 0 = ap (gap m) (drop-cons s i 0 h) ∙ ap (λ (b : Bool). cond b 0 (suc (gap (comments m (getD s i 0)) (drop (suc i) s)))) (sym p ∙ q) in
-        omega arith
+    gap-turn p q =
+        ap₂ (λ (b m : Bool). i + cond b 0 (suc (gap m (drop (suc i) s)))) (sym p) (sym q) ∙ ap (λ (l : List ℕ). i + gap false l) (sym (drop-cons s i 0 h)) ∙ inv
 
-    pub gap-next : (m : Bool) {n : Bool} → i + gap m (drop i s) ≡ w → o ≡ begins m (getD s i 0) → o ≡ false → n ≡ comments m (getD s i 0) → (i + 1) + gap n (drop (i + 1) s) ≡ w
-    unfolding gap
-    gap-next m {n} inv p q r =
-        let e : gap m (drop i s) ≡ suc (gap (comments m (getD s i 0)) (drop (suc i) s)) =
-        ap (gap m) (drop-cons s i 0 h) ∙ ap (λ (b : Bool). cond b 0 (suc (gap (comments m (getD s i 0)) (drop (suc i) s)))) (sym p ∙ q) in
-        let f : gap n (drop (i + 1) s) ≡ gap (comments m (getD s i 0)) (drop (suc i) s) = ap₂ (λ (b : Bool) (k : ℕ). gap b (drop k s)) r (add-one i) in
-        omega arith
+    module _ {o : Bool} (p : o ≡ separates (getD s i 0)) where
+      begun : {b : Bool} → not o ≡ b → begins false (getD s i 0) ≡ b
+      unfolding begins
+      begun q = ap not (sym p) ∙ q
 
+      pub gap-found : not o ≡ true → i ≡ w
+      gap-found q = omega (arith, gap-turn (begun q) refl)
+
+      module _ (q : not o ≡ false) where
+        pub gap-next : (getD s i 0 ≡ hash → ⊥) → (i + 1) + gap false (drop (i + 1) s) ≡ w
+        unfolding comments
+        gap-next r =
+            let f : gap false (drop (i + 1) s) ≡ gap false (drop (suc i) s) = ap (λ (k : ℕ). gap false (drop k s)) (add-one i) in
+            omega (arith, gap-turn (begun q) (ne-eqb (getD s i 0) hash r))
+
+        -- a comment is passed by its line's end
+        pub gap-comment : {k : ℕ} → getD s i 0 ≡ hash → k ≡ lineEnd s (i + 1) → k + gap false (drop k s) ≡ w
+        unfolding comments
+        gap-comment r e =
+            let f : gap true (drop (i + 1) s) ≡ gap true (drop (suc i) s) = ap (λ (k : ℕ). gap true (drop k s)) (add-one i) in
+            omega (arith, comment-passed s (i + 1) e, gap-turn (begun q) (eq-eqb (getD s i 0) hash r))
+
+module _ (s : List ℕ) (i : ℕ) {w : ℕ} where
   pub word-stop : i + word (drop i s) ≡ w → length s ≤ i → i ≡ w
   unfolding word
   word-stop inv h = omega (arith, ap word (drop-of-length-le s h), inv)
@@ -50,7 +65,8 @@ module _ (s : List ℕ) (i : ℕ) {w : ℕ} where
     pub word-next : i + word (drop i s) ≡ w → o ≡ separates (getD s i 0) → o ≡ false → (i + 1) + word (drop (i + 1) s) ≡ w
     unfolding word
     word-next inv p q =
-        let e : word (drop i s) ≡ suc (word (drop (suc i) s)) = ap word (drop-cons s i 0 h) ∙ ap (λ (b : Bool). cond b 0 (suc (word (drop (suc i) s)))) (sym p ∙ q) in
+        let e : word (drop i s) ≡ suc (word (drop (suc i) s)) =
+        ap word (drop-cons s i 0 h) ∙ ap (λ (b : Bool). cond b 0 (suc (word (drop (suc i) s)))) (sym p ∙ q) in
         let f : word (drop (i + 1) s) ≡ word (drop (suc i) s) = ap (λ (k : ℕ). word (drop k s)) (add-one i) in
         omega arith
 
@@ -134,6 +150,7 @@ pub ruleset scans = (
   gap-stop,
   gap-found,
   gap-next,
+  gap-comment,
   word-stop,
   word-found,
   word-next,
@@ -147,10 +164,6 @@ pub ruleset scans = (
 )
 
 -- ---- what a branch says
-
-pub begins-outside : {m o : Bool} (c : ℕ) → m ≡ false → o ≡ separates c → not o ≡ begins m c
-unfolding begins
-begins-outside c p q = ap₂ (λ (a b : Bool). not a && not b) (sym p) q
 
 pub body-behind : (g : Bool) (s : List ℕ) (i : ℕ) {o : Bool} → o ≡ minusAt g s i → o ≡ true → i + 1 ≡ bodyOf g s i
 unfolding bodyOf
@@ -174,7 +187,3 @@ module _ (g : Bool) (s : List ℕ) (i e : ℕ) {b : ℕ} (p : b ≡ bodyOf g s i
   pub size-body : {n : ℕ} → n ≡ atMost largest (value 0 (slice b e s)) → n ≡ atMost largest (sizeOf g s i e)
   unfolding sizeOf
   size-body q = q ∙ ap (λ (k : ℕ). atMost largest (value 0 (slice k e s))) p
-
--- one item more
-pub after-next : (s : List ℕ) (i : ℕ) {at m : ℕ} → at ≡ after s i → m ≡ endOf s at → m ≡ after s (i + 1)
-after-next s i p q = q ∙ ap (endOf s) p ∙ ap (after s) (sym (add-one i))

@@ -1,3 +1,4 @@
 pub mod Items
 pub mod Numbers
+pub mod Lines
 pub mod Laws

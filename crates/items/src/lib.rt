@@ -2,7 +2,8 @@
 ghost use mathlib.Core.Path.{_≡_};
 ghost use Prim.Native.Nat.{_≤_};
 ghost use lib.ListN.{length};
-ghost use Rattle.items.specs.Items.{separates, begins, comments, startOf, wordEnd, endOf, after};
+ghost use Rattle.items.specs.Items.{separates, startOf, wordEnd, endOf};
+ghost use Rattle.items.specs.Lines.{lineEnd};
 
 pub mod numbers;
 
@@ -23,38 +24,37 @@ fn separates(c: u8) -> bool
     c == b'#'
 }
 
-fn begins(comment: bool, c: u8) -> bool
-    ensures { λ r. ⌜ r ≡ begins comment c ⌝ }
+// Where the line that byte i is on ends: at its newline, or at the text's end.
+fn line_end(text: &[u8], i: usize) -> usize
+    requires { ⌜ i ≤ length (now text) ⌝ }
+    ensures { λ r. ⌜ (r ≡ lineEnd (now (text .entry)) i) × (i ≤ r) × (r ≤ length (now (text .entry))) ⌝ }
 {
-    if comment {
-        return false;
+    let mut k = i;
+    while k < text.len() {
+        if text[k] == b'\n' {
+            return k;
+        }
+        k += 1;
     }
-    !separates(c)
+    k
 }
 
-fn comments(comment: bool, c: u8) -> bool
-    ensures { λ r. ⌜ r ≡ comments comment c ⌝ }
-{
-    if comment {
-        return c != b'\n';
-    }
-    c == b'#'
-}
-
-// Where the first item from `at` on starts: at the text's end where there is none.
+// Where the first item from `at` on starts: at the text's end where there is none. A comment is passed at once, by its line's end.
 fn start(text: &[u8], at: usize) -> usize
     requires { ⌜ at ≤ length (now text) ⌝ }
     ensures { λ r. ⌜ (r ≡ startOf (now (text .entry)) at) × (at ≤ r) × (r ≤ length (now (text .entry))) ⌝ }
 {
-    let mut comment = false;
     let mut i = at;
     while i < text.len() {
         let c = text[i];
-        if begins(comment, c) {
+        if !separates(c) {
             return i;
         }
-        comment = comments(comment, c);
-        i += 1;
+        if c == b'#' {
+            i = line_end(text, i + 1);
+        } else {
+            i += 1;
+        }
     }
     i
 }
@@ -77,24 +77,12 @@ fn end(text: &[u8], start: usize) -> usize
 // The first item from `at` on, empty and at the text's end where there is none.
 pub fn next(text: &[u8], at: usize) -> Item
     requires { ⌜ at ≤ length (now text) ⌝ }
-    ensures { λ r. ⌜ (r .start ≡ startOf (now (text .entry)) at) × (r .end ≡ endOf (now (text .entry)) at) × (at ≤ r .start) × (r .start ≤ r .end) × (r .end ≤ length (now (text .entry))) ⌝ }
+    ensures { λ r. ⌜ (r .start ≡ startOf (now (text .entry)) at) × (r .end ≡ endOf (now (text .entry)) at)
+        × (at ≤ r .start) × (r .start ≤ r .end) × (r .end ≤ length (now (text .entry))) ⌝ }
 {
     let i = start(text, at);
     Item {
         start: i,
         end: end(text, i),
     }
-}
-
-// Where the text's first k items end.
-pub fn after(text: &[u8], k: usize) -> usize
-    ensures { λ r. ⌜ (r ≡ after (now (text .entry)) k) × (r ≤ length (now (text .entry))) ⌝ }
-{
-    let mut at = 0;
-    let mut i = 0;
-    while i < k {
-        at = next(text, at).end;
-        i += 1;
-    }
-    at
 }

@@ -9,6 +9,9 @@ use scene::read::byte;
 
 pub const LARGEST: usize = 18446744073709551615;
 
+// Ten times a number below this, and a digit, is below the largest.
+const FEW: usize = 1844674407370955136;
+
 pub fn is_digit(c: u8) -> bool
     ensures { λ r. ⌜ r ≡ isDigit c ⌝ }
 {
@@ -42,6 +45,9 @@ fn behind(n: usize, d: usize) -> usize
     requires { ⌜ d < 256 ⌝ }
     ensures { λ r. ⌜ r ≡ atMost largest (10 * n + d) ⌝ }
 {
+    if n < FEW {
+        return 10 * n + d;
+    }
     if n > (LARGEST - d) / 10 {
         return LARGEST;
     }

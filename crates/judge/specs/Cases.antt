@@ -10,7 +10,8 @@ use Rattle.laws.specs.Range.{anyOf}
 use Rattle.scene.specs.Limits.{Limits, leastWeight}
 use Rattle.scene.specs.Bytes.{twoAt}
 use Rattle.scene.specs.Records.{vertsA, vertsB, facesA, verts, faces, lastRecord, pointStart, markFP, markVX}
-use Rattle.judge.specs.Judge.{firstFault, nowhere, somewhereOk, pointMark, pointFault, vertsAt, faceFault, endFault, recordFault, isCorner, isUsed, sidesOk, closedAt}
+use Rattle.judge.specs.Judge.{firstFault, nowhere, somewhereOk, pointMark, pointFault, vertsAt, faceFault, endFault, recordFault}
+use Rattle.judge.specs.Judge.{isCornerOf, isUsed, sidesOk, closedAt}
 use Rattle.judge.specs.declared.Judged.{Judged}
 
 -- the same search, up to the same end
@@ -50,11 +51,11 @@ module _ (s : List ℕ) where
   unfolding vertsAt
   verts-of-b i h = simp (le-ltb i (facesA s) h)
 
-  pub used-of-a : (p : ℕ) → p ≤ vertsA s → isUsed s p ≡ anyOf (isCorner s p) 0 (facesA s)
+  pub used-of-a : (p : ℕ) → p ≤ vertsA s → isUsed s p ≡ anyOf (isCornerOf s p) 0 (facesA s)
   unfolding isUsed
   used-of-a p h = simp (le-leb p (vertsA s) h)
 
-  pub used-of-b : (p : ℕ) → vertsA s < p → isUsed s p ≡ anyOf (isCorner s (p - vertsA s)) (facesA s) (faces s)
+  pub used-of-b : (p : ℕ) → vertsA s < p → isUsed s p ≡ anyOf (isCornerOf s (p - vertsA s)) (facesA s) (faces s)
   unfolding isUsed
   used-of-b p h = simp (lt-leb p (vertsA s) h)
 

@@ -1,15 +1,17 @@
 -- The judge: what is refused, in the order of checking. Assumes nothing.
 use Prim.Native.Nat.{ℕ, zero, suc, _+_, _-_, _%_}
 use mathlib.Core.List.{List}
-use mathlib.Core.Bool.{Bool, true, false, not, cond, _&&_, _||_}
+use mathlib.Core.Bool.{Bool, true, false, not, cond, _&&_}
 use lib.ListN.{length}
 use lib.Dec.{ltb, leb, eqb}
 use lib.IntN.{natAbs}
 use Rattle.laws.specs.Range.{firstOf, anyOf, countOf}
 use Rattle.scene.specs.Limits.{Limits, limits, leastWeight, within}
 use Rattle.scene.specs.Bytes.{twoAt, coordinateAt, weightAt}
-use Rattle.scene.specs.Records.{vertsA, vertsB, facesA, facesB, verts, faces, faceRecord, lastRecord, lengthOf, pointStart, faceStart, endStart, markSC, markFP, markVX, markFC, markEN}
-use Rattle.scene.specs.Tables.{cornerAt}
+use Rattle.scene.specs.Records.{vertsA, vertsB, facesA, facesB, verts, faces, faceRecord, lastRecord, lengthOf}
+use Rattle.scene.specs.Records.{pointStart, faceStart, endStart, markSC, markFP, markVX, markFC, markEN}
+use Rattle.scene.specs.Tables.{cornerAt, faceAt}
+use Rattle.scene.specs.Faces.{isCorner, hasBoth}
 use Rattle.scene.specs.declared.Refusal.{Refusal}
 use Rattle.scene.specs.declared.Refusal.the-variants.{Opening, Counts, Length, Mark, Coordinate, Weight, Corner, Unused, Edge, Nowhere}
 use Rattle.judge.specs.declared.Judged.{Judged}
@@ -106,16 +108,16 @@ recordsFault l s = firstFault (recordFault l s) 1 (lastRecord s + 1)
 -- ---- refusal 8: a vertex in no face of its solid
 
 -- v is a corner of the file's face i; v and w are
-unfoldable pub isCorner : List ℕ → ℕ → ℕ → Bool
-isCorner s v i = eqb (cornerAt s i 0) v || (eqb (cornerAt s i 1) v || eqb (cornerAt s i 2) v)
+unfoldable pub isCornerOf : List ℕ → ℕ → ℕ → Bool
+isCornerOf s v i = isCorner v (faceAt s i)
 
 unfoldable pub isEdge : List ℕ → ℕ → ℕ → ℕ → Bool
-isEdge s v w i = isCorner s v i && isCorner s w i
+isEdge s v w i = hasBoth v w (faceAt s i)
 
 -- point p is a corner of one of its solid's faces
 unfoldable pub isUsed : List ℕ → ℕ → Bool
 isUsed s p =
-    cond (leb p (vertsA s)) (anyOf (isCorner s p) 0 (facesA s)) (anyOf (isCorner s (p - vertsA s)) (facesA s) (faces s))
+    cond (leb p (vertsA s)) (anyOf (isCornerOf s p) 0 (facesA s)) (anyOf (isCornerOf s (p - vertsA s)) (facesA s) (faces s))
 
 unfoldable pub unusedFault : List ℕ → ℕ → Judged
 unusedFault s p = rule (isUsed s p) (Unused p) Accepted

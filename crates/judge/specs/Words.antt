@@ -17,7 +17,8 @@ use Rattle.laws.specs.Mask.{maskOf, or-masks, xor-masks, mask-none, place-mask,
 use Rattle.laws.specs.Range.{more, anyOf, countOf, any-more, count-more, over-stop}
 use Rattle.scene.specs.Records.{faces}
 use Rattle.scene.specs.Tables.{cornerAt}
-use Rattle.judge.specs.Judge.{isCorner, isEdge, edgeOk, sidesOk}
+use Rattle.scene.specs.Faces.{isCorner, hasBoth}
+use Rattle.judge.specs.Judge.{isCornerOf, isEdge, edgeOk, sidesOk}
 
 -- the bits of a word
 abbrev pub places : ℕ
@@ -43,7 +44,7 @@ unfoldable pub wordOf : List ℕ → (a n v : ℕ) → ℕ
 wordOf s a n v = maskOf (oddly s a n v) places
 
 unfoldable pub usedWord : List ℕ → (a n : ℕ) → ℕ
-usedWord s a n = maskOf (λ v. anyOf (isCorner s v) a (a + n)) places
+usedWord s a n = maskOf (λ v. anyOf (isCornerOf s v) a (a + n)) places
 
 -- the words of all vertices
 pub record AreWords (s : List ℕ) (a n : ℕ) (words : List ℕ) : Type 0 where
@@ -54,7 +55,7 @@ pub record AreWords (s : List ℕ) (a n : ℕ) (words : List ℕ) : Type 0 where
 
 -- the corners of the file's face i, as a word
 unfoldable pub cornersWord : List ℕ → ℕ → ℕ
-cornersWord s i = maskOf (λ w. isCorner s w i) places
+cornersWord s i = maskOf (λ w. isCornerOf s w i) places
 
 unfoldable pub turned : List ℕ → (p t : ℕ) → List ℕ
 turned words p t = set words p (bitXor (getD words p 0) t)
@@ -62,11 +63,11 @@ turned words p t = set words p (bitXor (getD words p 0) t)
 -- its corners are turned in the words of each of them
 pub record TurnsFace (s : List ℕ) (i : ℕ) (before after : List ℕ) : Type 0 where
   pub size : length after ≡ length before
-  pub at : (v : ℕ) → v < places → getD after v 0 ≡ bitXor (getD before v 0) (cond (isCorner s v i) (cornersWord s i) 0)
+  pub at : (v : ℕ) → v < places → getD after v 0 ≡ bitXor (getD before v 0) (cond (isCornerOf s v i) (cornersWord s i) 0)
 
 pub three-places : (s : List ℕ) (i : ℕ) {x y z : ℕ} → CornersIn s i → x ≡ 2 ^ cornerAt s i 0 → y ≡ 2 ^ cornerAt s i 1 → z ≡ 2 ^ cornerAt s i 2 →
     bitOr (bitOr x y) z ≡ cornersWord s i
-unfolding cornersWord isCorner
+unfolding cornersWord isCornerOf isCorner
 three-places s i h ex ey ez =
     ap₂ bitOr (ap₂ bitOr (ex ∙ place-mask _ places (h .p)) (ey ∙ place-mask _ places (h .q)) ∙ or-masks _ _ places) (ez ∙ place-mask _ places (h .r))
     ∙ or-masks _ _ places
@@ -105,7 +106,7 @@ once m t v p q r pq qr rp = go (ℕ-discrete p v) (ℕ-discrete q v) (ℕ-discre
 pub turns-face : (s : List ℕ) (i : ℕ) (words : List ℕ) {w1 w2 w3 : List ℕ} {p q r t : ℕ} → CornersIn s i → length words ≡ places →
     p ≡ cornerAt s i 0 → q ≡ cornerAt s i 1 → r ≡ cornerAt s i 2 → t ≡ cornersWord s i → w1 ≡ turned words p t → w2 ≡ turned w1 q t → w3 ≡ turned w2 r t →
     TurnsFace s i words w3
-unfolding isCorner
+unfolding isCornerOf isCorner
 turns-face s i words {w1} {w2} {w3} {p} {q} {r} {t} h long ep eq er et e1 e2 e3 =
     let l1 : length w1 ≡ places = turned-size words p t e1 long in
     let l2 : length w2 ≡ places = turned-size w1 q t e2 l1 in
@@ -132,13 +133,14 @@ words-none s a =
       at = λ v b.
           getD-replicate places v 0 0 b
           ∙ sym
-          (mask-none (oddly s a 0 v) places (λ w c. ap (λ (n : ℕ). eqb (n % 2) 1) (over-stop (λ k rest. more (isEdge s v w k) rest) 0 a (a + 0) (omega arith))));
+          (mask-none (oddly s a 0 v) places
+          (λ w c. ap (λ (n : ℕ). eqb (n % 2) 1) (over-stop (λ k rest. more (isEdge s v w k) rest) 0 a (a + 0) (omega arith))));
     }
 
 pub used-none : (s : List ℕ) (a : ℕ) → 0 ≡ usedWord s a 0
 unfolding usedWord anyOf
 used-none s a =
-    sym (mask-none (λ v. anyOf (isCorner s v) a (a + 0)) places (λ v b. over-stop (λ k rest. isCorner s v k || rest) false a (a + 0) (omega arith)))
+    sym (mask-none (λ v. anyOf (isCornerOf s v) a (a + 0)) places (λ v b. over-stop (λ k rest. isCornerOf s v k || rest) false a (a + 0) (omega arith)))
 
 odd-more : (b : Bool) (n : ℕ) → eqb (more b n % 2) 1 ≡ eqb (n % 2) 1 ⊕ b
 odd-more true n = go (ℕ-discrete (n % 2) 1)
@@ -148,8 +150,8 @@ odd-more true n = go (ℕ-discrete (n % 2) 1)
     go (no d) = rw (ne-eqb (n % 2) 1 d, eq-eqb (suc n % 2) 1 (omega arith))
 odd-more false n = law (all λ a. a ≐ a ⊕ false) tt (eqb (n % 2) 1)
 
-oddly-more : (s : List ℕ) (a k v w : ℕ) → oddly s a (k + 1) v w ≡ oddly s a k v w ⊕ (isCorner s v (a + k) && isCorner s w (a + k))
-unfolding isEdge
+oddly-more : (s : List ℕ) (a k v w : ℕ) → oddly s a (k + 1) v w ≡ oddly s a k v w ⊕ (isCornerOf s v (a + k) && isCornerOf s w (a + k))
+unfolding isEdge isCornerOf hasBoth
 oddly-more s a k v w =
     let e : a + (k + 1) ≡ a + k + 1 = omega arith in
     rw e
@@ -166,8 +168,8 @@ words-more s a k w m =
       size = m .size ∙ w .size;
       at = λ v b.
           m .at v b
-          ∙ ap₂ bitXor (w .at v b) (chosen (isCorner s v (a + k)) (λ w. isCorner s w (a + k)))
-          ∙ xor-masks (oddly s a k v) (λ w. isCorner s v (a + k) && isCorner s w (a + k)) places
+          ∙ ap₂ bitXor (w .at v b) (chosen (isCornerOf s v (a + k)) (λ w. isCornerOf s w (a + k)))
+          ∙ xor-masks (oddly s a k v) (λ w. isCornerOf s v (a + k) && isCornerOf s w (a + k)) places
           ∙ mask-same _ _ places (λ w c. sym (oddly-more s a k v w));
     }
 
@@ -176,7 +178,7 @@ unfolding usedWord cornersWord
 used-more s a k eu et =
     let e : a + k + 1 ≡ a + (k + 1) = omega arith in
     ap₂ bitOr eu et ∙ or-masks _ _ places
-    ∙ mask-same _ _ places (λ v b. sym (any-more (isCorner s v) a (a + k) (omega arith)) ∙ ap (anyOf (isCorner s v) a) e)
+    ∙ mask-same _ _ places (λ v b. sym (any-more (isCornerOf s v) a (a + k) (omega arith)) ∙ ap (anyOf (isCornerOf s v) a) e)
 
 -- ---- what a bit says
 
@@ -198,9 +200,9 @@ in-even s a n v w words are hv hw =
     ∙ sym (even-odd (countOf (isEdge s v w) a (a + n)))
 
 -- v is a corner of one of the faces
-pub in-used : (s : List ℕ) (a n v : ℕ) {u : ℕ} → u ≡ usedWord s a n → v < places → eqb (u / 2 ^ v % 2) 1 ≡ anyOf (isCorner s v) a (a + n)
+pub in-used : (s : List ℕ) (a n v : ℕ) {u : ℕ} → u ≡ usedWord s a n → v < places → eqb (u / 2 ^ v % 2) 1 ≡ anyOf (isCornerOf s v) a (a + n)
 unfolding usedWord
-in-used s a n v e h = ap (λ (m : ℕ). eqb (m / 2 ^ v % 2) 1) e ∙ mask-test (λ v. anyOf (isCorner s v) a (a + n)) places v h
+in-used s a n v e h = ap (λ (m : ℕ). eqb (m / 2 ^ v % 2) 1) e ∙ mask-test (λ v. anyOf (isCornerOf s v) a (a + n)) places v h
 
 -- what a test of one side, or of the three of the file's face i, says, whichever faces the words are of
 abbrev pub SideBy : List ℕ → (words : List ℕ) → (v w : ℕ) → Bool → Type 0

@@ -4,7 +4,7 @@ ghost use Prim.Native.Nat.{_+_, _<_, _≤_};
 ghost use lib.Dec.{eqb};
 ghost use Rattle.scene.specs.Limits.{limits};
 ghost use Rattle.scene.specs.Bytes.{twoAt};
-ghost use Rattle.scene.specs.Records.{faceStart, endStart, faceRecord, lastRecord, markFC, markEN};
+ghost use Rattle.scene.specs.Records.{faceStart, endStart, lastRecord, markFC, markEN};
 ghost use Rattle.scene.specs.Tables.{cornerAt};
 ghost use Rattle.judge.specs.Judge.{vertsAt, areCorners, cornersOk, faceFault, endFault, recordFault, recordsFault};
 use crate::Judged;

@@ -14,12 +14,13 @@ use Rattle.scene.specs.declared.Refusal.the-variants.{Room, Lacking, Same}
 use Rattle.scene.specs.declared.Face.{Face}
 use Rattle.judge.specs.Judge.{rule, judged}
 use Rattle.scene.specs.Limits.{within}
+use Rattle.scene.specs.Faces.{isCorner}
 use Rattle.judge.specs.declared.Judged.{Judged}
 use Rattle.judge.specs.declared.Judged.the-variants.{Accepted, Refused}
 use Rattle.orient.specs.Terms.{positiveAt, termsAt}
-use Rattle.edges.specs.Edges.{isCorner}
 use Rattle.pierce.specs.Formula.{pierced}
-use Rattle.pierce.specs.Faces.{maskAgainst, isOdd, valueOf}
+use Rattle.face_masks.specs.Faces.{isOdd, valueOf}
+use Rattle.pierce.specs.Against.{maskAgainst}
 use Rattle.listing.specs.Hits.{Seen, Hit, solidHits, insideCount, lowestInside}
 use Rattle.listing.specs.First.{firstOf}
 use Rattle.listing.specs.Pour.{allIn, partIn}

@@ -7,15 +7,15 @@ use native.Mathlib.Omega.{arith}
 use borrow.Author.Tests.{not-true, leb-true, leb-false}
 use lib.Dec.{leb}
 use Rattle.laws.specs.Decides.{and-iff, differ-iff, fails-iff, decides}
-use Rattle.scene.specs.Faces.{Vertex}
+use Rattle.scene.specs.Faces.{Vertex, isCorner}
 use Rattle.scene.specs.View.{View, verts, points, faces, solid, solid-a, solid-b}
 use Rattle.scene.specs.declared.Solid.{Solid}
 use Rattle.judge.specs.Laws.{rule-ok, rule-rest}
 use Rattle.judge.specs.Tests.{within-iff}
 use Rattle.judge.specs.declared.Judged.the-variants.{Accepted}
 use Rattle.orient.specs.Signs.{Upto, Four}
-use Rattle.edges.specs.Edges.{isCorner}
-use Rattle.kernel.specs.Answers.{isPoint, isVertex, isFace, isVertexOf, arePoints, differ, signFault, clear, edgeAndFace, piercesFault, edgeAndSolid, outside, maskFault, otherSolid, enclosedFault}
+use Rattle.kernel.specs.Answers.{isPoint, isVertex, isFace, isVertexOf, arePoints, differ, signFault, clear, edgeAndFace}
+use Rattle.kernel.specs.Answers.{piercesFault, edgeAndSolid, outside, maskFault, otherSolid, enclosedFault}
 
 -- i is none of the solid's vertices
 abbrev pub NotOf : Solid → ℕ → Type 0

@@ -1,5 +1,5 @@
 -- Everything that is asked of a whole scene, in one answer. Assumes nothing.
-use mathlib.Core.Path.{_≡_, sym, ap, ap₂, _∙_}
+use mathlib.Core.Path.{_≡_, sym, ap, _∙_}
 use mathlib.Core.List.{List}
 use Prim.Native.Nat.{ℕ}
 use Rattle.scene.specs.View.{View, viewOf, solid}

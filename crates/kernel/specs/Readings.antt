@@ -1,5 +1,5 @@
 -- What is read off a survey is the scene's answer. Assumes nothing.
-use mathlib.Core.Path.{_≡_, refl, ap, _∙_}
+use mathlib.Core.Path.{_≡_, ap, _∙_}
 use mathlib.Core.Bool.{Bool, true, false}
 use mathlib.Core.List.{List}
 use Prim.Native.Nat.{ℕ, _+_, _*_, _≤_, _<_}
@@ -21,14 +21,14 @@ use Rattle.survey.specs.Survey.{Fits, pairsOf}
 use Rattle.survey.specs.Laws.{surveyed-pairs}
 use Rattle.survey.specs.Inside.{lowestOfWord, inside-ones, inside-lowest}
 use Rattle.survey.specs.declared.Survey.{Survey}
+use Rattle.survey.specs.declared.seek.Sought.{Sought}
 use Rattle.kernel.specs.Answers.{seen, listingIn, insideIn, countsIn, verdictIn}
 use Rattle.kernel.specs.Both.{counts-are, cross-is, none-cross, a-in-b, b-in-a, all-apart}
 use Rattle.kernel.specs.Facts.{Gathered, factsIn}
 use Rattle.kernel.specs.Listings.{lacksRoom, PouredIf, poured-none, poured-some, poured-held}
 use Rattle.kernel.specs.Ready.{sound}
-use Rattle.kernel.specs.Surveys.{SurveyIs}
+use Rattle.kernel.specs.Surveys.{SurveyIs, SoughtIs}
 use Rattle.kernel.specs.declared.counts.Counts.{Counts}
-use Rattle.kernel.specs.declared.facts.Facts.{Facts}
 use Rattle.kernel.specs.declared.verdict.Verdict.{Verdict}
 use Rattle.kernel.specs.declared.verdict.Verdict.the-variants.{Cross, AInB, BInA, Apart}
 
@@ -38,7 +38,8 @@ other-fits s ok k e = rw e (let h = sound s ok k .other .0 in omega arith)
 pub fits : {v : View} {ends-a masks-a ends-b masks-b : List ℕ} {t : Survey} → SurveyIs v ends-a masks-a ends-b masks-b t → Fits t
 fits x = (x .of-a .fits, x .of-b .fits)
 
-module _ (s : List ℕ) (ok : judged s ≡ Accepted) {ends-a masks-a ends-b masks-b : List ℕ} {t : Survey} (x : SurveyIs (viewOf s) ends-a masks-a ends-b masks-b t) where
+module _ (s : List ℕ) (ok : judged s ≡ Accepted) {ends-a masks-a ends-b masks-b : List ℕ} {t : Survey}
+    (x : SurveyIs (viewOf s) ends-a masks-a ends-b masks-b t) where
   abbrev v : View
   v = viewOf s
 
@@ -66,7 +67,12 @@ module _ (s : List ℕ) (ok : judged s ≡ Accepted) {ends-a masks-a ends-b mask
 
     -- with the listing in the lent list d, where that has room, and the verdict r
     pub gathered : {n : ℕ} {r : Verdict} (d : List ℕ) {d₁ : List ℕ} → PouredIf (listingIn v) 0 true d d₁ n → r ≡ verdictIn v →
-        Gathered v d d₁ (record { verdict = r; counts = record { pairs = n; «a_in_b» = p; «b_in_a» = q }; «a_inside» = t .a .inside; «b_inside» = t .b .inside })
+        Gathered v d d₁ (record {
+          verdict = r;
+          counts = record { pairs = n; «a_in_b» = p; «b_in_a» = q };
+          «a_inside» = t .a .inside;
+          «b_inside» = t .b .inside;
+        })
     unfolding factsIn
     gathered d h e =
         let c = counts-so (h .count) in
@@ -88,38 +94,40 @@ module _ (s : List ℕ) (ok : judged s ≡ Accepted) {ends-a masks-a ends-b mask
         {d₁ : List ℕ} {r : ℕ} → Pours both from 0 d d₁ r → PouredIf (listingIn v) from all d d₁ r
     some-read h from all d e f p = poured-some (listingIn v) from all d (pairs-are h) e f (pours-same listed p)
 
-    module _ {o : Found} (first : o ≡ firstOf both) where
-      first-is : o ≡ firstOf (listingIn v)
-      first-is = first ∙ ap firstOf listed
-
-      pub cross-read : {u w f : ℕ} → o ≡ Pair u w f → Cross u w f ≡ verdictIn v
-      cross-read = cross-is v first-is
-
-      module _ (none : o ≡ Nothing) {p : ℕ} (lowest-a : p ≡ lowestOfWord (t .a .inside) (a .low) (a .verts)) where
-        lowest-in-a : p ≡ lowestInside (seen v) (solid v 1)
-        lowest-in-a = (rw is-a at lowest-a) ∙ inside-lowest (seen v) (solid v 1) (x .of-a .inside) (omega (arith, sound s ok 1 .vertices .0))
-
-        verts-a : a .verts ≡ v .vertsA
-        unfolding solid
-        verts-a = ap (λ (o : Solid). o .verts) is-a
-
-        pub a-in-b-read : p ≤ a .verts → AInB p ≡ verdictIn v
-        a-in-b-read h = none-cross v first-is none (a-in-b v lowest-in-a verts-a h)
-
-        module _ (more : a .verts < p) {q : ℕ} (lowest-b : q ≡ lowestOfWord (t .b .inside) (b .low) (b .verts)) where
-          lowest-in-b : q ≡ lowestInside (seen v) (solid v 2)
-          lowest-in-b = (rw is-b at lowest-b) ∙ inside-lowest (seen v) (solid v 2) (x .of-b .inside) (omega (arith, sound s ok 2 .vertices .0))
-
-          verts-b : b .low + b .verts ≡ verts v
-          unfolding solid
-          verts-b = ap (λ (o : Solid). o .low + o .verts) is-b
-
-          pub b-in-a-read : q ≤ b .low + b .verts → BInA q ≡ verdictIn v
-          b-in-a-read h = none-cross v first-is none (b-in-a v lowest-in-a verts-a more lowest-in-b verts-b h)
-
-          pub apart-read : b .low + b .verts < q → Apart ≡ verdictIn v
-          apart-read h = none-cross v first-is none (all-apart v lowest-in-a verts-a more lowest-in-b verts-b h)
+    pub sought-read : {o : Found} → o ≡ firstOf both → SoughtIs v (record { first = o; a = t .a .inside; b = t .b .inside })
+    sought-read e = record { first = e ∙ ap firstOf listed; a-inside = λ n. x .of-a .inside; b-inside = λ n. x .of-b .inside }
 
   pub none-read : {n : ℕ} → Pairs n → (from : ℕ) (all : Bool) (d : List ℕ) {c : Bool} → c ≡ lacksRoom all n (length d) → c ≡ true →
       PouredIf (listingIn v) from all d d n
   none-read h from all d e f = poured-none (listingIn v) from all d (pairs-are h) e f
+
+-- ---- the verdict, by the first pair and the words
+
+module _ (s : List ℕ) (ok : judged s ≡ Accepted) {t : Sought} (h : SoughtIs (viewOf s) t) where
+  pub cross-told : {u w f : ℕ} → t .first ≡ Pair u w f → Cross u w f ≡ verdictIn (viewOf s)
+  cross-told = cross-is (viewOf s) (h .first)
+
+  module _ (none : t .first ≡ Nothing) {a : Solid} (is-a : a ≡ solid (viewOf s) 1) {p : ℕ} (lowest-a : p ≡ lowestOfWord (t .a) (a .low) (a .verts)) where
+    lowest-in-a : p ≡ lowestInside (seen (viewOf s)) (solid (viewOf s) 1)
+    lowest-in-a = (rw is-a at lowest-a) ∙ inside-lowest (seen (viewOf s)) (solid (viewOf s) 1) (h .a-inside none) (omega (arith, sound s ok 1 .vertices .0))
+
+    verts-a : a .verts ≡ viewOf s .vertsA
+    unfolding solid
+    verts-a = ap (λ (o : Solid). o .verts) is-a
+
+    pub a-in-b-told : p ≤ a .verts → AInB p ≡ verdictIn (viewOf s)
+    a-in-b-told l = none-cross (viewOf s) (h .first) none (a-in-b (viewOf s) lowest-in-a verts-a l)
+
+    module _ (more : a .verts < p) {b : Solid} (is-b : b ≡ solid (viewOf s) 2) {q : ℕ} (lowest-b : q ≡ lowestOfWord (t .b) (b .low) (b .verts)) where
+      lowest-in-b : q ≡ lowestInside (seen (viewOf s)) (solid (viewOf s) 2)
+      lowest-in-b = (rw is-b at lowest-b) ∙ inside-lowest (seen (viewOf s)) (solid (viewOf s) 2) (h .b-inside none) (omega (arith, sound s ok 2 .vertices .0))
+
+      verts-b : b .low + b .verts ≡ verts (viewOf s)
+      unfolding solid
+      verts-b = ap (λ (o : Solid). o .low + o .verts) is-b
+
+      pub b-in-a-told : q ≤ b .low + b .verts → BInA q ≡ verdictIn (viewOf s)
+      b-in-a-told l = none-cross (viewOf s) (h .first) none (b-in-a (viewOf s) lowest-in-a verts-a more lowest-in-b verts-b l)
+
+      pub apart-told : b .low + b .verts < q → Apart ≡ verdictIn (viewOf s)
+      apart-told l = none-cross (viewOf s) (h .first) none (all-apart (viewOf s) lowest-in-a verts-a more lowest-in-b verts-b l)

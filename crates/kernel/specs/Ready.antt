@@ -1,19 +1,20 @@
 -- An accepted scene, decoded into arrays, is ready for piercing; and what is found in the arrays is so of the scene. Assumes nothing.
-use mathlib.Core.Path.{_≡_, refl, ap, ap₂, _∙_}
-use mathlib.Core.Logic.{_≢_}
-use mathlib.Core.Bool.{Bool, true, false, _||_, true≢false}
+use mathlib.Core.Path.{_≡_, refl, sym, ap, ap₂, _∙_}
+use mathlib.Core.Logic.{_≢_, inl, inr}
+use mathlib.Core.Bool.{Bool, true, false}
 use mathlib.Core.List.{List}
 use Prim.Native.Nat.{ℕ, _+_, _*_, _≤_}
 use native.Mathlib.Omega.{arith}
-use borrow.Author.Tests.{eqb-false, leb-true, leb-false}
+use borrow.Author.Tests.{leb-true, leb-false}
 use lib.Count.{ones}
 use lib.Dec.{leb}
 use lib.IntN.{ℤ}
+use Rattle.laws.specs.Decides.{fails-iff}
 use Rattle.scene.specs.Limits.{limits, mostPoints}
 use Rattle.scene.specs.Records.{vertsA, facesA, verts, faces}
 use Rattle.scene.specs.Read.{points-are}
 use Rattle.scene.specs.Arrays.{rowIn, faceIn, AllWithin, FaceWithin, FacesWithin}
-use Rattle.scene.specs.Faces.{Vertex, FaceOf}
+use Rattle.scene.specs.Faces.{Vertex, FaceOf, corner-iff, isCorner}
 use Rattle.scene.specs.View.{View, viewOf, points, solid, solidA, solidB, either-solid}
 use Rattle.scene.specs.declared.Row.{Row}
 use Rattle.scene.specs.declared.Face.{Face}
@@ -25,9 +26,10 @@ use Rattle.orient.specs.Signs.{Upto, Four, ne-sym}
 use Rattle.orient.specs.Terms.{termsAt, positiveAt}
 use Rattle.orient.specs.Weighted.{Weighted, Asked}
 use Rattle.orient.specs.declared.Terms.{Terms}
-use Rattle.edges.specs.Edges.{isCorner, Corners}
+use Rattle.edges.specs.Edges.{Corners}
 use Rattle.pierce.specs.Beside.{Beside, BesideAll, beside}
-use Rattle.pierce.specs.Faces.{maskAgainst, isOdd}
+use Rattle.face_masks.specs.Faces.{isOdd}
+use Rattle.pierce.specs.Against.{maskAgainst}
 use Rattle.pierce.specs.Formula.{pierced}
 use Rattle.listing.specs.Hits.{Seen, seenIn, Sound}
 use Rattle.kernel.specs.Answers.{seen, maskIn, otherSolid, isEnclosed, faces-are}
@@ -35,15 +37,9 @@ use Rattle.kernel.specs.Asked.{NotOf, Ends, Outside}
 use Rattle.kernel.specs.declared.points.Signed.the-variants.{Sign}
 
 not-corner : {i : ℕ} {f : Face} → isCorner i f ≡ false → (i ≢ f .p) × (i ≢ f .q) × (i ≢ f .r)
-unfolding isCorner
 not-corner {i} {f} h =
-    let x = or-false _ _ h in
-    let y = or-false _ _ (x .1) in
-    (ne-sym (eqb-false (f .p) i (x .0)), ne-sym (eqb-false (f .q) i (y .0)), ne-sym (eqb-false (f .r) i (y .1)))
-  where
-    or-false : (a b : Bool) → (a || b) ≡ false → (a ≡ false) × (b ≡ false)
-    or-false true b e = absurd (true≢false e)
-    or-false false b e = (refl, e)
+    let n = fails-iff _ (corner-iff i f) .0 h in
+    (λ e. n (inl (sym e)), λ e. n (inr (inl (sym e))), λ e. n (inr (inr (sym e))))
 
 module _ (s : List ℕ) (ok : judged s ≡ Accepted) where
   abbrev v : View
@@ -190,9 +186,6 @@ module _ {s : List ℕ} {n : ℕ} {rows : List ℤ} {corners : List ℕ} (d : De
   seen-is = λ i. record { points = d .are-points i; row = d .are-rows i; face = d .are-faces i }
 
   module _ {o : Solid} (k : ℕ) (is-o : o ≡ solid (viewOf s) k) where
-    pub ready : judged s ≡ Accepted → Sound (seenIn n rows corners) o
-    ready ok = rw (seen-is, is-o) (sound s ok k)
-
     pub found : {A : Type 0} (f : Seen → Solid → A) {r : A} → r ≡ f (seenIn n rows corners) o → r ≡ f (seen (viewOf s)) (solid (viewOf s) k)
     found f p = p ∙ ap₂ f seen-is is-o
 

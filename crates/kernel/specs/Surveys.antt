@@ -2,7 +2,7 @@
 -- scene's own. Assumes nothing.
 use mathlib.Core.Path.{_≡_, _∙_}
 use mathlib.Core.List.{List}
-use Prim.Native.Nat.{ℕ, _+_}
+use Prim.Native.Nat.{ℕ}
 use native.Mathlib.Omega.{arith}
 use lib.Count.{ones}
 use lib.IntN.{ℤ}
@@ -15,12 +15,17 @@ use Rattle.judge.specs.declared.Judged.the-variants.{Accepted}
 use Rattle.rules.specs.Given.{counts, each-of-a, each-of-b, edges-of-a, edges-of-b}
 use Rattle.pierce.specs.Parity.{solid-by-edges}
 use Rattle.listing.specs.Hits.{seenIn, insideCount}
+use Rattle.listing.specs.First.{firstOf}
+use Rattle.listing.specs.declared.find.Found.the-variants.{Nothing}
 use Rattle.spread.specs.Ready.{Ready}
+use Rattle.spread.specs.Walk.{insideWord}
 use Rattle.survey.specs.Survey.{Surveyed}
 use Rattle.survey.specs.Inside.{inside-ones}
+use Rattle.survey.specs.Seek.{IsSought}
+use Rattle.survey.specs.declared.seek.Sought.{Sought}
 use Rattle.survey.specs.declared.Part.{Part}
 use Rattle.survey.specs.declared.Survey.{Survey}
-use Rattle.kernel.specs.Answers.{seen, insideIn}
+use Rattle.kernel.specs.Answers.{seen, listingIn, insideIn}
 use Rattle.kernel.specs.Ready.{sound-a, sound-b, Decoded, seen-is, found}
 
 module _ (s : List ℕ) (ok : judged s ≡ Accepted) where
@@ -66,7 +71,8 @@ pub record SurveyIs (v : View) (ends-a masks-a ends-b masks-b : List ℕ) (t : S
   pub of-a : Surveyed (seen v) (solid v 1) ends-a masks-a (t .a)
   pub of-b : Surveyed (seen v) (solid v 2) ends-b masks-b (t .b)
 
-pub survey-is : {s : List ℕ} {n : ℕ} {rows : List ℤ} {corners : List ℕ} (d : Decoded s n rows corners) {a b : Solid} → a ≡ solid (viewOf s) 1 → b ≡ solid (viewOf s) 2 →
+pub survey-is : {s : List ℕ} {n : ℕ} {rows : List ℤ} {corners : List ℕ} (d : Decoded s n rows corners) {a b : Solid} →
+    a ≡ solid (viewOf s) 1 → b ≡ solid (viewOf s) 2 →
     {ends-a masks-a ends-b masks-b : List ℕ} {t : Survey} → Surveyed (seenIn n rows corners) a ends-a masks-a (t .a) →
     Surveyed (seenIn n rows corners) b ends-b masks-b (t .b) → SurveyIs (viewOf s) ends-a masks-a ends-b masks-b t
 survey-is d ea eb p q = record { of-a = rw (seen-is d, ea) at p; of-b = rw (seen-is d, eb) at q }
@@ -76,3 +82,16 @@ pub inside-is : {s : List ℕ} {n : ℕ} {rows : List ℤ} {corners : List ℕ} 
     {ends masks : List ℕ} {p : Part} → Surveyed (seenIn n rows corners) o ends masks p → {c : ℕ} → c ≡ ones (p .inside) → c ≡ insideIn (viewOf s) k
 unfolding insideIn
 inside-is d k e t h = found d k e insideCount (h ∙ inside-ones _ _ (t .inside))
+
+-- ---- what a verdict asks: the first pair of the listing, and where there is none the words of enclosed vertices
+
+pub record SoughtIs (v : View) (t : Sought) : Type 0 where
+  pub first : t .first ≡ firstOf (listingIn v)
+  pub a-inside : t .first ≡ Nothing → t .a ≡ insideWord (seen v) (solid v 1)
+  pub b-inside : t .first ≡ Nothing → t .b ≡ insideWord (seen v) (solid v 2)
+
+pub sought-is : {s : List ℕ} {n : ℕ} {rows : List ℤ} {corners : List ℕ} (d : Decoded s n rows corners) {a b : Solid} →
+    a ≡ solid (viewOf s) 1 → b ≡ solid (viewOf s) 2 →
+    {t : Sought} → IsSought (seenIn n rows corners) a b t → SoughtIs (viewOf s) t
+unfolding listingIn
+sought-is d ea eb h = let g = rw (seen-is d, ea, eb) at h in record { first = g .first; a-inside = g .a-inside; b-inside = g .b-inside }

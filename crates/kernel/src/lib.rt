@@ -7,5 +7,5 @@ pub mod inside;
 pub mod lists;
 pub mod masks;
 pub mod points;
-mod surveys;
+pub mod surveys;
 pub mod verdict;

@@ -1,7 +1,7 @@
 // Questions about a solid: the faces that an edge pierces, and whether a vertex is enclosed.
 ghost use mathlib.Core.Path.{_≡_};
 ghost use Rattle.scene.specs.View.{viewOf};
-ghost use Rattle.pierce.specs.Faces.{valueOf};
+ghost use Rattle.face_masks.specs.Faces.{valueOf};
 ghost use Rattle.judge.specs.Judge.{judged};
 ghost use Rattle.judge.specs.declared.Judged.the-variants.{Accepted};
 ghost use Rattle.kernel.specs.Answers.{isVertexOf, edgeAndSolid, outside, maskFault, maskIn, saidMask, maskedOf, enclosedFault, otherSolid, enclosedOf};
@@ -9,9 +9,8 @@ ghost use Rattle.kernel.specs.Asked.{Outside};
 use crate::points::Answer;
 use crate::points::is_point;
 use engine::Engine;
+use face_masks::Mask;
 use judge::Judged;
-use pierce::faces;
-use pierce::faces::Mask;
 use scene::Refusal;
 use scene::decode;
 use scene::is_within;
@@ -92,7 +91,7 @@ pub fn mask(engine: Engine, s: &[u8], u: usize, v: usize, k: usize) -> Masked
         return Masked::Refused(r);
     }
     let m = mask_of(engine, s, u, v, k);
-    Masked::Faces(m, faces::ones(m))
+    Masked::Faces(m, face_masks::ones(m))
 }
 
 fn enclosed_fault(s: &[u8], i: usize) -> Judged
@@ -125,7 +124,7 @@ pub fn enclosed(engine: Engine, s: &[u8], i: usize) -> Answer
     if let Judged::Refused(r) = enclosed_fault(s, i) {
         return Answer::Refused(r);
     }
-    if faces::is_odd(mask_of(engine, s, i, points(s), other_solid(s, i))) {
+    if face_masks::is_odd(mask_of(engine, s, i, points(s), other_solid(s, i))) {
         return Answer::Yes;
     }
     Answer::No

@@ -6,7 +6,7 @@ ghost use Rattle.scene.specs.View.{viewOf};
 ghost use Rattle.survey.specs.Survey.{Sized};
 ghost use Rattle.kernel.specs.Answers.{verdictIn, listingIn};
 ghost use Rattle.kernel.specs.Listings.{lacksRoom, PouredIf};
-ghost use Rattle.kernel.specs.Surveys.{SurveyIs};
+ghost use Rattle.kernel.specs.Surveys.{SurveyIs, SoughtIs};
 use crate::verdict::Verdict;
 use engine::Engine;
 use listing::find::Found;
@@ -18,6 +18,8 @@ use survey::answers::count_pairs;
 use survey::answers::first_pair;
 use survey::answers::lowest_inside;
 use survey::answers::pour_pairs;
+use survey::seek::Sought;
+use survey::seek::seek;
 use survey::survey_scene;
 use table::Ends;
 use table::Masks;
@@ -54,7 +56,43 @@ pub fn survey_of(
     )
 }
 
-// The first pair, else what is enclosed.
+// What a verdict asks of it: nothing is asked behind the first pair.
+pub fn sought_of(engine: Engine, s: &[u8]) -> Sought
+    requires { ⌜ judged (now s) ≡ Accepted ⌝ }
+    ensures { λ r. ⌜ SoughtIs (viewOf (now (s .entry))) r ⌝ }
+{
+    let rows = decode::rows(s);
+    let corners = decode::faces(s);
+    let n = points(s);
+    let a = solid(s, 1);
+    let b = solid(s, 2);
+    seek(engine, &rows, &corners, n, a, b)
+}
+
+// By the first pair, and where there is none by the words of enclosed vertices.
+pub fn verdict_by(s: &[u8], t: Sought) -> Verdict
+    requires { ⌜ judged (now s) ≡ Accepted ⌝ }
+    requires { ⌜ SoughtIs (viewOf (now s)) t ⌝ }
+    ensures { λ r. ⌜ r ≡ verdictIn (viewOf (now (s .entry))) ⌝ }
+{
+    let x = t.first;
+    if let Found::Pair(u, v, f) = x {
+        return Verdict::Cross(u, v, f);
+    }
+    let a = solid(s, 1);
+    let b = solid(s, 2);
+    let p = lowest_inside(t.a, a.low, a.verts);
+    if p <= a.verts {
+        return Verdict::AInB(p);
+    }
+    let q = lowest_inside(t.b, b.low, b.verts);
+    if q <= b.low + b.verts {
+        return Verdict::BInA(q);
+    }
+    Verdict::Apart
+}
+
+// The same, off the tables.
 pub fn verdict_read(
     t: Survey,
     s: &[u8],
@@ -70,18 +108,14 @@ pub fn verdict_read(
     let a = solid(s, 1);
     let b = solid(s, 2);
     let x = first_pair(t, a.other, b.other, aends, amasks, bends, bmasks);
-    if let Found::Pair(u, v, f) = x {
-        return Verdict::Cross(u, v, f);
-    }
-    let p = lowest_inside(t.a.inside, a.low, a.verts);
-    if p <= a.verts {
-        return Verdict::AInB(p);
-    }
-    let q = lowest_inside(t.b.inside, b.low, b.verts);
-    if q <= b.low + b.verts {
-        return Verdict::BInA(q);
-    }
-    Verdict::Apart
+    verdict_by(
+        s,
+        Sought {
+            first: x,
+            a: t.a.inside,
+            b: t.b.inside,
+        },
+    )
 }
 
 // All of n pairs are asked for, and there are not three places for each.

@@ -3,6 +3,7 @@ pub mod Ring
 pub mod Size
 pub mod Bools
 pub mod Range
+pub mod None
 pub mod Tests
 pub mod Decides
 pub mod Even

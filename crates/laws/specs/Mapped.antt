@@ -1,21 +1,16 @@
--- A list mapped: what each, some or n of its entries are, and a list made from numbers (`run`) mapped or counted from another number on.
+-- A list mapped: what each or n of its entries are, and a list made from numbers (`run`) mapped or counted from another number on.
 -- Assumes nothing.
 use mathlib.Core.Path.{_≡_, refl, ap, ap₂, _∙_}
-use mathlib.Core.Logic.{_↔_, inl, inr}
+use mathlib.Core.Logic.{_↔_}
 use mathlib.Core.List.{List, [], _∷_, map}
 use Prim.Native.Nat.{ℕ, zero, suc, _+_, _<_}
 use native.Mathlib.Omega.{arith}
-use Rattle.laws.specs.Lists.{Each, Some, Number, none, one-more, not-this, run}
+use Rattle.laws.specs.Lists.{Each, Number, none, one-more, not-this, run}
 
 module _ {A B : Type 0} (P : A → Type 0) (Q : B → Type 0) (f : A → B) where
   pub each-mapped : ((x : A) → P x → Q (f x)) → (xs : List A) → Each P xs → Each Q (map f xs)
   each-mapped m [] h = tt
   each-mapped m (x ∷ xs) h = (m x (h .0), each-mapped m xs (h .1))
-
-  pub some-mapped : ((x : A) → P x → Q (f x)) → (xs : List A) → Some P xs → Some Q (map f xs)
-  some-mapped m [] h = h
-  some-mapped m (x ∷ xs) (inl h) = inl (m x h)
-  some-mapped m (x ∷ xs) (inr h) = inr (some-mapped m xs h)
 
   pub number-mapped : ((x : A) → P x ↔ Q (f x)) → {xs : List A} {n : ℕ} → Number P xs n → Number Q (map f xs) n
   number-mapped m none = none

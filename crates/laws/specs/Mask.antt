@@ -29,6 +29,10 @@ pub digit-lt : (c : Bool) → digit c < 2 ^ 1
 digit-lt true = lit< tt
 digit-lt false = lit< tt
 
+pub digit-one : (c : Bool) → eqb (digit c) 1 ≡ c
+digit-one true = refl
+digit-one false = refl
+
 pub mask-lt : (g : ℕ → Bool) (n : ℕ) → maskOf g n < 2 ^ n
 unfolding maskOf
 mask-lt g zero = lit< tt
@@ -55,7 +59,8 @@ unfolding maskOf
 mask-low zero g = omega arith
 mask-low (suc n) g =
     let e = mask-low n g in
-    let p : digit (g (suc n)) * 2 ^ suc n ≡ digit (g (suc n)) * 2 ^ n * 2 = ap (λ (x : ℕ). digit (g (suc n)) * x) (pow-suc 2 n) ∙ sym (mul-assoc (digit (g (suc n))) (2 ^ n) 2) in
+    let p : digit (g (suc n)) * 2 ^ suc n ≡ digit (g (suc n)) * 2 ^ n * 2 =
+    ap (λ (x : ℕ). digit (g (suc n)) * x) (pow-suc 2 n) ∙ sym (mul-assoc (digit (g (suc n))) (2 ^ n) 2) in
     omega (arith, e, p)
 
 ones-more : (b : Bool) (m : ℕ) → ones (digit b + 2 * m) ≡ more b (ones m)
@@ -129,13 +134,6 @@ module _ (g : ℕ → Bool) (n k : ℕ) {w : ℕ} (here : k < n) (left : w ≡ m
   bit-test =
       let e : w % 2 ≡ digit (g k) = omega (arith, lowest-first, digit-lt (g k)) in
       ap (λ (r : ℕ). eqb r 1) e ∙ digit-one (g k)
-    where
-      digit-one : (b : Bool) → eqb (digit b) 1 ≡ b
-      digit-one true = refl
-      digit-one false = refl
-
-  pub bits-left : w / 2 ≡ maskOf (λ j. g (k + 1 + j)) (n - (k + 1))
-  bits-left = omega (arith, lowest-first, digit-lt (g k))
 
 -- ---- joined, and one bit alone
 
@@ -249,7 +247,8 @@ test-low n a b k h = ap (λ (r : ℕ). eqb r 1) low
 
     low : (a + 2 ^ n * b) / 2 ^ k % 2 ≡ a / 2 ^ k % 2
     low =
-        let e : (a + 2 ^ n * b) / 2 ^ k ≡ a / 2 ^ k + 2 * (2 ^ j * b) = ap (λ (x : ℕ). (a + x) / 2 ^ k) apart ∙ add-mul-div-left a (2 * (2 ^ j * b)) (pow-pos k) in
+        let e : (a + 2 ^ n * b) / 2 ^ k ≡ a / 2 ^ k + 2 * (2 ^ j * b) =
+        ap (λ (x : ℕ). (a + x) / 2 ^ k) apart ∙ add-mul-div-left a (2 * (2 ^ j * b)) (pow-pos k) in
         omega (arith, e)
 
 pub test-high : (n a b k : ℕ) → a < 2 ^ n → n ≤ k → testBit (a + 2 ^ n * b) k ≡ testBit b (k - n)

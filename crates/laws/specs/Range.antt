@@ -4,7 +4,7 @@
 use Prim.Native.Nat.{ℕ, zero, suc, _+_, _-_, _<_, _≤_}
 use mathlib.Core.Path.{_≡_, refl, sym, ap, _∙_}
 use mathlib.Core.Logic.{_≢_}
-use mathlib.Core.Bool.{Bool, true, false, cond, true≢false, _||_}
+use mathlib.Core.Bool.{Bool, true, false, cond, true≢false, _||_, or-false}
 use native.Mathlib.Omega.{arith}
 use borrow.Author.Needs.{needs}
 
@@ -75,11 +75,9 @@ module _ (f : ℕ → Bool) (i e : ℕ) {w : Bool} (inv : anyOf f i e ≡ w) whe
 
 any-last : (p : ℕ → Bool) (a n : ℕ) → fold (λ k rest. p k || rest) false a (suc n) ≡ (fold (λ k rest. p k || rest) false a n || p (a + n))
 any-last p a zero = or-false (p a) ∙ ap p (omega arith)
-  where
-    or-false : (b : Bool) → (b || false) ≡ b
-    or-false true = refl
-    or-false false = refl
-any-last p a (suc n) = ap (λ (b : Bool). p a || b) (any-last p (suc a) n ∙ ap (λ (k : ℕ). fold (λ k rest. p k || rest) false (suc a) n || p k) (omega arith)) ∙ regroup (p a) _ _
+any-last p a (suc n) =
+    ap (λ (b : Bool). p a || b) (any-last p (suc a) n ∙ ap (λ (k : ℕ). fold (λ k rest. p k || rest) false (suc a) n || p k) (omega arith))
+    ∙ regroup (p a) _ _
   where
     regroup : (a b c : Bool) → (a || (b || c)) ≡ ((a || b) || c)
     regroup true b c = refl

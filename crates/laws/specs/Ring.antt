@@ -130,7 +130,8 @@ module _ (x : ℕ → ℤ) where
       ap (λ z. x v *ℤ val p +ℤ z) (addC-is c q) ∙ sym (+ℤ-assoc (x v *ℤ val p) c (val q))
       ∙ ap (λ z. z +ℤ val q) (+ℤ-comm (x v *ℤ val p) c) ∙ +ℤ-assoc c (x v *ℤ val p) (val q)
 
-  addN-is : (v : ℕ) (p q : Poly) (fp fq : Poly → Poly) → ((r : Poly) → val (fp r) ≡ val p +ℤ val r) → ((r : Poly) → val (fq r) ≡ val q +ℤ val r) → (r : Poly) → val (addN v p q fp fq r) ≡ (x v *ℤ val p +ℤ val q) +ℤ val r
+  addN-is : (v : ℕ) (p q : Poly) (fp fq : Poly → Poly) → ((r : Poly) → val (fp r) ≡ val p +ℤ val r) →
+      ((r : Poly) → val (fq r) ≡ val q +ℤ val r) → (r : Poly) → val (addN v p q fp fq r) ≡ (x v *ℤ val p +ℤ val q) +ℤ val r
   addN-is v p q fp fq hp hq (con d) = ap (λ z. x v *ℤ val p +ℤ z) (hq (con d)) ∙ sym (+ℤ-assoc (x v *ℤ val p) (val q) d)
   addN-is v p q fp fq hp hq (node w r s) =
       pick-is v w (compare v w) (eqb→eq v w)

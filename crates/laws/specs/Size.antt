@@ -5,7 +5,7 @@ use mathlib.Core.Bool.{Bool, true, false, cond}
 use Prim.Native.Nat.{ℕ, zero, suc, _+_, _-_, _*_, _^_, _≤_, _<_}
 use native.Mathlib.Nat.{le-refl, le-trans, lt-of-le-of-lt, add-le-add, mul-le-mul}
 use native.Mathlib.Omega.{arith}
-use lib.Dec.{T, ltb, ltb→lt, lit<}
+use lib.Dec.{T, ltb, ltb→lt}
 use lib.IntN.{ℤ, pos, negsuc, negℤ, natAbs, subℕ, _+ℤ_, _-ℤ_, _*ℤ_}
 use lib.Signed.{mag}
 use mir.Syntax.{w64}
@@ -111,10 +111,6 @@ reads p h = toZ-ofZ {w = w64} (fits64 p h)
 
 pub again : {N : ℕ} {z : ℤ} → Small N z → N < 2 ^ 63 → Small N (reread z)
 again {N} p h = subst (Small N) (sym (reads p h)) p
-
--- so small that a product of two, and a few of them, fit
-abbrev pub Half : ℤ → Type 0
-Half z = Small (2 ^ 30) z
 
 -- a call's result, handed on: its range is the call's `.ok`
 pub called : {r z : ℤ} → mag r < 2 ^ 63 → r ≡ z → reread r ≡ z

@@ -47,7 +47,7 @@ and-even w h e =
     let low : (w - 1) % 2 ≡ 1 = omega arith in
     and-step w (w - 1) ∙ rw (e, half, low) (omega arith)
 
-two-cases : (w : ℕ) → (w % 2 ≡ 1) ⊎ (w % 2 ≡ 0)
+pub two-cases : (w : ℕ) → (w % 2 ≡ 1) ⊎ (w % 2 ≡ 0)
 two-cases w = bit-cases (w % 2) (mod-lt w (zero-lt-suc 1))
   where
     bit-cases : (r : ℕ) → r < 2 → (r ≡ 1) ⊎ (r ≡ 0)

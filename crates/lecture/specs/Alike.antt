@@ -18,7 +18,8 @@ use Rattle.edges.specs.Edges.{joined}
 use Rattle.scene.specs.declared.Solid.{Solid}
 use Rattle.pierce.specs.Formula.{pierced}
 use Rattle.pierce.specs.Beside.{Beside, beside}
-use Rattle.pierce.specs.Faces.{maskAgainst, isOdd}
+use Rattle.face_masks.specs.Faces.{isOdd}
+use Rattle.pierce.specs.Against.{maskAgainst}
 use Rattle.listing.specs.Hits.{Seen, Hit, upTo, faceHits, edgeHits, pairHits, pairsAt, vertexHits, solidHits, isInside, insideCount, lowestInside}
 use Rattle.listing.specs.Laws.{upTo-same}
 

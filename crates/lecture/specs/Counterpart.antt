@@ -9,14 +9,15 @@ use native.Mathlib.Decide.{ℕ-discrete}
 use native.Mathlib.Omega.{arith}
 use lib.Dec.{eqb}
 use borrow.Author.Tests.{eq-eqb, ne-eqb}
-use Rattle.scene.specs.Faces.{FaceOf}
+use Rattle.scene.specs.Faces.{FaceOf, isCorner, hasBoth}
 use Rattle.scene.specs.declared.Face.{Face}
 use Rattle.scene.specs.declared.Solid.{Solid}
 use Rattle.orient.specs.Signs.{Upto}
 use Rattle.orient.specs.Weighted.{Weighted}
-use Rattle.edges.specs.Edges.{isCorner, hasBoth, joined}
+use Rattle.edges.specs.Edges.{joined}
 use Rattle.pierce.specs.Beside.{Beside, beside}
-use Rattle.pierce.specs.Faces.{maskAgainst, isOdd}
+use Rattle.face_masks.specs.Faces.{isOdd}
+use Rattle.pierce.specs.Against.{maskAgainst}
 use Rattle.pierce.specs.Formula.{pierced}
 use Rattle.listing.specs.Hits.{Seen, Hit, solidHits, isInside, insideCount, lowestInside}
 use Rattle.lecture.specs.Alike.{Clear}

@@ -1,21 +1,20 @@
 -- The image that is written is an accepted scene: the scene's bytes with each row times the table. So no rule is broken by an image that passed 5 and
 -- 6, and 14 never occurs. Assumes nothing.
-use mathlib.Core.Path.{_≡_, refl, sym, ap, subst, _∙_}
-use mathlib.Core.Logic.{_≢_, _⊎_, inl, inr}
+use mathlib.Core.Path.{_≡_, refl, sym, ap, _∙_}
+use mathlib.Core.Logic.{_⊎_, inl, inr}
 use mathlib.Core.List.{List}
-use Prim.Native.Nat.{ℕ, zero, suc, _+_, _*_, _≤_, _<_}
+use Prim.Native.Nat.{ℕ, zero, suc, _+_, _≤_, _<_}
 use native.Mathlib.Decide.{decLt, ℕ-discrete}
 use native.Mathlib.Omega.{arith}
-use lib.IntN.{pos}
 use lib.ListN.{length}
 use Rattle.laws.specs.Filled.{filled}
 use Rattle.scene.specs.Limits.{limits, leastWeight}
 use Rattle.scene.specs.Bytes.{byteAt}
-use Rattle.scene.specs.Records.{vertsA, vertsB, verts, pointStart}
+use Rattle.scene.specs.Records.{verts, pointStart}
 use Rattle.scene.specs.Tables.{tablesOf, row, rowAt}
 use Rattle.scene.specs.Read.{row-is, far-is}
 use Rattle.scene.specs.Write.{RowFits, rowPut}
-use Rattle.scene.specs.Written.{row-length, row-below, row-above, row-back}
+use Rattle.scene.specs.Written.{row-below, row-above, row-back}
 use Rattle.scene.specs.declared.Row.{Row}
 use Rattle.judge.specs.Judge.{judged}
 use Rattle.judge.specs.declared.Judged.the-variants.{Accepted}
@@ -23,6 +22,7 @@ use Rattle.rules.specs.TableRules.{RowOk}
 use Rattle.rules.specs.Accepted.{accepted}
 use Rattle.rules.specs.Bridge.{by-tables}
 use Rattle.rules.specs.Frame.{Same, row-frame}
+use Rattle.rules.specs.Rerowed.{Rerowed, still-accepted}
 use Rattle.orient.specs.Signs.{Upto}
 use Rattle.maps.specs.declared.Map.{Map}
 use Rattle.maps.specs.Mapped.{mapped, determinantOf}
@@ -31,7 +31,7 @@ use Rattle.maps.specs.Filling.{filled-length}
 use Rattle.maps.specs.Ready.{point-room, rows-in, row-fits}
 use Rattle.maps.specs.Faults.{Passed, regular-is}
 use Rattle.lecture.specs.Lecture.{MappedBy}
-use Rattle.lecture.specs.Rerowed.{Rerowed, same-shape, still-accepted}
+use Rattle.lecture.specs.Rerowed.{same-shape}
 use Rattle.lecture.specs.Somewhere.{image-somewhere}
 
 -- ---- rows stored one after another: what stands elsewhere stays, and each is read back

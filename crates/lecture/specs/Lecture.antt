@@ -15,7 +15,7 @@ use Rattle.judge.specs.declared.Judged.the-variants.{Accepted}
 use Rattle.scene.specs.declared.Solid.{Solid}
 use Rattle.orient.specs.Signs.{Upto, Four}
 use Rattle.orient.specs.Terms.{positiveAt}
-use Rattle.pierce.specs.Faces.{maskAgainst}
+use Rattle.pierce.specs.Against.{maskAgainst}
 use Rattle.listing.specs.Hits.{Seen, Hit, solidHits, insideCount, lowestInside}
 use Rattle.kernel.specs.Answers.{verdictOf, countedOf}
 use Rattle.maps.specs.declared.Map.{Map}

@@ -20,7 +20,8 @@ use Rattle.rules.specs.Given.{counts, face-of-a, face-of-b}
 use Rattle.orient.specs.Signs.{Upto}
 use Rattle.orient.specs.Weighted.{Weighted}
 use Rattle.pierce.specs.Beside.{Beside, beside}
-use Rattle.pierce.specs.Faces.{maskAgainst, isOdd}
+use Rattle.face_masks.specs.Faces.{isOdd}
+use Rattle.pierce.specs.Against.{maskAgainst}
 use Rattle.pierce.specs.Formula.{pierced}
 use Rattle.listing.specs.Hits.{Hit, isInside, insideCount}
 use Rattle.kernel.specs.Answers.{answered, countsIn, countedOf, insideIn, listingIn, verdictNumber, verdictOf}

@@ -16,7 +16,7 @@ use Rattle.orient.specs.Rules.{rules}
 use Rattle.orient.specs.Terms.{c0, isPlus, pointAt, positiveAt}
 use Rattle.orient.specs.Weighted.{Weighted}
 use Rattle.pierce.specs.Beside.{Beside}
-use Rattle.pierce.specs.Faces.{maskAgainst}
+use Rattle.pierce.specs.Against.{maskAgainst}
 use Rattle.pierce.specs.Five.{hits, hitsFace, by-five}
 use Rattle.pierce.specs.Formula.{pierced}
 use Rattle.clean.specs.Clean.{Clean, c0-rows}

@@ -1,8 +1,7 @@
 -- Rows of nonzero weight multiplied by positive whole numbers: the shift scales with the weight, so each of the four terms takes the same positive
 -- factor, and no sign changes, ties included. Assumes nothing.
-use mathlib.Core.Path.{_≡_, refl, sym, ap, _∙_}
+use mathlib.Core.Path.{_≡_, sym, ap, _∙_}
 use mathlib.Core.Logic.{_≢_}
-use mathlib.Core.Bool.{Bool}
 use mathlib.Core.List.{[], _∷_}
 use Prim.Native.Nat.{ℕ, zero, suc, _+_, _*_, _≤_}
 use native.Mathlib.Nat.{mul-le-mul}
@@ -11,7 +10,7 @@ use lib.IntN.{ℤ, pos, negsuc, _+ℤ_, _-ℤ_, _*ℤ_, *ℤ-zero, ℤ-discrete}
 use Rattle.laws.specs.Integers.{1-*ℤ}
 use Rattle.laws.specs.Ring.{Expr, ring}
 use Rattle.laws.specs.Ring.Expr.{var, _⊗_}
-use Rattle.laws.specs.Sign.{Sign, sign, _or_}
+use Rattle.laws.specs.Sign.{sign, _or_}
 use Rattle.scene.specs.declared.Row.{Row}
 use Rattle.orient.specs.Alternating.{nonzero-mul}
 use Rattle.orient.specs.Laws.{factor-weight}
@@ -23,10 +22,9 @@ times k r = record { x = pos k *ℤ r .x; y = pos k *ℤ r .y; z = pos k *ℤ r 
 
 -- ---- a point with its shift
 
-module _ {R : Type 0} (_*_ : R → R → R) where
-  infixl 7 _*_
-  abbrev multiple : R → Numbered R → Numbered R
-  multiple k p = record { x = k * p .x; y = k * p .y; z = k * p .z; w = k * p .w; k = k * p .k; i = p .i }
+abbrev multiple : {R : Type 0} → (R → R → R) → R → Numbered R → Numbered R
+multiple product k p =
+    record { x = product k (p .x); y = product k (p .y); z = product k (p .z); w = product k (p .w); k = product k (p .k); i = p .i }
 
 -- a row may be multiplied by k: k is positive, and 1 where the weight is 0
 pub record Factor (k : ℕ) (w : ℤ) : Type 0 where
@@ -61,7 +59,7 @@ module _ (row : ℕ → Row) (a b c d i j k l : ℕ) where
 
   abbrev multiples : Powers ℤ
   multiples =
-      powers (pos 0) (pos 1) _+ℤ_ _-ℤ_ _*ℤ_ (multiple _*ℤ_ (pos i) (numbered (pointAt row a))) (multiple _*ℤ_ (pos j) (numbered (pointAt row b)))
+      powers (pos 0) _+ℤ_ _-ℤ_ _*ℤ_ (multiple _*ℤ_ (pos i) (numbered (pointAt row a))) (multiple _*ℤ_ (pos j) (numbered (pointAt row b)))
       (multiple _*ℤ_ (pos k) (numbered (pointAt row c)))
       (multiple _*ℤ_ (pos l) (numbered (pointAt row d)))
 
@@ -122,7 +120,7 @@ module _ (row row′ : ℕ → Row) (a b c d i j k l : ℕ)
 
   terms-scaled : terms (pointAt row′ a) (pointAt row′ b) (pointAt row′ c) (pointAt row′ d) ≡ multiples row a b c d i j k l
   unfolding terms
-  terms-scaled = λ n. powers (pos 0) (pos 1) _+ℤ_ _-ℤ_ _*ℤ_ (scaled-point a i ha n) (scaled-point b j hb n) (scaled-point c k hc n) (scaled-point d l hd n)
+  terms-scaled = λ n. powers (pos 0) _+ℤ_ _-ℤ_ _*ℤ_ (scaled-point a i ha n) (scaled-point b j hb n) (scaled-point c k hc n) (scaled-point d l hd n)
 
   some : 1 ≤ i * j * k * l
   some = mul-le-mul (mul-le-mul (mul-le-mul (ha .0 .positive) (hb .0 .positive)) (hc .0 .positive)) (hd .0 .positive)

@@ -1,6 +1,6 @@
 -- Two accepted scenes of one shape, whose rows differ, but with which the same edges pierce the same faces: they have the same answers.
 -- Assumes nothing.
-use mathlib.Core.Path.{_≡_, refl, sym, ap, ap₂, _∙_}
+use mathlib.Core.Path.{_≡_, sym, ap, ap₂, _∙_}
 use mathlib.Core.Logic.{_≢_}
 use mathlib.Core.Bool.{cond}
 use mathlib.Core.List.{List, _++_}
@@ -10,15 +10,13 @@ use lib.Dec.{leb}
 use lib.ListN.{length}
 use Rattle.scene.specs.Faces.{FaceOf}
 use Rattle.scene.specs.Limits.{limits}
-use Rattle.scene.specs.Records.{vertsA, vertsB, facesA, facesB, verts}
+use Rattle.scene.specs.Records.{vertsA, facesA, facesB, verts}
 use Rattle.scene.specs.Tables.{tablesOf, row, face}
-use Rattle.scene.specs.declared.Row.{Row}
 use Rattle.judge.specs.Judge.{judged}
 use Rattle.judge.specs.declared.Judged.the-variants.{Accepted}
 use Rattle.rules.specs.Given.{counts, face-of-a, face-of-b}
-use Rattle.scene.specs.declared.Solid.{Solid}
-use Rattle.pierce.specs.Faces.{maskAgainst}
-use Rattle.listing.specs.Hits.{Seen, Hit, solidHits, insideCount, lowestInside}
+use Rattle.pierce.specs.Against.{maskAgainst}
+use Rattle.listing.specs.Hits.{Hit, solidHits, insideCount, lowestInside}
 use Rattle.listing.specs.First.{firstOf}
 use Rattle.scene.specs.View.{solid}
 use Rattle.kernel.specs.Answers.{answered, countsIn, countedOf, crossOr, enclosureIn, verdictIn, verdictOf, listingIn, insideIn}

@@ -8,11 +8,12 @@ use lib.IntN.{pos}
 use Rattle.laws.specs.Mask.{maskOf}
 use Rattle.scene.specs.Tables.{Table}
 use Rattle.scene.specs.View.{solid}
+use Rattle.scene.specs.Faces.{isCorner, hasBoth}
 use Rattle.judge.specs.Judge.{judged}
 use Rattle.judge.specs.declared.Judged.the-variants.{Accepted}
 use Rattle.rules.specs.Write.{bytesOf}
-use Rattle.edges.specs.Edges.{isCorner, hasBoth, joined}
-use Rattle.pierce.specs.Faces.{isOdd}
+use Rattle.edges.specs.Edges.{joined}
+use Rattle.face_masks.specs.Faces.{isOdd}
 use Rattle.listing.specs.First.{firstOf}
 use Rattle.listing.specs.Hits.{upTo, faceHits, edgeHits, pairHits, vertexHits, solidHits, isInside, lowestInside}
 use Rattle.kernel.specs.Answers.{answered, enclosureIn, verdictIn, verdictOf, listingIn}

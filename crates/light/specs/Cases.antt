@@ -2,7 +2,7 @@
 use mathlib.Core.Path.{_≡_, refl, sym, _∙_, ap}
 use mathlib.Core.Bool.{Bool, true, false, not, cond, _||_}
 use mathlib.Core.List.{List}
-use Prim.Native.Nat.{ℕ, _≤_, _<_}
+use Prim.Native.Nat.{ℕ, _<_}
 use native.Mathlib.Omega.{arith}
 use lib.Dec.{eqb, leb}
 use lib.ListN.{length}
@@ -43,7 +43,8 @@ colour-lt (verdict.BInA p) = omega arith
 colour-lt verdict.Apart = omega arith
 colour-lt (verdict.Refused r) = omega arith
 
-pub counts-one : (s l : List ℕ) {b : Bool} {r : Light} {k : ℕ} → b ≡ isFull l → b ≡ false → r ≡ colourOf (verdictOf s) → k ≡ lightNumber r → (length l ≡ 16) × (k < 4)
+pub counts-one : (s l : List ℕ) {b : Bool} {r : Light} {k : ℕ} → b ≡ isFull l → b ≡ false → r ≡ colourOf (verdictOf s) → k ≡ lightNumber r →
+    (length l ≡ 16) × (k < 4)
 counts-one s l e p q n = (sixteen l e p, rw (n, q) (colour-lt (verdictOf s)))
 
 module _ (s l : List ℕ) {b : Bool} (e : b ≡ isFull l) where

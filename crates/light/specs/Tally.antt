@@ -11,11 +11,11 @@ use lib.Dec.{T, eqb, leb, ltb, eqb→eq, ltb→lt, nltb→le, T-not}
 use lib.ListN.{length}
 use borrow.Author.Tests.{eq-eqb, ne-eqb, le-leb, lt-leb, leb-true, leb-false}
 use Rattle.kernel.specs.Answers.{verdictOf}
-use Rattle.light.specs.Light.{lightNumber, colourOf, word, put, countOf, more, total, isFull, lightOf, leftOf, IsLight}
+use Rattle.light.specs.Light.{lightNumber, colourOf, countOf, more, total, isFull, lightOf, leftOf, IsLight}
 use Rattle.light.specs.Cases.{colour-lt}
 use Rattle.light.specs.Words.{put-length, word-put, word-other}
 use Rattle.light.specs.declared.Light.{Light}
-use Rattle.light.specs.declared.Light.the-variants.{Green, Amber, Red, Dark, Uncounted}
+use Rattle.light.specs.declared.Light.the-variants.{Uncounted}
 
 -- ---- one more of a colour
 
@@ -144,7 +144,8 @@ pub tallied : (k : ℕ) → k < 4 → (ss : List (List ℕ)) (l : List ℕ) → 
 tallied k h [] l e = sym (add-zero (countOf l k))
 tallied k h (s ∷ ss) l e =
     let p = step s l e k h in
-    tallied k h ss (leftOf s l) (p .1) ∙ ap (λ (n : ℕ). n + times k ss (leftOf s l)) (p .0) ∙ add-assoc (countOf l k) (one k (lightOf s l)) (times k ss (leftOf s l))
+    tallied k h ss (leftOf s l) (p .1) ∙ ap (λ (n : ℕ). n + times k ss (leftOf s l)) (p .0)
+    ∙ add-assoc (countOf l k) (one k (lightOf s l)) (times k ss (leftOf s l))
 
 after-length : (ss : List (List ℕ)) (l : List ℕ) → length l ≡ 16 → length (after ss l) ≡ 16
 after-length [] l e = e
@@ -198,7 +199,8 @@ first-million ss s h =
     let t = each-counted ss zeros refl (omega arith) in
     open-light s (after ss zeros) (open-at (after ss zeros) (after-length ss zeros refl) (omega arith))
 
-pub then-none : (ss : List (List ℕ)) (s : List ℕ) → 1000000 ≤ length ss → (lightOf s (after ss zeros) ≡ Uncounted) × (leftOf s (after ss zeros) ≡ after ss zeros)
+pub then-none : (ss : List (List ℕ)) (s : List ℕ) → 1000000 ≤ length ss →
+    (lightOf s (after ss zeros) ≡ Uncounted) × (leftOf s (after ss zeros) ≡ after ss zeros)
 then-none ss s h =
     let t = filled ss zeros refl (omega arith) (omega arith) in
     let f = full-at (after ss zeros) (after-length ss zeros refl) (omega arith) in

@@ -7,22 +7,23 @@ const NAME: usize = 64;
 
 const LINE: usize = NAME + 64;
 
-fn write_judged(name: &[u8], s: &[u8]) {
+// Whether it was written.
+fn write_judged(name: &[u8], s: &[u8]) -> bool {
     let mut out = [0u8; LINE];
     let j = judge::judge(s);
     let p = word(&mut out, 0, name);
     let q = word(&mut out, p, b": ");
     let end = lines::judged(&mut out, q, j);
-    io::write_all(STDOUT_FILENO, &out[..end]);
+    io::write_all(STDOUT_FILENO, &out[..end])
 }
 
-fn write_scene(name: &[u8]) {
+fn write_scene(name: &[u8]) -> bool {
     let mut s = io::large_buffer();
     let len = entries::next(&mut s).len;
-    write_judged(name, &s[..len]);
+    write_judged(name, &s[..len])
 }
 
-// Whether there was one more.
+// Whether there was one more, and its line was written.
 fn write_next() -> bool {
     let mut name = [0u8; NAME];
     let e = entries::next(&mut name);
@@ -30,8 +31,7 @@ fn write_next() -> bool {
         return false;
     }
     let len = e.len;
-    write_scene(&name[..len]);
-    true
+    write_scene(&name[..len])
 }
 
 fn main() {

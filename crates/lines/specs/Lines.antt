@@ -10,7 +10,6 @@ use Rattle.scene.specs.declared.Scene.{Scene}
 use Rattle.judge.specs.declared.Judged.{Judged}
 use Rattle.judge.specs.declared.Judged.the-variants as judged
 use Rattle.orient.specs.declared.Terms.{Terms}
-use Rattle.pierce.specs.declared.faces.Mask.{Mask}
 use Rattle.kernel.specs.declared.points.Signed.{Signed}
 use Rattle.kernel.specs.declared.points.Signed.the-variants as sign
 use Rattle.kernel.specs.declared.points.Answer.{Answer}

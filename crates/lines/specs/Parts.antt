@@ -1,11 +1,10 @@
 -- A long run of rows is rendered part by part, each from the row behind the last part's. The parts end to end are the text of all the rows.
 -- Assumes nothing.
-use Prim.Native.Nat.{ℕ, zero, suc, _+_, _-_, _≤_, _<_, min}
+use Prim.Native.Nat.{ℕ, _+_, _-_, _≤_}
 use mathlib.Core.Path.{_≡_, refl, sym, ap, ap₂, _∙_}
 use mathlib.Core.Bool.{Bool, true, false, cond}
-use mathlib.Core.List.{List, [], _∷_, _++_, append-assoc}
+use mathlib.Core.List.{List, [], _∷_, _++_}
 use native.Mathlib.Omega.{arith}
-use borrow.Author.Tests.{le-leb}
 use lib.Dec.{leb}
 use lib.ListN.{length, take, drop, take-append-drop, length-take, drop-of-length-le}
 use lib.Seq.{take-take, drop-drop}

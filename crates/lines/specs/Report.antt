@@ -1,24 +1,35 @@
 -- The text of a report, on what the kernel answers; what its head and the parts of its listing are made of; and that it reads back.
 -- Assumes nothing.
-use Prim.Native.Nat.{ℕ, zero, suc, _+_, _-_, _*_, _/_, _≤_, _<_, min}
+use Prim.Native.Nat.{ℕ, zero, suc, _+_, _-_, _*_, _/_, min}
 use mathlib.Core.Path.{_≡_, refl, sym, ap, ap₂, _∙_, subst}
+use mathlib.Core.Bool.{false}
 use mathlib.Core.List.{List, [], _∷_, _++_, map, append-nil}
 use native.Mathlib.Omega.{arith}
+use lib.Count.{ones}
 use lib.ListN.{length, take, drop, getD, length-append, length-take, length-drop}
 use lib.Seq.{take-nil, drop-nil}
 use Rattle.laws.specs.Lists.{run, run-same}
 use Rattle.scene.specs.Records.{countsOf}
 use Rattle.scene.specs.declared.Refusal.{Refusal}
+use Rattle.scene.specs.declared.Scene.{Scene}
 use Rattle.judge.specs.Judge.{judged}
 use Rattle.judge.specs.declared.Judged.{Judged}
 use Rattle.judge.specs.declared.Judged.the-variants.{Accepted, Refused}
 use Rattle.listing.specs.Hits.{Hit}
 use Rattle.listing.specs.Pour.{flat, partIn}
 use Rattle.listing.specs.Poured.{length-flat}
-use Rattle.scene.specs.View.{viewOf, solid}
-use Rattle.kernel.specs.Answers.{answered, verdictOf, countedOf, IsPart, listingIn}
+use Rattle.scene.specs.View.{viewOf}
+use Rattle.kernel.specs.Answers.{answered, verdictIn, verdictOf, countsIn, countedOf, IsPart, listingIn}
+use Rattle.kernel.specs.Listings.{PouredIf, part-told}
+use Rattle.kernel.specs.Readings.{counts-read}
+use Rattle.kernel.specs.Surveys.{SurveyIs}
+use Rattle.survey.specs.Survey.{pairsOf}
+use Rattle.survey.specs.declared.Survey.{Survey}
+use Rattle.kernel.specs.declared.counts.Counts.{Counts}
 use Rattle.kernel.specs.declared.counts.Counted.{Counted}
 use Rattle.kernel.specs.declared.counts.Counted.the-variants as counted
+use Rattle.kernel.specs.declared.verdict.Verdict.{Verdict}
+use Rattle.kernel.specs.declared.verdict.Verdict.the-variants as verdict
 use Rattle.kernel.specs.declared.lists.Listed.{Listed}
 use Rattle.kernel.specs.declared.lists.Listed.the-variants as listed
 use Rattle.render.specs.Text.{line, text}
@@ -26,16 +37,19 @@ use Rattle.render.specs.Back.{Words}
 use Rattle.render.specs.Put.{Put}
 use Rattle.lines.specs.Lines.{refusedLine, sceneLine, verdictLine, insideLine, pairsLine, pairLine}
 use Rattle.lines.specs.Rows.{rowIn, rowsIn, IsRows}
-use Rattle.lines.specs.declared.reports.Top.{Top}
+use Rattle.lines.specs.declared.surveyed.Top.{Top}
 use Rattle.lines.specs.declared.rows.Part.{Part}
 
 abbrev pub hitLine : Hit → Words
 hitLine h = pairLine (h .low) (h .high) (h .face)
 
+abbrev pub headLines : Scene → Verdict → Counts → List Words
+headLines h v c = sceneLine h ∷ verdictLine v ∷ insideLine c ∷ pairsLine (c .pairs) ∷ []
+
 -- the lines above the listing, where the counts came out so
 abbrev pub headOf : List ℕ → Counted → List Words
 headOf s (counted.Refused r) = refusedLine r ∷ []
-headOf s (counted.Counts c) = sceneLine (countsOf s) ∷ verdictLine (verdictOf s) ∷ insideLine c ∷ pairsLine (c .pairs) ∷ []
+headOf s (counted.Counts c) = headLines (countsOf s) (verdictOf s) c
 
 -- the listing's; a refused scene has none
 unfoldable pub listingLines : List ℕ → List Words
@@ -74,11 +88,39 @@ pub one-line : (a : Words) {l m : List ℕ} {at p : ℕ} → Put l at (line a) m
 unfolding text
 one-line a {l} {m} {at} {p} x = subst (λ (t : List ℕ). Put l at t m p) (sym (append-nil (line a))) x
 
-pub head-is : (s : List ℕ) {o x : Counted} {l m : List ℕ} {e n : ℕ} → o ≡ countedOf s → o ≡ x →
-    Put l 0 (text (headOf s x)) m e → n ≡ rowsOf x → IsHead s l m (record { end = e; rows = n })
-head-is s {l} {m} {e} {n} p q h k =
-    let f = sym q ∙ p in
-    record { held = subst (λ (j : Counted). Put l 0 (text (headOf s j)) m e) f h; rows = k ∙ ap rowsOf f }
+-- by what the judge said
+head-by : (s : List ℕ) {j : Judged} → judged s ≡ j → {l m : List ℕ} {e n : ℕ} →
+    Put l 0 (text (headOf s (answered counted.Refused j (counted.Counts (countsIn (viewOf s)))))) m e →
+    n ≡ rowsOf (answered counted.Refused j (counted.Counts (countsIn (viewOf s)))) → IsHead s l m (record { end = e; rows = n })
+unfolding countedOf
+head-by s q {l} {m} {e} {n} h k =
+    let f = ap (λ (j : Judged). answered counted.Refused j (counted.Counts (countsIn (viewOf s)))) (sym q) in
+    record { held = subst (λ (a : Counted). Put l 0 (text (headOf s a)) m e) f h; rows = k ∙ ap rowsOf f }
+
+module _ (s : List ℕ) {l m : List ℕ} {e : ℕ} where
+  pub head-refused : {o : Judged} {r : Refusal} → o ≡ judged s → o ≡ Refused r → Put l 0 (line (refusedLine r)) m e →
+      IsHead s l m (record { end = e; rows = 0 })
+  unfolding answered
+  head-refused {r} p q h = head-by s (sym p ∙ q) (one-line (refusedLine r) h) refl
+
+  -- the counts and the verdict as they were read
+  head-told : judged s ≡ Accepted → {h : Scene} {v : Verdict} {c : Counts} → h ≡ countsOf s → v ≡ verdictIn (viewOf s) → c ≡ countsIn (viewOf s) →
+      Put l 0 (text (headLines h v c)) m e → IsHead s l m (record { end = e; rows = c .pairs })
+  unfolding answered verdictOf
+  head-told ok {h} {v} {c} is-h is-v is-c x =
+      let w : v ≡ verdictOf s = is-v ∙ ap (λ (j : Judged). answered verdict.Refused j (verdictIn (viewOf s))) (sym ok) in
+      head-by s ok
+      (subst (λ (d : Counts). Put l 0 (text (headLines (countsOf s) (verdictOf s) d)) m e) is-c
+      (subst (λ (u : Verdict). Put l 0 (text (headLines (countsOf s) u c)) m e) w
+      (subst (λ (g : Scene). Put l 0 (text (headLines g v c)) m e) is-h x)))
+      (ap (λ (d : Counts). d .pairs) is-c)
+
+  -- read off a survey
+  pub head-read : judged s ≡ Accepted → {ends-a masks-a ends-b masks-b : List ℕ} {t : Survey} → SurveyIs (viewOf s) ends-a masks-a ends-b masks-b t →
+      {h : Scene} {v : Verdict} {n p q : ℕ} → h ≡ countsOf s → v ≡ verdictIn (viewOf s) →
+      ((a b : ℕ) (e f : List ℕ) → n ≡ length (pairsOf t a b e masks-a f masks-b)) → p ≡ ones (t .a .inside) → q ≡ ones (t .b .inside) →
+      Put l 0 (text (headLines h v (record { pairs = n; «a_in_b» = p; «b_in_a» = q }))) m e → IsHead s l m (record { end = e; rows = n })
+  head-read ok x is-h is-v pairs inside-a inside-b y = head-told ok is-h is-v (counts-read s ok x inside-a inside-b pairs) y
 
 -- ---- a part of the listing
 
@@ -161,3 +203,14 @@ module _ (s : List ℕ) (from : ℕ) {d d′ : List ℕ} {o : Listed} (part : Is
 pub lent-is : {s : List ℕ} {from : ℕ} {d d′ : List ℕ} {o : Listed} → IsPart s from d d′ o → IsLent s from d d′
 unfolding IsLent
 lent-is p = p .held
+
+-- of an accepted scene's listing, poured off its survey
+module _ (s : List ℕ) (ok : judged s ≡ Accepted) (from : ℕ) {d d′ : List ℕ} {n : ℕ} (poured : PouredIf (listingIn (viewOf s)) from false d d′ n) where
+  poured-part : IsPart s from d d′ (listed.Count n)
+  poured-part = part-told s d (sym ok) from refl poured
+
+  pub rows-read : {l m : List ℕ} {r : Part} {k : ℕ} → k ≡ n - from → IsRows (rowsIn d′ k) l 0 m r → IsRows (partRows s from (length d / 3)) l 0 m r
+  rows-read e x = rows-listed s from poured-part refl e x
+
+  pub lent-read : IsLent s from d d′
+  lent-read = lent-is poured-part

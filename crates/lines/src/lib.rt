@@ -12,8 +12,8 @@ use scene::Refusal;
 use scene::Scene;
 
 pub mod answers;
-pub mod reports;
 pub mod rows;
+pub mod surveyed;
 pub mod verdicts;
 
 pub fn refused(out: &mut [u8], at: usize, r: Refusal) -> usize

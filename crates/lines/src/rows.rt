@@ -2,7 +2,6 @@
 ghost use mathlib.Core.Path.{_≡_};
 ghost use Prim.Native.Nat.{_-_, min};
 ghost use lib.Dec.{leb};
-ghost use lib.ListN.{length};
 ghost use Rattle.render.specs.Text.{line};
 ghost use Rattle.render.specs.Put.{Put};
 ghost use Rattle.lines.specs.Lines.{recordLine, keptLine};
@@ -13,7 +12,7 @@ use render::next_number;
 use render::word;
 
 // Room for any row: three numbers of five digits, two spaces and the newline.
-const ROW: usize = 18;
+pub const ROW: usize = 18;
 
 // How many rows were put, and the place behind them.
 pub struct Part {
@@ -25,6 +24,16 @@ pub fn least(a: usize, b: usize) -> usize
     ensures { λ r. ⌜ r ≡ min a b ⌝ }
 {
     if a < b { a } else { b }
+}
+
+// How many of n are left behind the first `from`.
+pub fn left(n: usize, from: usize) -> usize
+    ensures { λ r. ⌜ r ≡ n - from ⌝ }
+{
+    if n < from {
+        return 0;
+    }
+    n - from
 }
 
 // Whether a row has room at a place of so many bytes.

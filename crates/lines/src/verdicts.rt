@@ -1,12 +1,9 @@
-// The verdict: its word alone, as a report has it, and with what was found.
-ghost use mathlib.Core.List.{[], _∷_};
-ghost use Rattle.render.specs.Text.{ascii, decimal, line};
+// The verdict's word, as a report has it.
+ghost use Rattle.render.specs.Text.{line};
 ghost use Rattle.render.specs.Put.{Put};
-ghost use Rattle.lines.specs.Lines.{verdictLine, foundLine, wordOf};
-use crate::refused;
+ghost use Rattle.lines.specs.Lines.{verdictLine, wordOf};
 use kernel::verdict::Verdict;
 use render::newline;
-use render::next_number;
 use render::word;
 
 fn verdict_word(out: &mut [u8], at: usize, v: Verdict) -> usize
@@ -21,42 +18,10 @@ fn verdict_word(out: &mut [u8], at: usize, v: Verdict) -> usize
     }
 }
 
-// The word alone.
 pub fn verdict_line(out: &mut [u8], at: usize, v: Verdict) -> usize
     ensures { λ p. ⌜ Put (now (out .entry)) at (line (verdictLine v)) (now (out .exit)) p ⌝ }
 {
     let p = word(out, at, b"verdict ");
     let q = verdict_word(out, p, v);
     newline(out, q)
-}
-
-fn cross(out: &mut [u8], at: usize, u: usize, v: usize, f: usize) -> usize
-    ensures { λ p. ⌜ Put (now (out .entry)) at (line (foundLine (Verdict.Cross u v f))) (now (out .exit)) p ⌝ }
-{
-    let p = word(out, at, b"verdict cross");
-    let q = next_number(out, p, u);
-    let r = next_number(out, q, v);
-    let e = next_number(out, r, f);
-    newline(out, e)
-}
-
-fn enclosed(out: &mut [u8], at: usize, w: &[u8], n: usize) -> usize
-    ensures { λ p. ⌜ Put (now (out .entry)) at (line (now (w .entry) ∷ decimal n ∷ [])) (now (out .exit)) p ⌝ }
-{
-    let p = word(out, at, w);
-    let e = next_number(out, p, n);
-    newline(out, e)
-}
-
-// With the first pair or the lowest vertex.
-pub fn verdict(out: &mut [u8], at: usize, v: Verdict) -> usize
-    ensures { λ p. ⌜ Put (now (out .entry)) at (line (foundLine v)) (now (out .exit)) p ⌝ }
-{
-    match v {
-        Verdict::Refused(r) => refused(out, at, r),
-        Verdict::Cross(a, b, f) => cross(out, at, a, b, f),
-        Verdict::AInB(i) => enclosed(out, at, b"verdict a-in-b", i),
-        Verdict::BInA(i) => enclosed(out, at, b"verdict b-in-a", i),
-        Verdict::Apart => word(out, at, b"verdict apart\n"),
-    }
 }

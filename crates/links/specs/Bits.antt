@@ -3,23 +3,15 @@ use mathlib.Core.Path.{_≡_, refl, sym, ap, ap₂, _∙_}
 use mathlib.Core.Bool.{Bool, true, false, _&&_, _||_}
 use mathlib.Core.Logic.{_⊎_, inl, inr}
 use Prim.Native.Nat.{ℕ, zero, suc, _+_, _*_, _^_, _/_, _%_, _≤_, _<_}
-use native.Mathlib.Nat.{pow-suc, mod-lt, zero-lt-suc, lt-of-lt-of-le, div-eq-of-lt}
+use native.Mathlib.Nat.{pow-suc, lt-of-lt-of-le, div-eq-of-lt}
 use native.Mathlib.Omega.{arith}
 use lib.Bits.{bitAnd, bitOr, bitXor, and-shr, or-shr, xor-shr, and-mod, or-mod, xor-mod}
-use lib.Count.{ones, trailingZeros}
+use lib.Count.{trailingZeros}
 use lib.Dec.{eqb}
 use lib.Pow.{pow-mono, shr-shr}
 use Rattle.laws.specs.Bools.{_⊕_}
 use Rattle.laws.specs.Mask.{digit, maskOf, mask-low, mask-same, mask-test, place-mask, testBit}
-use Rattle.laws.specs.Walk.{First, mask-first}
-
-bit-cases : (r : ℕ) → r < 2 → (r ≡ 1) ⊎ (r ≡ 0)
-bit-cases zero h = inr refl
-bit-cases (suc zero) h = inl refl
-bit-cases (suc (suc r)) h = absurd (omega arith)
-
-two-cases : (w : ℕ) → (w % 2 ≡ 1) ⊎ (w % 2 ≡ 0)
-two-cases w = bit-cases (w % 2) (mod-lt w (zero-lt-suc 1))
+use Rattle.laws.specs.Walk.{First, mask-first, two-cases}
 
 -- ---- two words joined, bit by bit
 

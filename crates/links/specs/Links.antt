@@ -2,10 +2,10 @@
 -- its corners. Assumes nothing.
 use mathlib.Core.Path.{_≡_, refl, sym, ap, _∙_}
 use mathlib.Core.Logic.{_≢_}
-use mathlib.Core.Bool.{Bool, true, false, cond, _||_}
+use mathlib.Core.Bool.{false, cond, _||_}
 use mathlib.Core.List.{List}
-use Prim.Native.Nat.{ℕ, zero, suc, _+_, _-_, _*_, _≤_, _<_}
-use native.Mathlib.Decide.{ℕ-discrete, decLt}
+use Prim.Native.Nat.{ℕ, _+_, _≤_, _<_}
+use native.Mathlib.Decide.{ℕ-discrete}
 use native.Mathlib.Omega.{arith}
 use borrow.Author.Tests.{eq-eqb, ne-eqb}
 use lib.Bits.{bitOr, or-zero-r}
@@ -13,10 +13,10 @@ use lib.Dec.{eqb}
 use lib.ListN.{length, getD, set, length-set}
 use lib.Seq.{getD-set-same, getD-set-other}
 use Rattle.scene.specs.Limits.{limits, mostPoints}
-use Rattle.scene.specs.Faces.{Vertex, FaceOf}
+use Rattle.scene.specs.Faces.{Vertex, FaceOf, isCorner}
 use Rattle.scene.specs.Arrays.{FaceWithin}
 use Rattle.scene.specs.declared.Face.{Face}
-use Rattle.edges.specs.Edges.{width, isCorner, joined, neighbours, Corners}
+use Rattle.edges.specs.Edges.{width, joined, neighbours}
 use Rattle.edges.specs.Words.{bitOf, faceWord, upto, upto-start, upto-more, in-word}
 use Rattle.scene.specs.declared.Solid.{Solid}
 

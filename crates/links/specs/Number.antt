@@ -11,8 +11,9 @@ use lib.Count.{ones}
 use lib.Dec.{eqb}
 use Rattle.laws.specs.Mask.{digit, maskOf, mask-lt, ones-join}
 use Rattle.laws.specs.Range.{fold, over, anyOf}
+use Rattle.scene.specs.Faces.{isCorner, hasBoth}
 use Rattle.scene.specs.declared.Face.{Face}
-use Rattle.edges.specs.Edges.{width, isCorner, hasBoth, joined}
+use Rattle.edges.specs.Edges.{width, joined}
 use Rattle.scene.specs.declared.Solid.{Solid}
 
 -- the vertices above the i-th (from 0) that an edge joins it to: bit j stands for the j-th of those above
@@ -82,7 +83,12 @@ pairs-or p q n d =
     omega (
       arith,
       sum-le (λ i. sumOf (λ j. digit (p i j || q i j)) (d i)) (λ i. sumOf (λ j. digit (p i j)) (d i) + sumOf (λ j. digit (q i j)) (d i)) n
-          (λ i. omega (arith, sum-le (λ j. digit (p i j || q i j)) (λ j. digit (p i j) + digit (q i j)) (d i) (λ j. digit-or (p i j) (q i j)), sum-add (λ j. digit (p i j)) (λ j. digit (q i j)) (d i))),
+          (λ i. omega (
+            arith,
+            sum-le (λ j. digit (p i j || q i j)) (λ j. digit (p i j) + digit (q i j)) (d i)
+                (λ j. digit-or (p i j) (q i j)),
+            sum-add (λ j. digit (p i j)) (λ j. digit (q i j)) (d i),
+          )),
       sum-add (λ i. sumOf (λ j. digit (p i j)) (d i)) (λ i. sumOf (λ j. digit (q i j)) (d i)) n,
     )
 
@@ -228,7 +234,8 @@ module _ (face : ℕ → Face) (low n : ℕ) (d : ℕ → ℕ) where
       omega (
         arith,
         pairs-or (λ i j. hasBoth (low + i) (low + i + 1 + j) (face a)) (has (suc a) m) n d,
-        pairs-le (λ i j. hasBoth (low + i) (low + i + 1 + j) (face a)) (sides low (face a)) n d (λ i j e. both-sides (face a) (low + i) (low + i + 1 + j) (omega arith) e),
+        pairs-le (λ i j. hasBoth (low + i) (low + i + 1 + j) (face a)) (sides low (face a)) n d
+            (λ i j e. both-sides (face a) (low + i) (low + i + 1 + j) (omega arith) e),
         sides-most low (face a) n d,
         faces-most (suc a) m,
       )

@@ -1,16 +1,10 @@
 -- The first of a run of hits. Assumes nothing.
 use mathlib.Core.Path.{_≡_, refl, sym, ap, _∙_}
-use Prim.Native.Nat.{ℕ, zero, suc, _+_, _%_, _≤_, _<_, _-_}
+use Prim.Native.Nat.{ℕ, zero, suc, _+_, _≤_, _<_, _-_}
 use native.Mathlib.Omega.{arith}
-use mathlib.Core.Bool.{Bool, true, false}
 use mathlib.Core.List.{List, [], _∷_, _++_, append-nil, append-assoc}
-use lib.Dec.{eqb}
-use Rattle.edges.specs.Edges as words
-use Rattle.scene.specs.declared.Solid.{Solid}
-use Rattle.pierce.specs.Formula.{pierced}
-use Rattle.pierce.specs.Faces.{width}
-use Rattle.listing.specs.Hits.{Seen, Hit, upTo, edgeMask, faceHits, pairHits, pairsAt}
-use Rattle.listing.specs.Laws.{upTo-more, bitsLeft, left-test}
+use Rattle.listing.specs.Hits.{Hit, upTo}
+use Rattle.listing.specs.Laws.{upTo-more}
 use Rattle.listing.specs.declared.find.Found.{Found}
 use Rattle.listing.specs.declared.find.Found.the-variants.{Nothing, Pair}
 
@@ -24,7 +18,8 @@ pub first-none : {l : List Hit} → [] ≡ l → Nothing ≡ firstOf l
 unfolding firstOf
 first-none e = ap firstOf e
 
-pub first-next : {l : List Hit} (m : List Hit) {o : Found} {a b f : ℕ} → [] ≡ l → o ≡ firstOf m → o ≡ Pair a b f → (n : List Hit) → Pair a b f ≡ firstOf ((l ++ m) ++ n)
+pub first-next : {l : List Hit} (m : List Hit) {o : Found} {a b f : ℕ} → [] ≡ l → o ≡ firstOf m → o ≡ Pair a b f → (n : List Hit) →
+    Pair a b f ≡ firstOf ((l ++ m) ++ n)
 unfolding firstOf
 first-next [] e p q n = cc
 first-next (h ∷ m) e p q n = rw (← e) (sym q ∙ p)
@@ -61,24 +56,3 @@ module _ (g : ℕ → List Hit) where
 
   pub first-end : {i n : ℕ} → i ≤ n → n ≤ i → [] ≡ upTo g i → Nothing ≡ firstOf (upTo g n)
   first-end {i} {n} a b e = let d : i ≡ n = omega arith in first-none (rw d at e)
-
--- ---- of an edge, by its mask m: the first of its faces
-
-module _ (s : Seen) (k : Solid) (u v : ℕ) {b : Bool} {m : ℕ} (mask : m ≡ edgeMask s k u v) (edge : b ≡ true) (order : u < v) where
-  abbrev passes : ℕ → Bool
-  passes i = pierced (s .points) (s .row) u v (s .face (k .other + 1 + i))
-
-  -- up to a face that is the first to pass there are none
-  none-before : (n : ℕ) → ((i : ℕ) → i < n → passes i ≡ false) → [] ≡ upTo (faceHits s k u v) n
-  unfolding upTo faceHits
-  none-before zero h = refl
-  none-before (suc n) h = rw (h n (omega arith)) (none-before n (λ i a. h i (omega arith)) ∙ sym (append-nil _))
-
-  one : (t : ℕ) → passes t ≡ true → firstOf (faceHits s k u v t) ≡ Pair u v (k .other + 1 + t)
-  unfolding firstOf faceHits
-  one t e = rw e
-
--- what is told of the next pair of points by the lowest bit that is left
-pub told : (s : Seen) (k : Solid) (u m : ℕ) {w : ℕ} {o : Found} → m < words.width → w ≡ bitsLeft s k u m →
-    o ≡ firstOf (pairHits s k u (k .low + 1 + m) (eqb (w % 2) 1)) → o ≡ firstOf (pairsAt s k u m)
-told s k u m h e p = p ∙ ap (λ (b : Bool). firstOf (pairHits s k u (k .low + 1 + m) b)) (left-test s k u m h e)

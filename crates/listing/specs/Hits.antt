@@ -16,7 +16,7 @@ use Rattle.scene.specs.declared.Solid.{Solid}
 use Rattle.orient.specs.Weighted.{Weighted}
 use Rattle.pierce.specs.Formula.{pierced}
 use Rattle.pierce.specs.Beside.{BesideAll}
-use Rattle.pierce.specs.Faces.{maskAgainst, enclosed}
+use Rattle.pierce.specs.Against.{maskAgainst, enclosed}
 
 -- what piercing reads of a scene: the number of its points, the far point's the last, and the rows and faces by their numbers
 pub record Seen : Type 0 where

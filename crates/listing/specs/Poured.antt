@@ -10,10 +10,9 @@ use lib.ListN.{length, take, drop, length-append, take-append-drop}
 use lib.Seq.{sets, sets-eq, length-sets, take-at, drop-at, drop-drop, length-take-le, take-all, drop-nil, take-nil}
 use lib.Dec.{leb}
 use borrow.Author.Tests.{leb-true, leb-false, le-leb, lt-leb}
-use Rattle.scene.specs.declared.Solid.{Solid}
-use Rattle.listing.specs.Hits.{Seen, Hit, upTo, edgeMask, pairHits}
-use Rattle.listing.specs.Pour.{Pours, poured, stepped, three, flat, partIn, allIn, maskHits}
-use Rattle.listing.specs.Laws.{bounded, edge-hits, pair-edge}
+use Rattle.listing.specs.Hits.{Hit, upTo}
+use Rattle.listing.specs.Pour.{Pours, poured, stepped, three, flat, partIn, allIn}
+use Rattle.listing.specs.Laws.{bounded}
 
 poured-append : (l m : List Hit) (d : List ℕ) (from seen : ℕ) → poured d from seen (l ++ m) ≡ poured (poured d from seen l) from (seen + length l) m
 unfolding poured
@@ -29,7 +28,8 @@ pours-none from seen d = record { count = omega arith; held = refl; long = refl 
 pub pours-same : {l m : List Hit} {from seen r : ℕ} {d d₁ : List ℕ} → l ≡ m → Pours l from seen d d₁ r → Pours m from seen d d₁ r
 pours-same e p = rw (← e) p
 
-pub pours-more : {l m : List Hit} {from seen : ℕ} {d d₁ d₂ : List ℕ} {r₁ r₂ : ℕ} → Pours l from seen d d₁ r₁ → Pours m from r₁ d₁ d₂ r₂ → Pours (l ++ m) from seen d d₂ r₂
+pub pours-more : {l m : List Hit} {from seen : ℕ} {d d₁ d₂ : List ℕ} {r₁ r₂ : ℕ} → Pours l from seen d d₁ r₁ → Pours m from r₁ d₁ d₂ r₂ →
+    Pours (l ++ m) from seen d d₂ r₂
 pours-more {l} {m} {from} {seen} {d} p q =
     record {
       count = omega (arith, p .count, q .count, length-append l m);
@@ -48,21 +48,13 @@ pub pours-next : (g : ℕ → List Hit) (i : ℕ) {from seen : ℕ} {d d₁ d₂
 unfolding upTo
 pours-next g i p q = rw add-one (pours-more p q)
 
-pub pours-all : (g : ℕ → List Hit) {i n from seen : ℕ} {d d₁ : List ℕ} {r : ℕ} → i ≤ n → n ≤ i → Pours (upTo g i) from seen d d₁ r → Pours (upTo g n) from seen d d₁ r
+pub pours-all : (g : ℕ → List Hit) {i n from seen : ℕ} {d d₁ : List ℕ} {r : ℕ} → i ≤ n → n ≤ i → Pours (upTo g i) from seen d d₁ r →
+    Pours (upTo g n) from seen d d₁ r
 pours-all g {i} {n} a b p = let e : i ≡ n = omega arith in rw e at p
 
-pub reached : (g : ℕ → List Hit) (b i : ℕ) {from seen : ℕ} {d d₁ : List ℕ} {r : ℕ} → ((j : ℕ) → length (g j) ≤ b) → Pours (upTo g i) from seen d d₁ r → r ≤ seen + i * b
+pub reached : (g : ℕ → List Hit) (b i : ℕ) {from seen : ℕ} {d d₁ : List ℕ} {r : ℕ} → ((j : ℕ) → length (g j) ≤ b) →
+    Pours (upTo g i) from seen d d₁ r → r ≤ seen + i * b
 reached g b i h p = omega (arith, p .count, bounded g b i h)
-
--- ---- one hit, or none
-
--- ---- a pair of points, and one more of those from u on
-
-module _ (s : Seen) (k : Solid) where
-  -- w is its mask
-  pub pours-edge : (u v : ℕ) {b : Bool} {w from seen r : ℕ} {d d₁ : List ℕ} → w ≡ edgeMask s k u v → b ≡ true → u < v →
-      Pours (maskHits w u v (k .other) (k .others)) from seen d d₁ r → Pours (pairHits s k u v b) from seen d d₁ r
-  pours-edge u v e t h p = pours-same (edge-hits s k u v e ∙ pair-edge s k u v h t) p
 
 -- ---- in closed form
 

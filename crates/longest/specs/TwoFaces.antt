@@ -7,20 +7,15 @@ use Prim.Native.Nat.{ℕ, _+_, _%_, _≤_, _<_, min, max}
 use native.Mathlib.Omega.{arith}
 use borrow.Author.Tests.{eq-eqb}
 use lib.Dec.{eqb}
-use Rattle.laws.specs.Decides.{and-iff, or-iff, eqb-iff}
 use Rattle.laws.specs.Even.{count, odd-count}
 use Rattle.laws.specs.Lists.{Some, run, any-iff}
 use Rattle.laws.specs.Mask.{digit, oddN-mod}
 use Rattle.laws.specs.Range.{more}
-use Rattle.scene.specs.Faces.{Corner, Both}
+use Rattle.scene.specs.Faces.{Both, both-iff, hasBoth}
 use Rattle.scene.specs.declared.Face.{Face}
 use Rattle.scene.specs.declared.Solid.{Solid}
-use Rattle.edges.specs.Edges.{isCorner, hasBoth, joined}
+use Rattle.edges.specs.Edges.{joined}
 use Rattle.pierce.specs.Closed.{Edge, hasEdge, Closed}
-
-corner : (i : ℕ) (f : Face) → isCorner i f ≡ true → Corner i f
-unfolding isCorner
-corner i f h = or-iff _ _ (eqb-iff (f .p) i) (or-iff _ _ (eqb-iff (f .q) i) (eqb-iff (f .r) i)) .0 h
 
 module _ (i j : ℕ) where
   abbrev pub edgeOf : Edge
@@ -46,8 +41,7 @@ module _ (i j : ℕ) where
     by-corners f (inr (inr a), inr (inr b)) = absurd (omega arith)
 
     has-edge : (f : Face) → hasBoth i j f ≡ true → hasEdge edgeOf f ≡ true
-    unfolding hasBoth
-    has-edge f h = let c = and-iff (isCorner i f) (isCorner j f) .0 h in by-corners f (corner i f (c .0), corner j f (c .1))
+    has-edge f h = by-corners f (both-iff i j f .0 h)
 
 some-counted : {A : Type 0} (P : A → Type 0) (g : A → Bool) → ((x : A) → P x → g x ≡ true) → (xs : List A) → Some P xs → 1 ≤ count g xs
 some-counted P g h [] s = absurd s

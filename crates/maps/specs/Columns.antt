@@ -1,9 +1,7 @@
 -- The table by its columns: a row times the table is the row's product with each. Assumes nothing.
-use mathlib.Core.Path.{_≡_, refl, sym, subst, ap, _∙_}
-use Prim.Native.Nat.{ℕ, _≤_}
-use native.Mathlib.Nat.{le-trans}
+use mathlib.Core.Path.{_≡_, refl}
 use lib.Dec.{lit≤}
-use Rattle.laws.specs.Size.{Small, below}
+use Rattle.laws.specs.Size.{below}
 use Rattle.scene.specs.declared.Row.{Row}
 use Rattle.clean.specs.Planes.{dotOf}
 use Rattle.clean.specs.Sizes.{mostEntry, mostCoefficient, RowSmall}

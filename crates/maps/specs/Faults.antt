@@ -4,7 +4,6 @@ use mathlib.Core.Logic.{_≢_}
 use mathlib.Core.Bool.{Bool, true, false, not, true≢false}
 use mathlib.Core.List.{List, _++_}
 use Prim.Native.Nat.{ℕ, _≤_, _<_}
-use lib.Dec.{leb}
 use lib.IntN.{ℤ, pos}
 use lib.ListN.{length, drop}
 use borrow.Author.Tests.{not-true, not-false, le-leb, lt-leb, leb-true}

@@ -14,7 +14,6 @@ use Rattle.scene.specs.Refusal.{numberOf, placeOf}
 use Rattle.scene.specs.Tables.{rowAt}
 use Rattle.scene.specs.Write.{rowPut}
 use Rattle.scene.specs.declared.Row.{Row}
-use Rattle.scene.specs.declared.Refusal.{Refusal}
 use Rattle.scene.specs.declared.Refusal.the-variants.{Coordinate, Weight, Buffer}
 use Rattle.judge.specs.Judge.{rule, firstFault, judged}
 use Rattle.judge.specs.declared.Judged.{Judged}

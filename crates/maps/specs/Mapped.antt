@@ -11,17 +11,17 @@ use Rattle.orient.specs.Determinant.{Entries, entries, det4}
 use Rattle.orient.specs.Variables.{row, rows, det}
 use Rattle.maps.specs.declared.Map.{Map}
 
-module _ {R : Type 0} (_+_ _*_ : R → R → R) where
-  infixl 6 _+_
-  infixl 7 _*_
+module _ {R : Type 0} (_plus_ _times_ : R → R → R) where
+  infixl 6 _plus_
+  infixl 7 _times_
   -- the row r times the table of rows x, y, z, w: entry j is the sum over k of r's entry k times entry j of the table's row k
   abbrev pub product : (r x y z w : Entries R) → Entries R
   product r x y z w =
       record {
-        x = r .x * x .x + r .y * y .x + r .z * z .x + r .w * w .x;
-        y = r .x * x .y + r .y * y .y + r .z * z .y + r .w * w .y;
-        z = r .x * x .z + r .y * y .z + r .z * z .z + r .w * w .z;
-        w = r .x * x .w + r .y * y .w + r .z * z .w + r .w * w .w;
+        x = r .x times x .x plus r .y times y .x plus r .z times z .x plus r .w times w .x;
+        y = r .x times x .y plus r .y times y .y plus r .z times z .y plus r .w times w .y;
+        z = r .x times x .z plus r .y times y .z plus r .z times z .z plus r .w times w .z;
+        w = r .x times x .w plus r .y times y .w plus r .z times z .w plus r .w times w .w;
       }
 
 unfoldable pub mapped : Map → Row → Row

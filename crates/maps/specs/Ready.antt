@@ -1,20 +1,19 @@
 -- An accepted scene and a table with entries in range: their products are small enough. Assumes nothing.
 use mathlib.Core.Path.{_≡_, refl, sym, subst, ap, _∙_}
-use mathlib.Core.Bool.{Bool, true, _&&_}
+use mathlib.Core.Bool.{true}
 use mathlib.Core.List.{List}
 use Prim.Native.Nat.{ℕ, _+_, _≤_}
 use native.Mathlib.Decide.{ℕ-discrete}
 use native.Mathlib.Nat.{le-trans}
 use native.Mathlib.Omega.{arith}
-use lib.Dec.{leb, lit≤}
-use lib.IntN.{ℤ, natAbs}
+use lib.Dec.{lit≤}
+use lib.IntN.{natAbs}
 use lib.ListN.{length}
-use borrow.Author.Tests.{leb-true}
 use Rattle.laws.specs.Decides.{decides}
 use Rattle.laws.specs.Filled.{filled}
 use Rattle.scene.specs.Limits.{limits, leastWeight, within}
 use Rattle.scene.specs.Records.{verts, pointStart}
-use Rattle.scene.specs.Tables.{tablesOf, row, rowAt}
+use Rattle.scene.specs.Tables.{rowAt}
 use Rattle.scene.specs.Read.{row-is, far-is}
 use Rattle.scene.specs.Write.{RowFits, rowPut}
 use Rattle.scene.specs.declared.Row.{Row}

@@ -6,7 +6,6 @@ ghost use lib.ListN.{length, drop};
 ghost use Rattle.laws.specs.Filled.{filled};
 ghost use Rattle.scene.specs.Records.{verts};
 ghost use Rattle.scene.specs.Write.{rowPut};
-ghost use Rattle.judge.specs.Judge.{judged};
 ghost use Rattle.judge.specs.declared.Judged.the-variants.{Accepted};
 ghost use Rattle.maps.specs.Image.{imageRow, pointFault, rowsFault, imageFault, imageBytes, IsImage};
 ghost use Rattle.maps.specs.Ready.{Mappable};

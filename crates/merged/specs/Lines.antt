@@ -3,7 +3,7 @@ use mathlib.Core.Path.{_≡_, refl, ap, _∙_}
 use mathlib.Core.Bool.{Bool, true}
 use mathlib.Core.List.{List, [], _∷_, _++_, append-assoc}
 use Prim.Native.Nat.{ℕ, _+_}
-use Rattle.render.specs.Text.{decimal, decimalIn, line}
+use Rattle.render.specs.Text.{decimal, decimalIn}
 use Rattle.scene.specs.Bytes.{byteAt}
 use Rattle.items.specs.Numbers.{isDigit}
 use Rattle.class.specs.Tally.{meanOf}

@@ -1,28 +1,25 @@
 -- The faces of one solid whose planes part the corners of a face of the other, the faces at an edge, and the candidates that each of those
 -- parts: a pierced face is among them. Assumes nothing.
-use mathlib.Core.Path.{_≡_, refl, sym, ap, ap₂, subst, _∙_}
-use mathlib.Core.Bool.{Bool, true, false, _&&_, _||_}
-use mathlib.Core.Logic.{_⊎_, inl, inr}
+use mathlib.Core.Path.{_≡_, refl, ap₂, subst, _∙_}
+use mathlib.Core.Bool.{Bool, true, false, _&&_}
 use mathlib.Core.List.{List}
 use Prim.Native.Nat.{ℕ, zero, suc, _+_, _-_, _*_, _^_, _≤_, _<_}
 use native.Mathlib.Nat.{add-comm}
 use native.Mathlib.Omega.{arith}
-use borrow.Author.Tests.{eq-eqb, eqb-true}
+use borrow.Author.Tests.{eq-eqb}
 use lib.Bits.{bitAnd, bitOr, bitXor, and-block}
 use lib.Dec.{eqb}
+use Rattle.laws.specs.Decides.{and-iff}
 use Rattle.laws.specs.Bools.{_⊕_}
 use Rattle.laws.specs.Mask.{digit, maskOf, mask-lt, or-masks, xor-masks, mask-same}
-use Rattle.scene.specs.Limits.{limits}
-use Rattle.scene.specs.Faces.{Corner, Vertex, FaceOf}
+use Rattle.scene.specs.Faces.{Vertex, FaceOf, corner-iff, isCorner}
 use Rattle.scene.specs.declared.Row.{Row}
 use Rattle.scene.specs.declared.Face.{Face}
-use Rattle.edges.specs.Edges.{isCorner}
 use Rattle.orient.specs.Signs.{mixed}
 use Rattle.orient.specs.Weighted.{Weighted}
 use Rattle.pierce.specs.Beside.{Beside}
 use Rattle.pierce.specs.Formula.{pierced}
-use Rattle.pierce.specs.Faces.{maskBy}
-use Rattle.pierce.specs.declared.faces.Mask.{Mask}
+use Rattle.face_masks.specs.declared.Mask.{Mask}
 use Rattle.sides.specs.Sides.{above, sidesOf, masksBy, first64}
 use Rattle.sides.specs.Tables.{maskIn}
 use Rattle.narrow.specs.Parted.{parts, pierced-parts}
@@ -116,26 +113,6 @@ cover-is face first count g h p q e =
 
 -- ---- so a pierced face is kept
 
-or-cases : (a b : Bool) → (a || b) ≡ true → (a ≡ true) ⊎ (b ≡ true)
-or-cases true b e = inl refl
-or-cases false b e = inr e
-
-corner-of : (i : ℕ) (f : Face) → isCorner i f ≡ true → Corner i f
-unfolding isCorner
-corner-of i f e = by (or-cases (eqb (f .p) i) (eqb (f .q) i || eqb (f .r) i) e)
-  where
-    two : (eqb (f .q) i ≡ true) ⊎ (eqb (f .r) i ≡ true) → (f .q ≡ i) ⊎ (f .r ≡ i)
-    two (inl h) = inl (eqb-true (f .q) i h)
-    two (inr h) = inr (eqb-true (f .r) i h)
-
-    by : (eqb (f .p) i ≡ true) ⊎ ((eqb (f .q) i || eqb (f .r) i) ≡ true) → Corner i f
-    by (inl h) = inl (eqb-true (f .p) i h)
-    by (inr h) = inr (two (or-cases (eqb (f .q) i) (eqb (f .r) i) h))
-
-both-cases : (a b : Bool) → (a && b) ≡ true → (a ≡ true) × (b ≡ true)
-both-cases true b e = (refl, e)
-both-cases false b e = let z : _≡_ {A = ℕ} 0 1 = cc in absurd (omega arith)
-
 -- the solid of the edge: its vertices are above low, up to high, and its faces those above own, `owns` of them; f is a face of the other
 pub record Across (n low high own owns : ℕ) (face : ℕ → Face) (f : Face) : Type 0 where
   pub within : high ≤ n
@@ -153,6 +130,6 @@ kept-by n row face low high own owns u v f w l d x p q e =
     cover-is face own owns (parts row f) (λ g. isCorner u g && isCorner v g) p q
     (λ k b h.
     let g = face (own + 1 + k) in
-    let t = both-cases (isCorner u g) (isCorner v g) h in
-    pierced-parts n row w low high (x .within) g (x .faces k b) u v f l d (x .p) (x .q) (x .r) (corner-of u g (t .0))
-    (corner-of v g (t .1)) e)
+    let t = and-iff (isCorner u g) (isCorner v g) .0 h in
+    pierced-parts n row w low high (x .within) g (x .faces k b) u v f l d (x .p) (x .q) (x .r) (corner-iff u g .0 (t .0))
+    (corner-iff v g .0 (t .1)) e)

@@ -1,8 +1,7 @@
 -- A table of the faces that each point is a corner of, made face by face: bit i of a point's word is set where face i has it. Assumes
 -- nothing.
-use mathlib.Core.Path.{_≡_, refl, sym, ap, ap₂, subst, _∙_}
-use mathlib.Core.Logic.{inl, inr}
-use mathlib.Core.Bool.{Bool, true, false, _||_}
+use mathlib.Core.Path.{_≡_, refl, sym, ap, ap₂, _∙_}
+use mathlib.Core.Bool.{Bool, true, false, _||_, or-false}
 use mathlib.Core.List.{List}
 use Prim.Native.Nat.{ℕ, zero, suc, _+_, _-_, _*_, _^_, _%_, _≤_, _<_}
 use native.Mathlib.Decide.{ℕ-discrete}
@@ -16,11 +15,9 @@ use lib.ListN.{length, getD, set, length-set}
 use lib.Pow.{pow-pos, shl-exact}
 use lib.Seq.{getD-set-same, getD-set-other}
 use Rattle.laws.specs.Mask.{digit, maskOf, mask-lt}
-use Rattle.scene.specs.Faces.{Corner}
+use Rattle.scene.specs.Faces.{isCorner}
 use Rattle.scene.specs.declared.Face.{Face}
-use Rattle.edges.specs.Edges.{isCorner}
-use Rattle.pierce.specs.Faces.{maskBy}
-use Rattle.pierce.specs.declared.faces.Mask.{Mask}
+use Rattle.face_masks.specs.Faces.{maskBy}
 use Rattle.sides.specs.Sides.{first64, masksBy}
 use Rattle.sides.specs.Tables.{maskIn}
 
@@ -86,10 +83,6 @@ marked-at : (at i c t : ℕ) (l : List ℕ) (a : Bool) (w : ℕ) → w < 2 ^ i �
 unfolding marked
 marked-at at i c t l a w h r e = by (ℕ-discrete c t)
   where
-    or-false : (b : Bool) → (b || false) ≡ b
-    or-false true = refl
-    or-false false = refl
-
     digit-one : (b : Bool) → bitOr (digit b) 1 ≡ digit (b || true)
     digit-one true = refl
     digit-one false = refl
@@ -164,32 +157,4 @@ own-at face first count t l r y z =
     let high : getD (ownMarked face first count l) (2 * t + 1) 0 ≡ maskBy (isCorner t) face (first + 64) (count - 64) =
     faces-at face (first + 64) 1 (count - 64) t m (omega arith) (faces-other face first 0 (first64 count) (2 * t + 1) l
     (λ c q. omega (arith, q)) ∙ z) in
-    λ i. record { low = low i; high = high i }
-
--- ---- a point that is a corner of none of the faces keeps its words
-
-module _ (face : ℕ → Face) (first at : ℕ) where
-  faces-kept : (n t : ℕ) (l : List ℕ) → ((k : ℕ) → k < n → Corner t (face (first + 1 + k)) → ⊥) →
-      getD (facesMarked face first at n l) (2 * t + at) 0 ≡ getD l (2 * t + at) 0
-  unfolding facesMarked
-  faces-kept zero t l h = refl
-  faces-kept (suc n) t l h =
-      let f = face (first + 1 + n) in
-      marked-other at n (f .r) (2 * t + at) _ (λ e. h n (omega arith) (inr (inr (omega (arith, e)))))
-      ∙ marked-other at n (f .q) (2 * t + at) _ (λ e. h n (omega arith) (inr (inl (omega (arith, e)))))
-      ∙ marked-other at n (f .p) (2 * t + at) _ (λ e. h n (omega arith) (inl (omega (arith, e))))
-      ∙ faces-kept n t l (λ k b. h k (omega arith))
-
-pub own-kept : (face : ℕ → Face) (first count t : ℕ) (l : List ℕ) → ((k : ℕ) → k < count → Corner t (face (first + 1 + k)) → ⊥) →
-    maskIn (ownMarked face first count l) t ≡ maskIn l t
-own-kept face first count t l h =
-    let m = facesMarked face first 0 (first64 count) l in
-    let e : 2 * t + 0 ≡ 2 * t = omega arith in
-    let low : getD (ownMarked face first count l) (2 * t) 0 ≡ getD l (2 * t) 0 =
-    faces-other face (first + 64) 1 (count - 64) (2 * t) m (λ c q. omega (arith, q))
-    ∙ ap (λ (b : ℕ). getD m b 0) (sym e) ∙ faces-kept face first 0 (first64 count) t l (λ k b. h k (omega arith)) ∙ ap (λ (b : ℕ). getD l b 0) e in
-    let high : getD (ownMarked face first count l) (2 * t + 1) 0 ≡ getD l (2 * t + 1) 0 =
-    faces-kept face (first + 64) 1 (count - 64) t m
-    (λ k b. subst (λ (i : ℕ). Corner t (face i) → ⊥) (let s : first + 1 + (64 + k) ≡ first + 64 + 1 + k = omega arith in s) (h (64 + k) (omega arith)))
-    ∙ faces-other face first 0 (first64 count) (2 * t + 1) l (λ c q. omega (arith, q)) in
     λ i. record { low = low i; high = high i }

@@ -1,21 +1,21 @@
 -- The candidates of an edge that each face at the edge parts: the pierced among them are all that the edge pierces. Assumes nothing.
-use mathlib.Core.Path.{_≡_, refl, sym, ap, ap₂, subst, _∙_}
+use mathlib.Core.Path.{_≡_, refl, ap, ap₂, subst, _∙_}
 use mathlib.Core.Bool.{Bool, true, false, _&&_}
-use mathlib.Core.List.{List}
 use Prim.Native.Nat.{ℕ, _+_, _-_, _*_, _≤_, _<_}
 use native.Mathlib.Omega.{arith}
 use lib.Bits.{bitXor}
-use Rattle.laws.specs.Bools.{_⊕_, all, _≐_, law}
+use Rattle.laws.specs.Bools.{_⊕_}
 use Rattle.laws.specs.Mask.{maskOf, xor-masks, mask-same}
 use Rattle.scene.specs.Limits.{limits}
+use Rattle.scene.specs.Faces.{isCorner}
 use Rattle.scene.specs.declared.Row.{Row}
 use Rattle.scene.specs.declared.Face.{Face}
-use Rattle.edges.specs.Edges.{isCorner}
 use Rattle.orient.specs.Weighted.{Weighted}
-use Rattle.pierce.specs.Beside.{Beside, BesideAll, beside-low, beside-high}
-use Rattle.pierce.specs.Faces.{maskBy, maskAgainst, valueOf}
+use Rattle.pierce.specs.Beside.{BesideAll, beside-low, beside-high}
+use Rattle.face_masks.specs.Faces.{maskBy, valueOf}
+use Rattle.pierce.specs.Against.{maskAgainst}
 use Rattle.pierce.specs.Formula.{pierced}
-use Rattle.pierce.specs.declared.faces.Mask.{Mask}
+use Rattle.face_masks.specs.declared.Mask.{Mask}
 use Rattle.sides.specs.Candidates.{kept, AtEach, kept-mask, each-mask}
 use Rattle.sides.specs.Crossing.{Candidate, Candidates, crossedOf, pierced-differs}
 use Rattle.sides.specs.Sides.{above, sidesOf, masksBy, masks-value, first64}

@@ -2,7 +2,7 @@
 -- x has H alike at them, so the edge does not pierce it. Assumes nothing.
 use mathlib.Core.Path.{_≡_, refl, sym, ap, subst, _∙_}
 use mathlib.Core.Logic.{_≢_, inl, inr}
-use mathlib.Core.Bool.{Bool, true, false, not, _&&_}
+use mathlib.Core.Bool.{Bool, true, false, not}
 use Prim.Native.Nat.{ℕ, _≤_}
 use lib.Dec.{T}
 use Rattle.laws.specs.Bools.{_⊕_, all, _⇒_, _≐_, law, right}
@@ -10,11 +10,11 @@ use Rattle.scene.specs.Faces.{Corner, Vertex, FaceOf}
 use Rattle.scene.specs.declared.Row.{Row}
 use Rattle.scene.specs.declared.Face.{Face}
 use Rattle.orient.specs.Rules.{rules}
-use Rattle.orient.specs.Signs.{Four, Six, Upto, mixed, ne-sym}
+use Rattle.orient.specs.Signs.{Upto, mixed, ne-sym}
 use Rattle.orient.specs.Terms.{positiveAt}
 use Rattle.orient.specs.Weighted.{Weighted}
 use Rattle.pierce.specs.Beside.{Beside, in-scene, apart}
-use Rattle.pierce.specs.Five.{hits, any-helper}
+use Rattle.pierce.specs.Five.{any-helper}
 use Rattle.pierce.specs.Formula.{counts, sidesCount, formula, pierced}
 use Rattle.pierce.specs.Scene.{scene-five}
 use Rattle.sides.specs.Sides.{above}

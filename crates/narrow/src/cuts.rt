@@ -5,7 +5,7 @@ ghost use Rattle.scene.specs.Limits.{limits};
 ghost use Rattle.scene.specs.Arrays.{faceIn, FaceWithin, FacesWithin};
 ghost use Rattle.sides.specs.Tables.{maskIn, wordSet, masksFrom};
 ghost use Rattle.narrow.specs.Cover.{cutIn};
-use pierce::faces::Mask;
+use face_masks::Mask;
 use scene::Corners;
 use scene::Face;
 use scene::Scene;

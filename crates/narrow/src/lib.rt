@@ -6,9 +6,9 @@ ghost use Rattle.scene.specs.Limits.{limits, mostPoints};
 ghost use Rattle.scene.specs.Arrays.{rowIn, faceIn, AllWithin, FacesWithin};
 ghost use Rattle.orient.specs.Weighted.{Weighted};
 ghost use Rattle.pierce.specs.Beside.{BesideAll};
-ghost use Rattle.pierce.specs.Faces.{maskAgainst, valueOf};
+ghost use Rattle.face_masks.specs.Faces.{valueOf};
+ghost use Rattle.pierce.specs.Against.{maskAgainst};
 ghost use Rattle.sides.specs.Candidates.{AtEach};
-ghost use Rattle.sides.specs.Planes.{joinOf};
 ghost use Rattle.sides.specs.Sides.{sidesOf};
 ghost use Rattle.sides.specs.Tables.{maskIn};
 ghost use Rattle.narrow.specs.Cover.{covers, bothOf};
@@ -16,8 +16,8 @@ ghost use Rattle.narrow.specs.Narrow.{Numbered, narrowedOf, Around};
 use crate::cuts::Cuts;
 use crate::cuts::cut_at;
 use engine::Engine;
-use pierce::faces::Mask;
-use pierce::faces::WORD;
+use face_masks::Mask;
+use face_masks::WORD;
 use scene::Corners;
 use scene::Rows;
 use sides::crossed;
@@ -46,9 +46,11 @@ pub fn mask(
     count: usize,
 ) -> Mask
     requires rows { ⌜ AllWithin limits (rowIn (now rows)) × FacesWithin limits (faceIn (now corners)) ⌝ }
-    requires points { ⌜ (6 ≤ n) × (n ≤ mostPoints limits) × (u ≤ mostPoints limits) × (v ≤ mostPoints limits) × (first + count ≤ 2 * limits .mostFaces) × (count ≤ limits .mostFaces) ⌝ }
+    requires points { ⌜ (6 ≤ n) × (n ≤ mostPoints limits) × (u ≤ mostPoints limits) × (v ≤ mostPoints limits)
+        × (first + count ≤ 2 * limits .mostFaces) × (count ≤ limits .mostFaces) ⌝ }
     requires edge { ⌜ Weighted n (rowIn (now rows)) × BesideAll n u v (faceIn (now corners)) first count ⌝ }
-    requires sides { ⌜ (maskIn (now words) u ≡ sidesOf (rowIn (now rows)) (faceIn (now corners)) first count u) × (maskIn (now words) v ≡ sidesOf (rowIn (now rows)) (faceIn (now corners)) first count v) ⌝ }
+    requires sides { ⌜ (maskIn (now words) u ≡ sidesOf (rowIn (now rows)) (faceIn (now corners)) first count u)
+        × (maskIn (now words) v ≡ sidesOf (rowIn (now rows)) (faceIn (now corners)) first count v) ⌝ }
     requires around { ⌜ Around n (rowIn (now rows)) (faceIn (now corners)) (maskIn (now own)) (maskIn (now cuts)) u v first count ⌝ }
     ensures { λ r. ⌜ valueOf r ≡ maskAgainst n (rowIn (now (rows .entry))) (faceIn (now (corners .entry))) u v first count ⌝ }
 {

@@ -4,7 +4,7 @@ ghost use Prim.Native.Nat.{_+_, _*_, _≤_, _<_};
 ghost use Rattle.scene.specs.Limits.{limits, mostPoints};
 ghost use Rattle.scene.specs.Arrays.{faceIn, FaceWithin, FacesWithin};
 ghost use Rattle.narrow.specs.Marks.{marked, faceMarked, facesMarked, ownMarked};
-use pierce::faces::WORD;
+use face_masks::WORD;
 use scene::Corners;
 use scene::Face;
 use scene::decode::face_in;

@@ -4,26 +4,24 @@ use mathlib.Core.Path.{_≡_, refl, sym, ap, ap₂, _∙_}
 use mathlib.Core.List.{List, _++_}
 use mathlib.Core.Bool.{Bool, true, false, not, cond, _&&_}
 use native.Mathlib.Omega.{arith}
-use native.Mathlib.Decide.{decLt}
 use borrow.Author.Tests.{leb-true, le-leb, lt-leb, not-true, not-false}
 use lib.ListN.{length, take, drop}
 use lib.Dec.{leb}
-use Rattle.scene.specs.Limits.{limits, within}
 use Rattle.scene.specs.declared.Refusal as scene
 use Rattle.scene.specs.declared.Refusal.the-variants.{Counts, Buffer}
 use Rattle.judge.specs.Judge.{judged}
 use Rattle.judge.specs.declared.Judged.{Judged}
 use Rattle.judge.specs.declared.Judged.the-variants as judge
-use Rattle.items.specs.Numbers.{largest, atMost}
-use Rattle.items.specs.Laws.{at-most-low, at-most-high}
-use Rattle.texts.specs.Form.{verticesOf, facesOf, formOf}
+use Rattle.texts.specs.Form.{formOf}
+use Rattle.texts.specs.Head.{Headed}
 use Rattle.texts.specs.Placed.{form-placed}
+use Rattle.texts.specs.declared.Head.{Head}
 use Rattle.texts.specs.declared.Reading.{Reading}
 use Rattle.texts.specs.declared.Reading.the-variants as reading
 use Rattle.solids.specs.Fitted.{sceneOf}
-use Rattle.solids.specs.Bytes.{Small}
 use Rattle.solids.specs.declared.points.Point.{Point}
 use Rattle.objects.specs.Made.{afterText, afterJudge, countsFit, placed, judgedOf, countedOf, madeOf, leftBy, Makes}
+use Rattle.objects.specs.Counts.{headFits, told-fits}
 use Rattle.objects.specs.declared.Fault.the-variants.{Outside, Sides, OfScene}
 use Rattle.objects.specs.declared.Made.{Made}
 use Rattle.objects.specs.declared.Made.the-variants.{Scene, Refused}
@@ -70,7 +68,9 @@ module _ (t : List ℕ) (room : ℕ) {o : Judged} (p : o ≡ judged t) (s out : 
 module _ (s out : List ℕ) where
   pub room-lacks : length out < length s → Makes (placed s (length out)) s out out (Refused (OfScene (Buffer (length s))))
   unfolding placed
-  room-lacks h = refuses s out refl (sym (ap (λ (b : Bool). cond b (Scene (length s)) (Refused (OfScene (Buffer (length s))))) (lt-leb (length s) (length out) h)))
+  room-lacks h =
+      refuses s out refl
+      (sym (ap (λ (b : Bool). cond b (Scene (length s)) (Refused (OfScene (Buffer (length s))))) (lt-leb (length s) (length out) h)))
 
   pub room-serves : {out′ : List ℕ} → length s ≤ length out → out′ ≡ s ++ drop (length s) out → Makes (placed s (length out)) s out out′ (Scene (length s))
   unfolding placed
@@ -82,58 +82,32 @@ module _ (s out : List ℕ) where
 
 -- ---- the counts
 
-pub fits-told : (low high n : ℕ) {c : ℕ} {o : Bool} → high < largest → c ≡ atMost largest n → o ≡ within low high c → o ≡ within low high n
-unfolding within
-fits-told low high n {c} h e p = p ∙ by (decLt largest n)
-  where
-    by : Dec (largest < n) → within low high c ≡ within low high n
-    by (yes k) =
-        let f : c ≡ largest = e ∙ at-most-high largest n (omega arith) in
-        (ap (λ (b : Bool). leb low c && b) (lt-leb c high (omega arith)) ∙ none (leb low c))
-        ∙ sym (ap (λ (b : Bool). leb low n && b) (lt-leb n high (omega arith)) ∙ none (leb low n))
-      where
-        none : (b : Bool) → (b && false) ≡ false
-        none true = refl
-        none false = refl
-    by (no k) = ap (within low high) (e ∙ at-most-low largest n (omega arith))
+module _ (a b : List ℕ) (far : Point) (room : ℕ) (s out : List ℕ) (h : Head) (d : Headed a h) {o : Bool} (told : o ≡ headFits h) where
+  p : o ≡ countsFit a
+  p = told ∙ told-fits a h d
 
-and-first : (a b : Bool) → (a && b) ≡ true → a ≡ true
-and-first true b h = refl
-and-first false b h = h
-
-and-last : (a b : Bool) → (a && b) ≡ true → b ≡ true
-and-last true b h = h
-and-last false b h = cc
-
-pub fits-small : (s : List ℕ) {o : Bool} → o ≡ countsFit s → not o ≡ false → Small s
-unfolding countsFit within
-fits-small s {o} p q =
-    let h = sym p ∙ not-false o q in
-    let fewest = within (limits .leastVertices) (limits .mostVertices) (verticesOf s) in
-    let lowest = within (limits .leastFaces) (limits .mostFaces) (facesOf s) in
-    let v = and-last (leb (limits .leastVertices) (verticesOf s)) (leb (verticesOf s) (limits .mostVertices)) (and-first fewest lowest h) in
-    let f = and-last (leb (limits .leastFaces) (facesOf s)) (leb (facesOf s) (limits .mostFaces)) (and-last fewest lowest h) in
-    record { vertices = leb-true (verticesOf s) (limits .mostVertices) v; faces = leb-true (facesOf s) (limits .mostFaces) f }
-
-module _ (a b : List ℕ) (far : Point) (room : ℕ) (s out : List ℕ) {o : Bool} (p : o ≡ countsFit a) where
   pub first-unfit : not o ≡ true → Makes (countedOf a b far room) s out out (Refused (OfScene Counts))
   unfolding countedOf
   first-unfit q =
       refuses s out refl (ap (λ (t : Bool). cond (t && countsFit b) (judgedOf (sceneOf a b far) room) (Refused (OfScene Counts))) (sym (not-true o q) ∙ p))
 
-  module _ (q : not o ≡ false) {t : Bool} (e : t ≡ countsFit b) where
+  module _ (q : not o ≡ false) (g : Head) (f : Headed b g) {t : Bool} (told-b : t ≡ headFits g) where
+    e : t ≡ countsFit b
+    e = told-b ∙ told-fits b g f
+
     pub second-unfit : not t ≡ true → Makes (countedOf a b far room) s out out (Refused (OfScene Counts))
     unfolding countedOf
-    second-unfit f =
+    second-unfit r =
         refuses s out refl
-        (ap₂ (λ (x y : Bool). cond (x && y) (judgedOf (sceneOf a b far) room) (Refused (OfScene Counts))) (sym (not-false o q) ∙ p) (sym (not-true t f) ∙ e))
+        (ap₂ (λ (x y : Bool). cond (x && y) (judgedOf (sceneOf a b far) room) (Refused (OfScene Counts))) (sym (not-false o q) ∙ p) (sym (not-true t r) ∙ e))
 
     pub both-fit : {l : List ℕ} {r : Made} {out′ : List ℕ} → not t ≡ false → l ≡ sceneOf a b far → Makes (judgedOf l room) l out out′ r →
         Makes (countedOf a b far room) (sceneOf a b far) out out′ r
     unfolding countedOf
-    both-fit {l} {r} {out′} f d g =
-        makes-as (ap₂ (λ (x y : Bool). cond (x && y) (judgedOf (sceneOf a b far) room) (Refused (OfScene Counts))) (sym (not-false o q) ∙ p) (sym (not-false t f) ∙ e))
-        (rw d at g)
+    both-fit {l} {r} {out′} n m x =
+        makes-as
+        (ap₂ (λ (x y : Bool). cond (x && y) (judgedOf (sceneOf a b far) room) (Refused (OfScene Counts))) (sym (not-false o q) ∙ p) (sym (not-false t n) ∙ e))
+        (rw m at x)
 
 -- ---- the scene's own bytes, and an offset in the first text
 

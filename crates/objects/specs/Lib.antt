@@ -1,3 +1,4 @@
 pub mod Made
+pub mod Counts
 pub mod Laws
 pub mod Exact

@@ -1,10 +1,9 @@
 // Two object texts and a far point made into a scene in a lent buffer.
 ghost use mathlib.Core.Path.{_≡_};
 ghost use lib.ListN.{length};
-ghost use Rattle.scene.specs.Limits.{limits, within};
-ghost use Rattle.texts.specs.Form.{verticesOf, facesOf};
 ghost use Rattle.solids.specs.Fitted.{sceneOf};
-ghost use Rattle.objects.specs.Made.{numberOf, placeOf, countsFit, placed, judgedOf, countedOf, secondOf, madeOf, Makes};
+ghost use Rattle.objects.specs.Made.{numberOf, placeOf, placed, judgedOf, countedOf, secondOf, madeOf, Makes};
+ghost use Rattle.objects.specs.Counts.{headFits};
 use judge::Judged;
 use scene::Refusal;
 use scene::Scene;
@@ -12,9 +11,10 @@ use scene::is_within;
 use scene::write::copy;
 use solids::points::Point;
 use solids::whole::put_scene;
+use texts::Head;
 use texts::Reading;
-use texts::count_at;
 use texts::form;
+use texts::head_of;
 
 // Why there is no scene: an item outside the form, a face that is not a triangle, each with its offset; or a refusal of the scene's.
 pub enum Fault {
@@ -49,29 +49,14 @@ pub fn place(f: Fault) -> usize
     }
 }
 
-fn vertices_fit(text: &[u8]) -> bool
-    ensures { λ r. ⌜ r ≡ within (limits .leastVertices) (limits .mostVertices) (verticesOf (now (text .entry))) ⌝ }
+// The counts are within the limits.
+fn counts_fit(h: Head) -> bool
+    ensures { λ r. ⌜ r ≡ headFits h ⌝ }
 {
-    is_within(
-        Scene::LEAST_VERTICES,
-        Scene::MOST_VERTICES,
-        count_at(text, 1),
-    )
-}
-
-fn faces_fit(text: &[u8]) -> bool
-    ensures { λ r. ⌜ r ≡ within (limits .leastFaces) (limits .mostFaces) (facesOf (now (text .entry))) ⌝ }
-{
-    is_within(Scene::LEAST_FACES, Scene::MOST_FACES, count_at(text, 2))
-}
-
-fn counts_fit(text: &[u8]) -> bool
-    ensures { λ r. ⌜ r ≡ countsFit (now (text .entry)) ⌝ }
-{
-    if !vertices_fit(text) {
+    if !is_within(Scene::LEAST_VERTICES, Scene::MOST_VERTICES, h.vertices) {
         return false;
     }
-    faces_fit(text)
+    is_within(Scene::LEAST_FACES, Scene::MOST_FACES, h.faces)
 }
 
 // The scene s in the lent buffer, where there is room.
@@ -97,21 +82,25 @@ fn judged(s: &[u8], out: &mut [u8]) -> Made
 
 // Two texts of the form. The scene is made in bytes of its own, so that a refusal leaves the lent ones as they are.
 fn counted(a: &[u8], b: &[u8], far: Point, out: &mut [u8]) -> Made
-    ensures { λ r. ⌜ Makes (countedOf (now (a .entry)) (now (b .entry)) far (length (now (out .entry)))) (sceneOf (now (a .entry)) (now (b .entry)) far) (now (out .entry)) (now (out .exit)) r ⌝ }
+    ensures { λ r. ⌜ Makes (countedOf (now (a .entry)) (now (b .entry)) far (length (now (out .entry))))
+        (sceneOf (now (a .entry)) (now (b .entry)) far) (now (out .entry)) (now (out .exit)) r ⌝ }
 {
-    if !counts_fit(a) {
+    let h = head_of(a);
+    let g = head_of(b);
+    if !counts_fit(h) {
         return Made::Refused(Fault::OfScene(Refusal::Counts));
     }
-    if !counts_fit(b) {
+    if !counts_fit(g) {
         return Made::Refused(Fault::OfScene(Refusal::Counts));
     }
     let mut own = [0u8; Scene::LONGEST];
-    let n = put_scene(&mut own, a, b, far);
+    let n = put_scene(&mut own, a, h, b, g, far);
     judged(&own[..n], out)
 }
 
 fn second(a: &[u8], b: &[u8], far: Point, out: &mut [u8]) -> Made
-    ensures { λ r. ⌜ Makes (secondOf (now (a .entry)) (now (b .entry)) far (length (now (out .entry)))) (sceneOf (now (a .entry)) (now (b .entry)) far) (now (out .entry)) (now (out .exit)) r ⌝ }
+    ensures { λ r. ⌜ Makes (secondOf (now (a .entry)) (now (b .entry)) far (length (now (out .entry))))
+        (sceneOf (now (a .entry)) (now (b .entry)) far) (now (out .entry)) (now (out .exit)) r ⌝ }
 {
     match form(b) {
         Reading::At(_) => counted(a, b, far, out),
@@ -122,7 +111,8 @@ fn second(a: &[u8], b: &[u8], far: Point, out: &mut [u8]) -> Made
 
 // The scene of two texts and a far point, at the front of the lent buffer; or the first refusal, which leaves the buffer as it is.
 pub fn scene_of(a: &[u8], b: &[u8], far: Point, out: &mut [u8]) -> Made
-    ensures { λ r. ⌜ Makes (madeOf (now (a .entry)) (now (b .entry)) far (length (now (out .entry)))) (sceneOf (now (a .entry)) (now (b .entry)) far) (now (out .entry)) (now (out .exit)) r ⌝ }
+    ensures { λ r. ⌜ Makes (madeOf (now (a .entry)) (now (b .entry)) far (length (now (out .entry))))
+        (sceneOf (now (a .entry)) (now (b .entry)) far) (now (out .entry)) (now (out .exit)) r ⌝ }
 {
     match form(a) {
         Reading::At(_) => second(a, b, far, out),

@@ -7,8 +7,10 @@ use objects::Made;
 use scene::Scene;
 use solids::points::Point;
 
+const ROOM: usize = 262144;
+
 // The longest text that is read: one byte less than there is room for, which tells that a file is longer.
-const MOST: usize = 65535;
+const MOST: usize = ROOM - 1;
 
 // Reading nothing tells a folder, which can be opened too, from a file.
 fn is_readable(file: i32) -> bool {
@@ -58,11 +60,11 @@ fn write_scene(a: &[u8], b: &[u8], far: Point) {
 
 fn write_fitting(a: &[u8], b: &[u8], far: Point) {
     if a.len() > MOST {
-        say(b"off: the first file is longer than 65535 bytes\n");
+        say(b"off: the first file is longer than 262143 bytes\n");
         return;
     }
     if b.len() > MOST {
-        say(b"off: the second file is longer than 65535 bytes\n");
+        say(b"off: the second file is longer than 262143 bytes\n");
         return;
     }
     write_scene(a, b, far);
@@ -78,8 +80,8 @@ pub fn write_files(far: Point) {
     if second < 0 {
         return;
     }
-    let mut a = io::large_buffer();
-    let mut b = io::large_buffer();
+    let mut a = [0u8; ROOM];
+    let mut b = [0u8; ROOM];
     let m = read(first, &mut a);
     let n = read(second, &mut b);
     write_fitting(&a[..m], &b[..n], far);

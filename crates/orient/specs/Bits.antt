@@ -1,8 +1,8 @@
 -- What the code reads back of the numbers that it holds as bits, and what its tests of a sign say. Assumes nothing.
 use mathlib.Core.Path.{_≡_, refl, sym, subst, ap, _∙_}
 use mathlib.Core.Bool.{Bool}
-use Prim.Native.Nat.{ℕ, zero, suc, _*_, _^_, _≤_, _<_}
-use native.Mathlib.Nat.{lt-of-le-of-lt}
+use Prim.Native.Nat.{ℕ, zero, suc, _+_, _*_, _^_, _≤_, _<_}
+use native.Mathlib.Nat.{le-trans, lt-of-le-of-lt, add-le-add, mul-le-mul}
 use native.Mathlib.Omega.{arith}
 use borrow.Author.Tests.{lt-ltb}
 use lib.Dec.{lit<, lit≤}
@@ -11,15 +11,15 @@ use lib.Signed.{mag, ltZ}
 use mir.Syntax.{w64}
 use mir.Val.{SFits, toZ, ofZ}
 use mir.Facts.{toZ-ofZ}
-use Rattle.laws.specs.Size.{exactly, _⊗_, _⊖_, _⊕_, reread, reads, Held, held, formed, times, plus, called}
+use Rattle.laws.specs.Size.{exactly, _⊗_, _⊖_, _⊕_, reread, reads, Held, held, formed, kept, times, plus, called}
 use Rattle.laws.specs.Sign.{Sign, sign, _or_}
 use Rattle.scene.specs.Limits.{limits, mostPoints}
 use Rattle.scene.specs.declared.Row.{Row}
-use Rattle.orient.specs.Terms.{factor, isPlus}
+use Rattle.orient.specs.Terms.{factor, c0, isPlus, tied, orientation, pointAt, positiveAt}
 use Rattle.orient.specs.Minors.{crossOf, threeOf, meetOf}
 use Rattle.orient.specs.Laws.{factor-weight}
 use Rattle.orient.specs.Columns.{partOf}
-use Rattle.orient.specs.Formed.{mostFormed, crossSize, threeSize, meetSize}
+use Rattle.orient.specs.Formed.{mostFormed, timesSize, sumSize, crossSize, threeSize, meetSize}
 use Rattle.orient.specs.Sizes.{Within, AreWithin, partSize, part-size, part-fits, factor-size}
 use Rattle.orient.specs.declared.Line.{Line}
 use Rattle.orient.specs.declared.Point.{Point}
@@ -53,7 +53,8 @@ module _ {a b c d : ℤ} (p : SFits w64 a) (q : SFits w64 b) (s : SFits w64 c) (
 abbrev SixFit : ℤ → ℤ → ℤ → ℤ → ℤ → ℤ → Type 0
 SixFit a b c d e f = SFits w64 a × SFits w64 b × SFits w64 c × SFits w64 d × SFits w64 e × SFits w64 f
 
-six-read : {X : Type 0} {a b c d e f : ℤ} (F : ℤ → ℤ → ℤ → ℤ → ℤ → ℤ → X) → SixFit a b c d e f → F (reread a) (reread b) (reread c) (reread d) (reread e) (reread f) ≡ F a b c d e f
+six-read : {X : Type 0} {a b c d e f : ℤ} (F : ℤ → ℤ → ℤ → ℤ → ℤ → ℤ → X) → SixFit a b c d e f →
+    F (reread a) (reread b) (reread c) (reread d) (reread e) (reread f) ≡ F a b c d e f
 six-read F s i = F (read (s .0) i) (read (s .1) i) (read (s .2) i) (read (s .3) i) (read (s .4) i) (read (s .5) i)
 
 pub record LineFits (l : Line) : Type 0 where
@@ -73,7 +74,8 @@ Gives r a b c d e f = r ≡ threeOf (reread a) (reread b) (reread c) (reread d) 
 three-ask : {a b c d e f : ℤ} → SixFit a b c d e f → threeSize a b c d e f ≤ mostFormed → Asks a b c d e f
 three-ask six h = subst (λ (n : ℕ). n ≤ mostFormed) (sym (six-read threeSize six)) h
 
-three-held : {r a b c d e f : ℤ} → SixFit a b c d e f → threeSize a b c d e f ≤ mostFormed → Gives r a b c d e f → Held (threeSize a b c d e f) r (threeOf a b c d e f)
+three-held : {r a b c d e f : ℤ} → SixFit a b c d e f → threeSize a b c d e f ≤ mostFormed → Gives r a b c d e f →
+    Held (threeSize a b c d e f) r (threeOf a b c d e f)
 three-held {a = a} {b = b} {c = c} {d = d} {e = e} {f = f} six h g =
     formed (g ∙ six-read threeOf six) (exactly a ⊗ exactly b ⊖ exactly c ⊗ exactly d ⊕ exactly e ⊗ exactly f) (room h)
 
@@ -91,7 +93,8 @@ module _ {l m : Line} (p : LineFits l) (q : LineFits m) (h : meetSize l m ≤ mo
   pub ask-two : Asks (l .yz) (m .xw) (l .yw) (m .xz) (l .zw) (m .xy)
   ask-two = three-ask two (omega arith)
 
-  pub met : {r s : ℤ} → Gives r (l .xy) (m .zw) (l .xz) (m .yw) (l .xw) (m .yz) → Gives s (l .yz) (m .xw) (l .yw) (m .xz) (l .zw) (m .xy) → Held (meetSize l m) (reread r +ℤ reread s) (meetOf l m)
+  pub met : {r s : ℤ} → Gives r (l .xy) (m .zw) (l .xz) (m .yw) (l .xw) (m .yz) → Gives s (l .yz) (m .xw) (l .yw) (m .xz) (l .zw) (m .xy) →
+      Held (meetSize l m) (reread r +ℤ reread s) (meetOf l m)
   met g k = plus (three-held one (omega arith) g) (three-held two (omega arith) k) (room h)
 
 -- ---- the factor, by the test of the weight's bits
@@ -102,23 +105,43 @@ factor-zero fits z = ap factor (sym (read fits) ∙ ap (toZ w64) z)
 pub factor-other : {w : ℤ} → (ofZ w64 w ≡ 0 → ⊥) → factor w ≡ w
 factor-other {w} h = factor-weight w (λ e. h (ap (ofZ w64) e))
 
--- ---- the shift of a point, from what `factor` gave
+-- ---- a product that `times` gave, and a sum that `sum` gave, of numbers that locals hold
 
-module _ {p : Point} {r : ℤ} (v : Within limits p) (e : r ≡ factor (reread (p .w))) where
-  number : Held (mostPoints limits) (p .n) (p .n)
+module _ {A B : ℕ} {u v a b : ℤ} (p : Held A u a) (q : Held B v b) where
+  pub times-ask : A * B ≤ mostFormed → timesSize (reread u) (reread v) ≤ mostFormed
+  times-ask h = rw (kept p, kept q) (le-trans (mul-le-mul (p .size) (q .size)) h)
+
+  pub multiplied : A * B ≤ mostFormed → {r : ℤ} → r ≡ reread u *ℤ reread v → Held (A * B) r (a *ℤ b)
+  multiplied h e = let t = times p q (room h) in record { same = e ∙ t .same; size = t .size; fits = t .fits }
+
+  module _ {C : ℕ} {w c : ℤ} (t : Held C w c) where
+    pub sum-ask : A + B + C ≤ mostFormed → sumSize (reread u) (reread v) (reread w) ≤ mostFormed
+    sum-ask h = rw (kept p, kept q, kept t) (le-trans (add-le-add (add-le-add (p .size) (q .size)) (t .size)) h)
+
+    pub summed : {r : ℤ} → mag r < 2 ^ 63 → r ≡ reread u +ℤ reread v +ℤ reread w → reread r ≡ a +ℤ b +ℤ c
+    summed ok e = called ok (e ∙ (λ i. kept p i +ℤ kept q i +ℤ kept t i))
+
+-- ---- the shift of a point, from what `factor` and `times` gave
+
+module _ {p : Point} (v : Within limits p) where
+  pub number : Held (mostPoints limits) (p .n) (p .n)
   number = held (v .n) (lit< tt)
 
-  abbrev by-number : ℤ → ℤ
-  by-number z = reread z *ℤ reread (p .n)
+  module _ {r : ℤ} (e : r ≡ factor (reread (p .w))) where
+    pub factor-held : Held (limits .mostWeight) r (factor (p .w))
+    factor-held = formed (e ∙ ap factor (reads (v .w) (lit< tt))) (factor-size (lit≤ tt) (v .w)) (lit< tt)
 
-  pub shift1 : Held (limits .mostWeight * mostPoints limits) (by-number r) (factor (p .w) *ℤ p .n)
-  shift1 = times (formed (e ∙ ap factor (reads (v .w) (lit< tt))) (factor-size (lit≤ tt) (v .w)) (lit< tt)) number (lit< tt)
+    module _ {s : ℤ} (es : s ≡ reread r *ℤ reread (p .n)) where
+      pub shift1 : Held (limits .mostWeight * mostPoints limits) s (factor (p .w) *ℤ p .n)
+      shift1 = multiplied factor-held number (lit≤ tt) es
 
-  pub shift2 : Held (limits .mostWeight * mostPoints limits * mostPoints limits) (by-number (by-number r)) (factor (p .w) *ℤ p .n *ℤ p .n)
-  shift2 = times shift1 number (lit< tt)
+      module _ {t : ℤ} (et : t ≡ reread s *ℤ reread (p .n)) where
+        pub shift2 : Held (limits .mostWeight * mostPoints limits * mostPoints limits) t (factor (p .w) *ℤ p .n *ℤ p .n)
+        shift2 = multiplied shift1 number (lit≤ tt) et
 
-  pub shift3 : Held (limits .mostWeight * mostPoints limits * mostPoints limits * mostPoints limits) (by-number (by-number (by-number r))) (factor (p .w) *ℤ p .n *ℤ p .n *ℤ p .n)
-  shift3 = times shift2 number (lit< tt)
+        pub shift3 : {u : ℤ} → u ≡ reread t *ℤ reread (p .n) →
+            Held (limits .mostWeight * mostPoints limits * mostPoints limits * mostPoints limits) u (factor (p .w) *ℤ p .n *ℤ p .n *ℤ p .n)
+        shift3 = multiplied shift2 number (lit≤ tt)
 
 -- ---- a test of two numbers, by their bits
 
@@ -127,7 +150,8 @@ less-read p q e = sym e ∙ (λ i. ltZ (read p i) (read q i))
 
 -- ---- a determinant that `part` gave
 
-pub part-held : {r : ℤ} {a b c d : Point} (sx sy sz : Bool) → AreWithin limits a b c d → r ≡ partOf a b c d sx sy sz → Held (partSize limits sx sy sz) r (partOf a b c d sx sy sz)
+pub part-held : {r : ℤ} {a b c d : Point} (sx sy sz : Bool) → AreWithin limits a b c d → r ≡ partOf a b c d sx sy sz →
+    Held (partSize limits sx sy sz) r (partOf a b c d sx sy sz)
 part-held sx sy sz v e = formed e (part-size limits (lit≤ tt) v sx sy sz) (room (part-fits sx sy sz))
 
 -- ---- the tests of a sign
@@ -144,3 +168,9 @@ decides {r} {t} rest ok e h = ap (ltZ (pos 0)) (called ok e) ∙ lead-at t rest 
 -- its bits are 0: the sign is said by what comes after
 pub passes-on : {r t : ℤ} (rest : Sign) → mag r < 2 ^ 63 → r ≡ t → ofZ w64 r ≡ 0 → sign t or rest ≡ rest
 passes-on {r} {t} rest ok e z = rw (sym (called ok e), z)
+
+-- so the tie says that of four points whose c0 is zero
+pub tie-tells : (row : ℕ → Row) (a b c d : ℕ) → c0 (pointAt row a) (pointAt row b) (pointAt row c) (pointAt row d) ≡ pos 0 → {r : Bool} →
+    r ≡ isPlus (tied (pointAt row a) (pointAt row b) (pointAt row c) (pointAt row d)) → r ≡ positiveAt row a b c d
+unfolding positiveAt orientation
+tie-tells row a b c d z e = e ∙ sym (rw z)

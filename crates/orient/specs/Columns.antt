@@ -12,15 +12,15 @@ use Rattle.orient.specs.Terms.{Powers, Numbered, numbered, terms, c0, c1
 use Rattle.orient.specs.Variables.{P, Q, S, U, points, det, t-of}
 use Rattle.orient.specs.declared.Point.{Point}
 
-module _ {R : Type 0} (_*_ : R → R → R) where
-  infixl 7 _*_
+module _ {R : Type 0} (_times_ : R → R → R) where
+  infixl 7 _times_
   -- the row with the shift k·i, k·i², k·i³ in place of the coordinates that are marked
   abbrev pub marked : Bool → Bool → Bool → Numbered R → Entries R
   marked sx sy sz p =
       record {
-        x = cond sx (p .k * p .i) (p .x);
-        y = cond sy (p .k * p .i * p .i) (p .y);
-        z = cond sz (p .k * p .i * p .i * p .i) (p .z);
+        x = cond sx (p .k times p .i) (p .x);
+        y = cond sy (p .k times p .i times p .i) (p .y);
+        z = cond sz (p .k times p .i times p .i times p .i) (p .z);
         w = p .w;
       }
 

@@ -1,5 +1,5 @@
--- The determinant of four rows by its 24 signed products, written once over any sum, difference and product: those of whole numbers, of
--- numbers with an infinitesimal part, or of expressions that a proof computes with. Assumes nothing.
+-- The determinant of four rows, along its first row, written once over any sum, difference and product: those of whole numbers, of numbers with an
+-- infinitesimal part, or of expressions that a proof computes with. Assumes nothing.
 use lib.IntN.{ℤ, _+ℤ_, _-ℤ_, _*ℤ_}
 use Rattle.scene.specs.declared.Row.{Row}
 
@@ -10,18 +10,20 @@ pub record Entries (R : Type 0) : Type 0 where
   pub z : R
   pub w : R
 
-module _ {R : Type 0} (_+_ _-_ _*_ : R → R → R) where
-  infixl 6 _+_ _-_
-  infixl 7 _*_
-  -- each product takes its columns in another order, with a minus where that order is odd
+module _ {R : Type 0} (_plus_ _minus_ _times_ : R → R → R) where
+  infixl 6 _plus_ _minus_
+  infixl 7 _times_
+  -- of three rows of three entries
+  abbrev det3 : (a b c p q r x y z : R) → R
+  det3 a b c p q r x y z = a times (q times z minus r times y) minus b times (p times z minus r times x) plus c times (p times y minus q times x)
+
+  -- each entry of the first row times the determinant of the other rows without its column, with a minus in every second column
   abbrev pub determinant : Entries R → Entries R → Entries R → Entries R → R
   determinant a b c d =
-      a .x * b .y * c .z * d .w - a .x * b .y * c .w * d .z - a .x * b .z * c .y * d .w + a .x * b .z * c .w * d .y
-      + a .x * b .w * c .y * d .z - a .x * b .w * c .z * d .y - a .y * b .x * c .z * d .w + a .y * b .x * c .w * d .z
-      + a .y * b .z * c .x * d .w - a .y * b .z * c .w * d .x - a .y * b .w * c .x * d .z + a .y * b .w * c .z * d .x
-      + a .z * b .x * c .y * d .w - a .z * b .x * c .w * d .y - a .z * b .y * c .x * d .w + a .z * b .y * c .w * d .x
-      + a .z * b .w * c .x * d .y - a .z * b .w * c .y * d .x - a .w * b .x * c .y * d .z + a .w * b .x * c .z * d .y
-      + a .w * b .y * c .x * d .z - a .w * b .y * c .z * d .x - a .w * b .z * c .x * d .y + a .w * b .z * c .y * d .x
+      a .x times det3 (b .y) (b .z) (b .w) (c .y) (c .z) (c .w) (d .y) (d .z) (d .w)
+      minus a .y times det3 (b .x) (b .z) (b .w) (c .x) (c .z) (c .w) (d .x) (d .z) (d .w)
+      plus a .z times det3 (b .x) (b .y) (b .w) (c .x) (c .y) (c .w) (d .x) (d .y) (d .w)
+      minus a .w times det3 (b .x) (b .y) (b .z) (c .x) (c .y) (c .z) (d .x) (d .y) (d .z)
 
 abbrev pub entries : Row → Entries ℤ
 entries r = record { x = r .x; y = r .y; z = r .z; w = r .w }

@@ -17,6 +17,12 @@ mostFormed = 35 * 10 ^ 17
 
 -- ---- what is formed, each product and sum by the sizes of its parts
 
+abbrev pub timesSize : ℤ → ℤ → ℕ
+timesSize a b = natAbs a * natAbs b
+
+abbrev pub sumSize : ℤ → ℤ → ℤ → ℕ
+sumSize a b c = natAbs a + natAbs b + natAbs c
+
 abbrev pub crossSize : ℤ → ℤ → ℤ → ℤ → ℕ
 crossSize a b c d = natAbs a * natAbs d + natAbs b * natAbs c
 

@@ -90,19 +90,19 @@ module _ (a b c d : Point) where
 
 -- ---- the last term
 
-module _ {R : Type 0} (_+_ _-_ _*_ : R → R → R) where
-  infixl 6 _+_ _-_
-  infixl 7 _*_
+module _ {R : Type 0} (_plus_ _minus_ _times_ : R → R → R) where
+  infixl 6 _plus_ _minus_
+  infixl 7 _times_
   -- the product of (later number - earlier number) over the six pairs
   abbrev pairs : R → R → R → R → R
-  pairs i j k l = (j - i) * (k - i) * (l - i) * (k - j) * (l - j) * (l - k)
+  pairs i j k l = (j minus i) times (k minus i) times (l minus i) times (k minus j) times (l minus j) times (l minus k)
 
   -- over the three pairs without l, and what stands for the pairs with l where the point l has weight 0
   abbrev pairs3 : R → R → R → R
-  pairs3 i j k = (j - i) * (k - i) * (k - j)
+  pairs3 i j k = (j minus i) times (k minus i) times (k minus j)
 
   abbrev outward : R → R → R → R → R
-  outward i j k l = (l - i) * (l - j) * (l - k) + i * j * k
+  outward i j k l = (l minus i) times (l minus j) times (l minus k) plus i times j times k
 
 unfoldable pub psi : ℤ → ℤ → ℤ → ℤ → ℤ
 psi i j k l = negℤ (pairs _+ℤ_ _-ℤ_ _*ℤ_ i j k l)
@@ -123,7 +123,7 @@ module _ (a b c d : Point) where
   -- the last term, by the factors of the shifts
   abbrev last : (i j k l : ℤ) → ℤ
   last i j k l =
-      powers (pos 0) (pos 1) _+ℤ_ _-ℤ_ _*ℤ_ (shift-by i (numbered a)) (shift-by j (numbered b)) (shift-by k (numbered c)) (shift-by l (numbered d)) .e3
+      powers (pos 0) _+ℤ_ _-ℤ_ _*ℤ_ (shift-by i (numbered a)) (shift-by j (numbered b)) (shift-by k (numbered c)) (shift-by l (numbered d)) .e3
 
   abbrev weights3 : Expr
   weights3 = P .w ⊗ Q .w ⊗ S .w

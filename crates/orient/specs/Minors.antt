@@ -1,4 +1,4 @@
--- The determinant as the code forms it, from the 2×2 minors of the first two rows and of the last two: the same as its 24 products.
+-- The determinant as the code forms it, from the 2×2 minors of the first two rows and of the last two: the same as along its first row.
 -- Assumes nothing.
 use mathlib.Core.Path.{_≡_}
 use mathlib.Core.List.{[], _∷_}
@@ -10,14 +10,14 @@ use Rattle.orient.specs.Determinant.{Entries, det4}
 use Rattle.orient.specs.Variables.{row, rows, det}
 use Rattle.orient.specs.declared.Line.{Line}
 
-module _ {R : Type 0} (_+_ _-_ _*_ : R → R → R) where
-  infixl 6 _+_ _-_
-  infixl 7 _*_
+module _ {R : Type 0} (_plus_ _minus_ _times_ : R → R → R) where
+  infixl 6 _plus_ _minus_
+  infixl 7 _times_
   abbrev cross-of : R → R → R → R → R
-  cross-of a b c d = a * d - b * c
+  cross-of a b c d = a times d minus b times c
 
   abbrev three-of : R → R → R → R → R → R → R
-  three-of a b c d e f = a * b - c * d + e * f
+  three-of a b c d e f = a times b minus c times d plus e times f
 
   abbrev by-minors : Entries R → Entries R → Entries R → Entries R → R
   by-minors a b c d =
@@ -25,7 +25,7 @@ module _ {R : Type 0} (_+_ _-_ _*_ : R → R → R) where
       (cross-of (a .x) (a .y) (b .x) (b .y)) (cross-of (c .z) (c .w) (d .z) (d .w))
       (cross-of (a .x) (a .z) (b .x) (b .z)) (cross-of (c .y) (c .w) (d .y) (d .w))
       (cross-of (a .x) (a .w) (b .x) (b .w)) (cross-of (c .y) (c .z) (d .y) (d .z))
-      + three-of
+      plus three-of
       (cross-of (a .y) (a .z) (b .y) (b .z)) (cross-of (c .x) (c .w) (d .x) (d .w))
       (cross-of (a .y) (a .w) (b .y) (b .w)) (cross-of (c .x) (c .z) (d .x) (d .z))
       (cross-of (a .z) (a .w) (b .z) (b .w)) (cross-of (c .x) (c .y) (d .x) (d .y))

@@ -64,7 +64,8 @@ module _ (C W n : ℕ) where
   powers1 = simp (square, cube) (omega arith)
 
   powers2 :
-      24 * (W * n * (W * n * n) * C * W) + 24 * (W * n * C * (W * n * n * n) * W) + 24 * (C * (W * n * n) * (W * n * n * n) * W) ≡ 24 * (C * W ^ 3 * (n ^ 5 + n ^ 4 + n ^ 3))
+      24 * (W * n * (W * n * n) * C * W) + 24 * (W * n * C * (W * n * n * n) * W) + 24 * (C * (W * n * n) * (W * n * n * n) * W)
+      ≡ 24 * (C * W ^ 3 * (n ^ 5 + n ^ 4 + n ^ 3))
   powers2 = simp (cube, fourth, fifth) (omega arith)
 
   powers3 : 24 * (W * n * (W * n * n) * (W * n * n * n) * W) ≡ 24 * (W ^ 4 * n ^ 6)
@@ -142,7 +143,8 @@ module _ (l : Limits) where
   module _ {a b c d : Point} (hw : 1 ≤ W) (v : AreWithin l a b c d) where
     pub part-within : (sx sy sz : Bool) → 1 ≤ C → DetWithin (partSize sx sy sz) (rowOf a sx sy sz) (rowOf b sx sy sz) (rowOf c sx sy sz) (rowOf d sx sy sz)
     part-within sx sy sz hc =
-        det-within _ _ _ _ (row-size sx sy sz hw (v .0)) (row-size sx sy sz hw (v .1)) (row-size sx sy sz hw (v .2)) (row-size sx sy sz hw (v .3)) (some-size sx sy sz hc hw)
+        det-within _ _ _ _ (row-size sx sy sz hw (v .0)) (row-size sx sy sz hw (v .1)) (row-size sx sy sz hw (v .2)) (row-size sx sy sz hw (v .3))
+        (some-size sx sy sz hc hw)
 
     pub part-size : (sx sy sz : Bool) → Small (partSize sx sy sz) (partOf a b c d sx sy sz)
     unfolding partOf
@@ -185,13 +187,15 @@ terms-formed v = (
 det-below : {j k : ℕ} {a b c d : Row} → j ≤ k → DetWithin j a b c d → DetWithin k a b c d
 det-below h v = omega arith
 
-pub part-formed : {a b c d : Point} (sx sy sz : Bool) → AreWithin limits a b c d → DetWithin mostFormed (rowOf a sx sy sz) (rowOf b sx sy sz) (rowOf c sx sy sz) (rowOf d sx sy sz)
+pub part-formed : {a b c d : Point} (sx sy sz : Bool) → AreWithin limits a b c d →
+    DetWithin mostFormed (rowOf a sx sy sz) (rowOf b sx sy sz) (rowOf c sx sy sz) (rowOf d sx sy sz)
 part-formed sx sy sz v = det-below (part-fits sx sy sz) (part-within limits (lit≤ tt) v sx sy sz (lit≤ tt))
 
 point-within : (l : Limits) (row : ℕ → Row) (i : ℕ) → RowWithin l (row i) → i ≤ mostPoints l → Within l (pointAt row i)
 point-within l row i h k = omega arith
 
-pub points-within : (l : Limits) (row : ℕ → Row) (a b c d : ℕ) → AllWithin l row × (a ≤ mostPoints l) × (b ≤ mostPoints l) × (c ≤ mostPoints l) × (d ≤ mostPoints l) →
+pub points-within : (l : Limits) (row : ℕ → Row) (a b c d : ℕ) →
+    AllWithin l row × (a ≤ mostPoints l) × (b ≤ mostPoints l) × (c ≤ mostPoints l) × (d ≤ mostPoints l) →
     AreWithin l (pointAt row a) (pointAt row b) (pointAt row c) (pointAt row d)
 points-within l row a b c d h = (
   point-within l row a (h .0 a) (h .1),

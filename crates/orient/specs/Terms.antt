@@ -9,7 +9,16 @@ use Rattle.orient.specs.Determinant.{Entries, determinant}
 use Rattle.orient.specs.declared.Point.{Point}
 use Rattle.orient.specs.declared.Terms.{Terms}
 
--- ---- the infinitesimal
+-- ---- the shift
+
+-- a row, the factor k of its shift, and its number i
+pub record Numbered (R : Type 0) : Type 0 where
+  pub x : R
+  pub y : R
+  pub z : R
+  pub w : R
+  pub k : R
+  pub i : R
 
 -- what stands at 1, e, e² and e³; a higher power is dropped, and the determinant of shifted rows has none (`Whole.by-powers`)
 pub record Powers (R : Type 0) : Type 0 where
@@ -22,58 +31,35 @@ pub record Powers (R : Type 0) : Type 0 where
 abbrev by-power : {R : Type 0} → (R → R → R) → Powers R → Powers R → Powers R
 by-power f p q = record { e0 = f (p .e0) (q .e0); e1 = f (p .e1) (q .e1); e2 = f (p .e2) (q .e2); e3 = f (p .e3) (q .e3) }
 
-module _ {R : Type 0} (_+_ _*_ : R → R → R) where
-  infixl 6 _+_
-  infixl 7 _*_
+module _ {R : Type 0} (nought : R) (_plus_ _minus_ _times_ : R → R → R) where
+  infixl 6 _plus_
+  infixl 7 _times_
   abbrev product : Powers R → Powers R → Powers R
   product p q =
       record {
-        e0 = p .e0 * q .e0;
-        e1 = p .e0 * q .e1 + p .e1 * q .e0;
-        e2 = p .e0 * q .e2 + p .e1 * q .e1 + p .e2 * q .e0;
-        e3 = p .e0 * q .e3 + p .e1 * q .e2 + p .e2 * q .e1 + p .e3 * q .e0;
+        e0 = p .e0 times q .e0;
+        e1 = p .e0 times q .e1 plus p .e1 times q .e0;
+        e2 = p .e0 times q .e2 plus p .e1 times q .e1 plus p .e2 times q .e0;
+        e3 = p .e0 times q .e3 plus p .e1 times q .e2 plus p .e2 times q .e1 plus p .e3 times q .e0;
       }
 
--- ---- the shift
+  -- x + e·s
+  abbrev moved : (x s : R) → Powers R
+  moved x s = record { e0 = x; e1 = s; e2 = nought; e3 = nought }
 
--- a row, the factor k of its shift, and its number i
-pub record Numbered (R : Type 0) : Type 0 where
-  pub x : R
-  pub y : R
-  pub z : R
-  pub w : R
-  pub k : R
-  pub i : R
-
-module _ {R : Type 0} (_+_ _*_ : R → R → R) where
-  infixl 6 _+_
-  infixl 7 _*_
   -- the row (x + e·k·i, y + e·k·i², z + e·k·i³, w)
-  abbrev shifted : R → Numbered R → Entries R
-  shifted e p =
+  abbrev shifted : Numbered R → Entries (Powers R)
+  shifted p =
       record {
-        x = p .x + e * p .k * p .i;
-        y = p .y + e * p .k * (p .i * p .i);
-        z = p .z + e * p .k * (p .i * p .i * p .i);
-        w = p .w;
+        x = moved (p .x) (p .k times p .i);
+        y = moved (p .y) (p .k times (p .i times p .i));
+        z = moved (p .z) (p .k times (p .i times p .i times p .i));
+        w = moved (p .w) nought;
       }
-
-module _ {R : Type 0} (zero one : R) (_+_ _-_ _*_ : R → R → R) where
-  abbrev infinitesimal : Powers R
-  infinitesimal = record { e0 = zero; e1 = one; e2 = zero; e3 = zero }
-
-  abbrev whole : R → Powers R
-  whole x = record { e0 = x; e1 = zero; e2 = zero; e3 = zero }
-
-  abbrev shifted-row : Numbered R → Entries (Powers R)
-  shifted-row p =
-      shifted (by-power _+_) (product _+_ _*_) infinitesimal
-      (record { x = whole (p .x); y = whole (p .y); z = whole (p .z); w = whole (p .w); k = whole (p .k); i = whole (p .i) })
 
   -- the determinant of four shifted rows
   abbrev pub powers : Numbered R → Numbered R → Numbered R → Numbered R → Powers R
-  powers a b c d =
-      determinant (by-power _+_) (by-power _-_) (product _+_ _*_) (shifted-row a) (shifted-row b) (shifted-row c) (shifted-row d)
+  powers a b c d = determinant (by-power _plus_) (by-power _minus_) product (shifted a) (shifted b) (shifted c) (shifted d)
 
 -- ---- the terms
 
@@ -87,7 +73,7 @@ abbrev pub numbered : Point → Numbered ℤ
 numbered p = record { x = p .x; y = p .y; z = p .z; w = p .w; k = factor (p .w); i = p .n }
 
 unfoldable pub terms : Point → Point → Point → Point → Powers ℤ
-terms a b c d = powers (pos 0) (pos 1) _+ℤ_ _-ℤ_ _*ℤ_ (numbered a) (numbered b) (numbered c) (numbered d)
+terms a b c d = powers (pos 0) _+ℤ_ _-ℤ_ _*ℤ_ (numbered a) (numbered b) (numbered c) (numbered d)
 
 abbrev pub c0 : Point → Point → Point → Point → ℤ
 c0 a b c d = terms a b c d .e0

@@ -50,4 +50,4 @@ points a b c d l = env (six a (six b (six c (six d l))))
 
 -- the terms of points of variables
 abbrev pub t-of : Numbered Expr → Numbered Expr → Numbered Expr → Numbered Expr → Powers Expr
-t-of = powers (lit (pos 0)) (lit (pos 1)) _⊕_ _⊖_ _⊗_
+t-of = powers (lit (pos 0)) _⊕_ _⊖_ _⊗_

@@ -14,16 +14,16 @@ use Rattle.orient.specs.Terms.{Numbered, numbered, terms, c0, c1, c2, c3
 use Rattle.orient.specs.Variables.{P, Q, S, U, points, det, t-of}
 use Rattle.orient.specs.declared.Point.{Point}
 
-module _ {R : Type 0} (_+_ _*_ : R → R → R) where
-  infixl 6 _+_
-  infixl 7 _*_
+module _ {R : Type 0} (_plus_ _times_ : R → R → R) where
+  infixl 6 _plus_
+  infixl 7 _times_
   -- the row (N·x + k·i, N·y + k·i², N·z + k·i³, w)
   abbrev multiple : R → Numbered R → Entries R
   multiple N p =
       record {
-        x = N * p .x + p .k * p .i;
-        y = N * p .y + p .k * (p .i * p .i);
-        z = N * p .z + p .k * (p .i * p .i * p .i);
+        x = N times p .x plus p .k times p .i;
+        y = N times p .y plus p .k times (p .i times p .i);
+        z = N times p .z plus p .k times (p .i times p .i times p .i);
         w = p .w;
       }
 

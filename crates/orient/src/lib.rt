@@ -2,6 +2,7 @@
 ghost use mathlib.Core.Path.{_≡_};
 ghost use mathlib.Core.Bool.{true, false, cond};
 ghost use Prim.Native.Nat.{_≤_};
+ghost use lib.IntN.{pos, _+ℤ_, _*ℤ_};
 ghost use Rattle.scene.specs.Limits.{limits, mostPoints};
 ghost use Rattle.scene.specs.Arrays.{rowIn, AllWithin};
 ghost use Rattle.orient.specs.Determinant.{det4};
@@ -10,7 +11,7 @@ ghost use Rattle.orient.specs.Terms.{factor, c0, c1, c2, c3, termsOf, te
 ghost use Rattle.orient.specs.Slide.{Tells};
 ghost use Rattle.orient.specs.Weighted.{Asked};
 ghost use Rattle.orient.specs.Columns.{rowOf, partOf};
-ghost use Rattle.orient.specs.Formed.{mostFormed, crossSize, threeSize, meetSize, JoinWithin, DetWithin};
+ghost use Rattle.orient.specs.Formed.{mostFormed, timesSize, sumSize, crossSize, threeSize, meetSize, JoinWithin, DetWithin};
 ghost use Rattle.orient.specs.Sizes.{Within, AreWithin};
 use scene::Row;
 use scene::Rows;
@@ -51,6 +52,21 @@ pub fn positive_at(rows: &Rows, a: usize, b: usize, c: usize, d: usize) -> bool
     ensures { λ r. ⌜ r ≡ positiveAt (rowIn (now (rows .entry))) a b c d ⌝ }
 {
     positive(
+        point_at(rows, a),
+        point_at(rows, b),
+        point_at(rows, c),
+        point_at(rows, d),
+    )
+}
+
+// The same where c0 is known to be zero.
+pub fn tied_at(rows: &Rows, a: usize, b: usize, c: usize, d: usize) -> bool
+    requires sizes { ⌜ AllWithin limits (rowIn (now rows)) × (a ≤ mostPoints limits) × (b ≤ mostPoints limits) × (c ≤ mostPoints limits) × (d ≤ mostPoints limits) ⌝ }
+    requires points { ⌜ Asked (rowIn (now rows)) a b c d ⌝ }
+    requires tied { ⌜ c0 (pointAt (rowIn (now rows)) a) (pointAt (rowIn (now rows)) b) (pointAt (rowIn (now rows)) c) (pointAt (rowIn (now rows)) d) ≡ pos 0 ⌝ }
+    ensures { λ r. ⌜ r ≡ positiveAt (rowIn (now (rows .entry))) a b c d ⌝ }
+{
+    tie(
         point_at(rows, a),
         point_at(rows, b),
         point_at(rows, c),
@@ -139,9 +155,11 @@ fn term1(a: Point, b: Point, c: Point, d: Point) -> i64
     requires { ⌜ AreWithin limits a b c d ⌝ }
     ensures { λ r. ⌜ r ≡ c1 a b c d ⌝ }
 {
-    part(a, b, c, d, true, false, false)
-        + part(a, b, c, d, false, true, false)
-        + part(a, b, c, d, false, false, true)
+    sum(
+        part(a, b, c, d, true, false, false),
+        part(a, b, c, d, false, true, false),
+        part(a, b, c, d, false, false, true),
+    )
 }
 
 // c2: it stands for two.
@@ -149,9 +167,11 @@ fn term2(a: Point, b: Point, c: Point, d: Point) -> i64
     requires { ⌜ AreWithin limits a b c d ⌝ }
     ensures { λ r. ⌜ r ≡ c2 a b c d ⌝ }
 {
-    part(a, b, c, d, true, true, false)
-        + part(a, b, c, d, true, false, true)
-        + part(a, b, c, d, false, true, true)
+    sum(
+        part(a, b, c, d, true, true, false),
+        part(a, b, c, d, true, false, true),
+        part(a, b, c, d, false, true, true),
+    )
 }
 
 // c3: it stands for all three.
@@ -199,9 +219,9 @@ fn shifted(p: Point, sx: bool, sy: bool, sz: bool) -> Row
     requires { ⌜ Within limits p ⌝ }
     ensures { λ r. ⌜ r ≡ rowOf p sx sy sz ⌝ }
 {
-    let s = factor(p.w) * p.n;
-    let t = s * p.n;
-    let u = t * p.n;
+    let s = times(factor(p.w), p.n);
+    let t = times(s, p.n);
+    let u = times(t, p.n);
     Row {
         x: pick(sx, s, p.x),
         y: pick(sy, t, p.y),
@@ -267,4 +287,20 @@ fn three(a: i64, b: i64, c: i64, d: i64, e: i64, f: i64) -> i64
     ensures { λ r. ⌜ r ≡ threeOf a b c d e f ⌝ }
 {
     a * b - c * d + e * f
+}
+
+// Two numbers multiplied.
+fn times(a: i64, b: i64) -> i64
+    requires { ⌜ timesSize a b ≤ mostFormed ⌝ }
+    ensures { λ r. ⌜ r ≡ a *ℤ b ⌝ }
+{
+    a * b
+}
+
+// Three numbers added.
+fn sum(a: i64, b: i64, c: i64) -> i64
+    requires { ⌜ sumSize a b c ≤ mostFormed ⌝ }
+    ensures { λ r. ⌜ r ≡ a +ℤ b +ℤ c ⌝ }
+{
+    a + b + c
 }

@@ -5,6 +5,6 @@ pub mod Beside
 pub mod Five
 pub mod Triangles
 pub mod Closed
-pub mod Faces
+pub mod Against
 pub mod Parity
 pub mod Scene

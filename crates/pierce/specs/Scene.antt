@@ -14,7 +14,8 @@ use Rattle.orient.specs.Signs.{Upto}
 use Rattle.pierce.specs.Formula.{pierced}
 use Rattle.pierce.specs.Helper.{Five}
 use Rattle.pierce.specs.Five.{hitsFace, by-five}
-use Rattle.pierce.specs.Faces.{maskAgainst, isOdd, enclosed}
+use Rattle.face_masks.specs.Faces.{isOdd}
+use Rattle.pierce.specs.Against.{maskAgainst, enclosed}
 use Rattle.pierce.specs.Parity.{Solid, Triangle, mask-parity, mask-route}
 
 module _ (n : ℕ) (row : ℕ → Row) (weighted : Weighted n row) where

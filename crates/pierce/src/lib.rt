@@ -1,4 +1,4 @@
-// Piercing by formula (13), and the set of a solid's faces that an edge pierces.
+// Piercing by formula (13).
 ghost use mathlib.Core.Path.{_≡_};
 ghost use Prim.Native.Nat.{_≤_};
 ghost use Rattle.scene.specs.Limits.{limits, mostPoints};
@@ -10,11 +10,10 @@ ghost use Rattle.pierce.specs.Beside.{Beside, Helped};
 use scene::Face;
 use scene::Rows;
 
-pub mod faces;
-
 // The edge from u to v pierces the face, in a scene of n points.
 pub fn pierces(rows: &Rows, n: usize, u: usize, v: usize, f: Face) -> bool
-    requires points { ⌜ AllWithin limits (rowIn (now rows)) × (6 ≤ n) × (n ≤ mostPoints limits) × (u ≤ mostPoints limits) × (v ≤ mostPoints limits) × FaceWithin limits f ⌝ }
+    requires points { ⌜ AllWithin limits (rowIn (now rows)) × (6 ≤ n) × (n ≤ mostPoints limits) × (u ≤ mostPoints limits) × (v ≤ mostPoints limits)
+        × FaceWithin limits f ⌝ }
     requires edge { ⌜ Weighted n (rowIn (now rows)) × Beside n u v f ⌝ }
     ensures { λ r. ⌜ r ≡ pierced n (rowIn (now (rows .entry))) u v f ⌝ }
 {
@@ -30,7 +29,8 @@ pub fn pierces(rows: &Rows, n: usize, u: usize, v: usize, f: Face) -> bool
 
 // An odd number of the face's three sides count.
 fn sides(rows: &Rows, u: usize, v: usize, h: usize, f: Face) -> bool
-    requires points { ⌜ AllWithin limits (rowIn (now rows)) × (u ≤ mostPoints limits) × (v ≤ mostPoints limits) × (h ≤ mostPoints limits) × FaceWithin limits f ⌝ }
+    requires points { ⌜ AllWithin limits (rowIn (now rows)) × (u ≤ mostPoints limits) × (v ≤ mostPoints limits) × (h ≤ mostPoints limits)
+        × FaceWithin limits f ⌝ }
     requires edge { ⌜ Helped (rowIn (now rows)) u v h f ⌝ }
     ensures { λ r. ⌜ r ≡ sidesCount (positiveAt (rowIn (now (rows .entry)))) u v h (f .p) (f .q) (f .r) ⌝ }
 {
@@ -48,7 +48,8 @@ fn sides(rows: &Rows, u: usize, v: usize, h: usize, f: Face) -> bool
 
 // The side from s to t counts, by H(s) and H(t).
 fn side(rows: &Rows, u: usize, v: usize, s: usize, t: usize, hs: bool, ht: bool) -> bool
-    requires sizes { ⌜ AllWithin limits (rowIn (now rows)) × (u ≤ mostPoints limits) × (v ≤ mostPoints limits) × (s ≤ mostPoints limits) × (t ≤ mostPoints limits) ⌝ }
+    requires sizes { ⌜ AllWithin limits (rowIn (now rows)) × (u ≤ mostPoints limits) × (v ≤ mostPoints limits) × (s ≤ mostPoints limits)
+        × (t ≤ mostPoints limits) ⌝ }
     requires points { ⌜ Asked (rowIn (now rows)) u v s t ⌝ }
     ensures { λ r. ⌜ r ≡ counts hs ht (positiveAt (rowIn (now (rows .entry))) u v s t) ⌝ }
 {

@@ -4,8 +4,8 @@ ghost use Prim.Native.Nat.{_≤_};
 ghost use Rattle.scene.specs.Limits.{limits, mostPoints};
 ghost use Rattle.scene.specs.Arrays.{rowIn, AllWithin, FaceWithin};
 ghost use Rattle.orient.specs.Weighted.{Weighted};
-ghost use Rattle.pierce.specs.Formula.{pierced};
 ghost use Rattle.pierce.specs.Beside.{Beside};
+ghost use Rattle.plain.specs.Five.{fiveSigns};
 use orient::positive_at;
 use scene::Face;
 use scene::Rows;
@@ -13,9 +13,9 @@ use scene::Rows;
 // The edge from u to v pierces the face, in a scene of n points: the ends lie on different sides of the face's plane, and the edge's signs against
 // the three sides, taken round the face, are all alike. No sign is asked for that cannot change the answer.
 pub fn pierces(rows: &Rows, n: usize, u: usize, v: usize, f: Face) -> bool
-    requires points { ⌜ AllWithin limits (rowIn (now rows)) × (6 ≤ n) × (n ≤ mostPoints limits) × (u ≤ mostPoints limits) × (v ≤ mostPoints limits) × FaceWithin limits f ⌝ }
+    requires points { ⌜ AllWithin limits (rowIn (now rows)) × (u ≤ mostPoints limits) × (v ≤ mostPoints limits) × FaceWithin limits f ⌝ }
     requires edge { ⌜ Weighted n (rowIn (now rows)) × Beside n u v f ⌝ }
-    ensures { λ r. ⌜ r ≡ pierced n (rowIn (now (rows .entry))) u v f ⌝ }
+    ensures { λ r. ⌜ r ≡ fiveSigns (rowIn (now (rows .entry))) u v f ⌝ }
 {
     let p = f.p;
     let q = f.q;

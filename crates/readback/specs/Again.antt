@@ -1,28 +1,27 @@
 -- A report reads back: from its text its lines are found again, and from them the verdict's word, the counts and the listing.
 -- Assumes nothing.
 use Prim.Native.Nat.{ℕ}
-use mathlib.Core.Path.{_≡_, refl, sym, ap, _∙_}
+use mathlib.Core.Path.{_≡_, refl, ap, _∙_}
 use mathlib.Core.Bool.{Bool, true, not, _&&_}
 use mathlib.Core.List.{List, [], _∷_, _++_, map}
 use lib.Dec.{eqb}
 use lib.ListN.{getD, drop}
 use Rattle.laws.specs.Lists.{Each, each-append}
 use Rattle.laws.specs.Decides.{and-iff, differ-iff}
-use Rattle.scene.specs.declared.Refusal.{Refusal}
 use Rattle.judge.specs.Judge.{judged}
 use Rattle.judge.specs.declared.Judged.{Judged}
 use Rattle.judge.specs.declared.Judged.the-variants.{Accepted, Refused}
 use Rattle.listing.specs.Hits.{Hit}
-use Rattle.scene.specs.View.{viewOf, solid}
+use Rattle.scene.specs.View.{viewOf}
 use Rattle.kernel.specs.Answers.{answered, verdictOf, countedOf, listingIn}
 use Rattle.kernel.specs.declared.counts.Counts.{Counts}
 use Rattle.kernel.specs.declared.counts.Counted.{Counted}
 use Rattle.kernel.specs.declared.counts.Counted.the-variants as counted
 use Rattle.kernel.specs.declared.verdict.Verdict.{Verdict}
 use Rattle.kernel.specs.declared.verdict.Verdict.the-variants as verdict
-use Rattle.render.specs.Text.{ascii, decimal, text}
+use Rattle.render.specs.Text.{ascii, text}
 use Rattle.render.specs.Decimal.{numberIn, number-back}
-use Rattle.render.specs.Back.{Word, Words, IsPlain, Plain, Line, decimal-plain, linesIn, lines-back}
+use Rattle.render.specs.Back.{Word, Words, Plain, Line, decimal-plain, linesIn, lines-back}
 use Rattle.lines.specs.Lines.{wordOf}
 use Rattle.lines.specs.Report.{hitLine, headOf, listingLines, reportOf}
 

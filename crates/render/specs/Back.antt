@@ -11,7 +11,7 @@ use lib.Dec.{eqb}
 use lib.IntN.{ℤ, pos, negsuc}
 use Rattle.laws.specs.Lists.{Each, each-map}
 use Rattle.render.specs.Text.{decimal, signedDecimal, ending, line, text}
-use Rattle.render.specs.Decimal.{IsDigit, decimal-digits}
+use Rattle.render.specs.Decimal.{decimal-digits}
 
 abbrev pub Word : Type 0
 Word = List ℕ

@@ -1,10 +1,10 @@
 -- What one turn of a loop that renders adds: a word's next byte, a decimal's digit before those that stand; and the whole. Assumes nothing.
 use Prim.Native.Nat.{ℕ, _+_, _-_, _/_, _%_, _≤_, _<_, min}
 use mathlib.Core.Path.{_≡_, sym, ap, ap₂, _∙_, subst}
-use mathlib.Core.List.{List, [], _∷_, _++_}
+use mathlib.Core.List.{List, [], _∷_}
 use native.Mathlib.Numerals.{add-one}
 use native.Mathlib.Omega.{arith}
-use mathlib.Core.Bool.{Bool, true, false}
+use mathlib.Core.Bool.{true, false}
 use lib.Dec.{T, ltb→lt}
 use lib.IntN.{ℤ, pos, negsuc, natAbs}
 use lib.Signed.{ltZ}
@@ -37,6 +37,15 @@ module _ (l : List ℕ) (at n : ℕ) (i : ℕ) {m : List ℕ} {b : ℕ} where
   pub digit-first : n < 10 → b ≡ digit n → m ≡ set l (at + 0) b → m ≡ put l at (decimal n)
   unfolding put
   digit-first h e d = d ∙ ap₂ (λ (x y : ℕ). set l x y) (omega arith) e ∙ ap (put l at) (sym (decimal-small n h))
+
+-- a number's last digit behind the others
+module _ {l : List ℕ} {at : ℕ} (n : ℕ) {b : ℕ} {m : List ℕ} {p : ℕ} where
+  pub one-digit : n < 10 → b ≡ digit n → Put l at (b ∷ []) m p → Put l at (decimal n) m p
+  one-digit h e x = rw (decimal-small n h, ← e) x
+
+  pub digit-behind : 10 ≤ n → b ≡ digit (n % 10) → Put l at (decimal (n / 10)) m p → {k : List ℕ} {q : ℕ} → Put m p (b ∷ []) k q →
+      Put l at (decimal n) k q
+  digit-behind h e x y = rw (decimal-more n h, ← e) (end-to-end x y)
 
 -- the whole of a number, and one with its sign
 module _ {l : List ℕ} {at : ℕ} where

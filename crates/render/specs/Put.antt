@@ -1,11 +1,11 @@
 -- A text put into a lent buffer: from a place on, as far as there is room. Nothing is written beyond the buffer, and every other byte
 -- stays. Two texts one after the other are put as the two end to end. Assumes nothing.
-use Prim.Native.Nat.{ℕ, zero, suc, _+_, _≤_, _<_, min}
+use Prim.Native.Nat.{ℕ, suc, _+_, _≤_, _<_, min}
 use mathlib.Core.Path.{_≡_, refl, sym, ap, ap₂, _∙_}
 use mathlib.Core.List.{List, [], _∷_, _++_}
 use native.Mathlib.Decide.{decLt}
 use native.Mathlib.Omega.{arith}
-use lib.ListN.{length, take, drop, set, length-set, length-append}
+use lib.ListN.{length, take, drop, set, length-append}
 use lib.Seq.{sets, sets-eq, length-sets, set-out, set-comm}
 
 -- the buffer l after the text t was put at a place. (`set` beyond a list's end leaves the list.)

@@ -2,7 +2,7 @@
 // another, and what is written is the texts end to end.
 ghost use mathlib.Core.List.{[], _∷_};
 ghost use mathlib.Core.Path.{_≡_};
-ghost use Prim.Native.Nat.{_+_, _<_, min};
+ghost use Prim.Native.Nat.{_+_, _≤_, _<_, min};
 ghost use lib.IntN.{natAbs};
 ghost use lib.ListN.{length, set};
 ghost use Rattle.render.specs.Put.{put, Put};
@@ -104,12 +104,44 @@ fn after(at: usize, k: usize, m: usize) -> usize
     m
 }
 
-pub fn number(out: &mut [u8], at: usize, n: usize) -> usize
+fn many_digits(out: &mut [u8], at: usize, n: usize) -> usize
     ensures { λ r. ⌜ Put (now (out .entry)) at (decimal n) (now (out .exit)) r ⌝ }
 {
     let k = places(n);
     digits(out, at, n, k);
     after(at, k, out.len())
+}
+
+fn two_digits(out: &mut [u8], at: usize, n: usize) -> usize
+    requires { ⌜ (10 ≤ n) × (n < 100) ⌝ }
+    ensures { λ r. ⌜ Put (now (out .entry)) at (decimal n) (now (out .exit)) r ⌝ }
+{
+    let p = byte(out, at, digit(n / 10));
+    byte(out, p, digit(n % 10))
+}
+
+fn three_digits(out: &mut [u8], at: usize, n: usize) -> usize
+    requires { ⌜ (100 ≤ n) × (n < 1000) ⌝ }
+    ensures { λ r. ⌜ Put (now (out .entry)) at (decimal n) (now (out .exit)) r ⌝ }
+{
+    let p = two_digits(out, at, n / 10);
+    byte(out, p, digit(n % 10))
+}
+
+// Short numbers, as a listing's are, need no loop.
+pub fn number(out: &mut [u8], at: usize, n: usize) -> usize
+    ensures { λ r. ⌜ Put (now (out .entry)) at (decimal n) (now (out .exit)) r ⌝ }
+{
+    if n < 10 {
+        return byte(out, at, digit(n));
+    }
+    if n < 100 {
+        return two_digits(out, at, n);
+    }
+    if n < 1000 {
+        return three_digits(out, at, n);
+    }
+    many_digits(out, at, n)
 }
 
 // The size of a number. (-z alone would not fit for the lowest.)

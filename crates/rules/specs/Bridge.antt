@@ -125,7 +125,15 @@ module _ (l : Limits) (s : List ℕ) where
 
   pub by-tables : FileOk l s ↔ (Marked s × TablesOk l (tablesOf s))
   by-tables = (
-    λ ok. (marked ok, record { a = a-ok ok; b = b-ok ok; far = row-ok ok 0 (omega arith); somewhere = ok .records 1 (omega arith) (omega arith) .somewhere refl }),
+    λ ok. (
+      marked ok,
+      record {
+        a = a-ok ok;
+        b = b-ok ok;
+        far = row-ok ok 0 (omega arith);
+        somewhere = ok .records 1 (omega arith) (omega arith) .somewhere refl;
+      },
+    ),
     λ h. file-ok (h .0) (h .1),
   )
 

@@ -1,35 +1,21 @@
 -- The judge's tests of a vertex and of a face's sides decide the rules of that vertex and of those sides. Assumes nothing.
 use mathlib.Core.Path.{_≡_, refl, subst}
-use mathlib.Core.Logic.{_↔_, Iff·trans, Iff·and}
-use mathlib.Core.Bool.{Bool, true, _&&_, _||_}
+use mathlib.Core.Logic.{_↔_, Iff·trans}
+use mathlib.Core.Bool.{true}
 use mathlib.Core.List.{List}
 use Prim.Native.Nat.{ℕ, _-_, _%_, _≤_, _<_}
 use native.Mathlib.Omega.{arith}
 use native.Mathlib.Decide.{decLt}
-use lib.Dec.{eqb}
-use Rattle.laws.specs.Decides.{and-iff, or-iff, eqb-iff}
+use Rattle.laws.specs.Decides.{and-iff, eqb-iff}
 use Rattle.laws.specs.Range.{anyOf, countOf}
 use Rattle.laws.specs.Lists.{Some, run, any-iff, count-run, even-iff}
 use Rattle.scene.specs.Records.{vertsA, verts, facesA, facesB, faces}
 use Rattle.scene.specs.Tables.{faceAt, tablesOf}
-use Rattle.scene.specs.Faces.{Corner, Both, Sides, EdgeOk}
+use Rattle.scene.specs.Faces.{Corner, Both, hasBoth, Sides, EdgeOk, corner-iff, both-iff}
 use Rattle.scene.specs.declared.Face.{Face}
-use Rattle.judge.specs.Judge.{isCorner, isEdge, isUsed, edgeOk, sidesOk, closedAt}
+use Rattle.judge.specs.Judge.{isCornerOf, isEdge, isUsed, edgeOk, sidesOk, closedAt}
 use Rattle.judge.specs.Cases.{used-of-a, used-of-b, closed-of-a, closed-of-b}
 use Rattle.rules.specs.Rules.{Used, SidesOk}
-
--- the same tests, of a face
-abbrev hasCorner : ℕ → Face → Bool
-hasCorner v f = eqb (f .p) v || (eqb (f .q) v || eqb (f .r) v)
-
-abbrev hasBoth : ℕ → ℕ → Face → Bool
-hasBoth v w f = hasCorner v f && hasCorner w f
-
-corner-iff : (v : ℕ) (f : Face) → (hasCorner v f ≡ true) ↔ Corner v f
-corner-iff v f = or-iff _ _ (eqb-iff _ v) (or-iff _ _ (eqb-iff _ v) (eqb-iff _ v))
-
-both-iff : (v w : ℕ) (f : Face) → (hasBoth v w f ≡ true) ↔ Both v w f
-both-iff v w f = Iff·trans (and-iff _ _) (Iff·and (corner-iff v f) (corner-iff w f))
 
 module _ (s : List ℕ) where
   -- ---- among the file's faces from a up to e, n in number
@@ -38,12 +24,12 @@ module _ (s : List ℕ) where
     abbrev fs : List Face
     fs = run (faceAt s) a n
 
-    some-iff : (v : ℕ) → (anyOf (isCorner s v) a e ≡ true) ↔ Some (Corner v) fs
-    unfolding isCorner
-    some-iff v = any-iff (Corner v) (faceAt s) (isCorner s v) a e n long (λ i. corner-iff v (faceAt s i))
+    some-iff : (v : ℕ) → (anyOf (isCornerOf s v) a e ≡ true) ↔ Some (Corner v) fs
+    unfolding isCornerOf
+    some-iff v = any-iff (Corner v) (faceAt s) (isCornerOf s v) a e n long (λ i. corner-iff v (faceAt s i))
 
     edge-iff : (v w : ℕ) → (edgeOk s a e v w ≡ true) ↔ EdgeOk fs v w
-    unfolding edgeOk isEdge isCorner
+    unfolding edgeOk isEdge
     edge-iff v w =
         Iff·trans (eqb-iff (countOf (isEdge s v w) a e % 2) 0)
         (rw (count-run (faceAt s) (hasBoth v w) (isEdge s v w) a e n long (λ i. refl)) (even-iff (Both v w) (hasBoth v w) (both-iff v w) fs))

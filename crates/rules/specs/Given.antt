@@ -2,18 +2,18 @@
 use mathlib.Core.Path.{_≡_, refl, sym, ap, _∙_, subst}
 use mathlib.Core.Logic.{_≢_, _↔_, inl, inr}
 use mathlib.Core.List.{List, map}
-use Prim.Native.Nat.{ℕ, zero, suc, _+_, _*_, _-_, _≤_, _<_}
+use Prim.Native.Nat.{ℕ, zero, suc, _+_, _≤_, _<_}
 use native.Mathlib.Omega.{arith}
 use native.Mathlib.Decide.{decLt}
 use lib.IntN.{pos, natAbs}
-use Rattle.laws.specs.Lists.{Each, Some, run, each-run}
-use Rattle.laws.specs.Mapped.{each-mapped, some-mapped, number-mapped, map-run, run-from}
-use Rattle.scene.specs.Limits.{Limits, mostPoints}
+use Rattle.laws.specs.Lists.{Each, run, each-run}
+use Rattle.laws.specs.Mapped.{each-mapped, number-mapped, map-run, run-from}
+use Rattle.scene.specs.Limits.{Limits}
 use Rattle.scene.specs.Records.{vertsA, vertsB, facesA, facesB, verts, faces}
 use Rattle.scene.specs.Tables.{points, row, raise, face, rowAt, faceAt, tablesOf}
 use Rattle.scene.specs.Read.{size-a, size-b, points-are, row-is, far-is, row-zero, row-none, face-zero, face-a, face-b, face-none}
 use Rattle.scene.specs.Arrays.{RowWithin, AllWithin, FaceWithin, FacesWithin}
-use Rattle.scene.specs.Faces.{Corner, Both, Vertex, FaceOf, Sides, EdgeOk, EdgesOk}
+use Rattle.scene.specs.Faces.{Corner, Both, FaceOf, Sides, EdgeOk, EdgesOk}
 use Rattle.scene.specs.declared.Row.{Row}
 use Rattle.scene.specs.declared.Face.{Face}
 use Rattle.judge.specs.Judge.{judgedAt}
@@ -143,20 +143,6 @@ module _ (l : Limits) (s : List ℕ) (ok : judgedAt l s ≡ Accepted) where
       go (yes a) (no b) c va vb = let f = face-of-a k a (omega arith) in omega arith
       go (yes a) (yes b) (no c) va vb = let f = face-of-b k b (omega arith) in omega arith
       go (yes a) (yes b) (yes c) va vb = rw (face-none s k c) (omega arith)
-
-  -- ---- every vertex is used
-
-  pub used-of-a : (i : ℕ) → Vertex 0 (vertsA s) i → Some (Corner i) (run (face (tablesOf s)) 1 (facesA s))
-  used-of-a i b = rw (faces-a s) (rules .used i (omega arith) (omega arith) .of-a (omega arith))
-
-  pub used-of-b : (i : ℕ) → Vertex (vertsA s) (verts s) i → Some (Corner i) (run (face (tablesOf s)) (facesA s + 1) (facesB s))
-  used-of-b i b =
-      let v : ℕ = i - vertsA s in
-      let e : vertsA s + v ≡ i = omega arith in
-      let u = rules .used i (omega arith) (omega arith) .of-b v (omega arith) (sym e) in
-      rw (faces-b s)
-      (subst (λ (i : ℕ). Some (Corner i) (map (raise (vertsA s)) (tablesOf s .b .faces))) e
-      (some-mapped (Corner v) (Corner (vertsA s + v)) (raise (vertsA s)) (λ f. corner-raised (vertsA s) v f .0) (tablesOf s .b .faces) u))
 
   -- ---- each edge lies in an even number of faces of its solid
 

@@ -5,8 +5,10 @@ use Prim.Native.Nat.{ℕ, _≤_, _<_}
 use Rattle.scene.specs.Limits.{Limits}
 use Rattle.scene.specs.Records.{verts, faces, faceRecord, lastRecord}
 use Rattle.scene.specs.declared.Refusal.{Refusal}
-use Rattle.scene.specs.declared.Refusal.the-variants.{Opening, Counts, Length, Mark, Coordinate, Weight, Corner, Unused, Edge, Room, Lacking, Same, Buffer, Nowhere}
-use Rattle.rules.specs.Rules.{Opens, CountsOk, LengthOk, HeaderOk, MarkOk, CoordinatesOk, WeightOk, SomewhereOk, CornersOk, RecordOk, RecordsOk, Used, AllUsed, SidesOk}
+use Rattle.scene.specs.declared.Refusal.the-variants.{Opening, Counts, Length, Mark, Coordinate, Weight, Corner}
+use Rattle.scene.specs.declared.Refusal.the-variants.{Unused, Edge, Room, Lacking, Same, Buffer, Nowhere}
+use Rattle.rules.specs.Rules.{Opens, CountsOk, LengthOk, HeaderOk, MarkOk, CoordinatesOk, WeightOk, SomewhereOk}
+use Rattle.rules.specs.Rules.{CornersOk, RecordOk, RecordsOk, Used, AllUsed, SidesOk}
 
 -- the order of checking comes to record k: the header and every record before it keep their rules
 pub record AtRecord (l : Limits) (s : List ℕ) (k : ℕ) : Type 0 where

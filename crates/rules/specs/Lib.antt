@@ -15,4 +15,5 @@ pub mod Written
 pub mod ReadBack
 pub mod Files
 pub mod Frame
+pub mod Rerowed
 pub mod Given

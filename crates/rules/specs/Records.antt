@@ -17,7 +17,8 @@ use Rattle.scene.specs.Tables.{rowAt, faceAt}
 use Rattle.scene.specs.Faces.{FaceOf}
 use Rattle.scene.specs.declared.Refusal.{Refusal}
 use Rattle.scene.specs.declared.Refusal.the-variants.{Mark, Coordinate, Weight, Nowhere, Corner}
-use Rattle.judge.specs.Judge.{rule, coordinateOk, weightOk, nowhere, somewhereOk, pointMark, pointFault, areCorners, vertsAt, cornersOk, faceFault, endFault, recordFault}
+use Rattle.judge.specs.Judge.{rule, coordinateOk, weightOk, nowhere, somewhereOk, pointMark, pointFault}
+use Rattle.judge.specs.Judge.{areCorners, vertsAt, cornersOk, faceFault, endFault, recordFault}
 use Rattle.judge.specs.Cases.{vertex-mark, verts-of-a, verts-of-b, record-point, record-face, record-end}
 use Rattle.judge.specs.declared.Judged.{Judged}
 use Rattle.judge.specs.declared.Judged.the-variants.{Accepted}

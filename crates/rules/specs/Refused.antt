@@ -10,7 +10,8 @@ use Rattle.laws.specs.Decides.{eqb-iff, fails-iff}
 use Rattle.scene.specs.Limits.{Limits}
 use Rattle.scene.specs.Records.{verts, faces, lastRecord, lengthOf}
 use Rattle.scene.specs.declared.Refusal.{Refusal}
-use Rattle.scene.specs.declared.Refusal.the-variants.{Opening, Counts, Length, Mark, Coordinate, Weight, Corner, Unused, Edge, Room, Lacking, Same, Buffer, Nowhere}
+use Rattle.scene.specs.declared.Refusal.the-variants.{Opening, Counts, Length, Mark, Coordinate, Weight, Corner}
+use Rattle.scene.specs.declared.Refusal.the-variants.{Unused, Edge, Room, Lacking, Same, Buffer, Nowhere}
 use Rattle.judge.specs.Judge.{rule, judgedAt, opens, countsOk, headerFault, recordFault, recordsFault, unusedFault, unusedsFault, edgeFault, edgesFault}
 use Rattle.judge.specs.declared.Judged.{Judged}
 use Rattle.judge.specs.declared.Judged.the-variants.{Accepted, Refused}
@@ -189,9 +190,11 @@ module _ (l : Limits) (s : List ℕ) where
   refused (Mark k) = at-record Mark (λ k. ¬ MarkOk s k) (λ p. omega arith) (record-mark l s) k
   refused (Coordinate k) = at-record Coordinate (λ k. MarkOk s k × ¬ CoordinatesOk l s k) (λ p. omega arith) (record-coordinate l s) k
   refused (Weight k) = at-record Weight (λ k. MarkOk s k × (CoordinatesOk l s k × ¬ WeightOk l s k)) (λ p. omega arith) (record-weight l s) k
-  refused (Nowhere k) = at-record Nowhere (λ k. MarkOk s k × (CoordinatesOk l s k × (WeightOk l s k × ¬ SomewhereOk s k))) (λ p. omega arith) (record-nowhere l s) k
+  refused (Nowhere k) =
+      at-record Nowhere (λ k. MarkOk s k × (CoordinatesOk l s k × (WeightOk l s k × ¬ SomewhereOk s k))) (λ p. omega arith) (record-nowhere l s) k
   refused (Corner k) =
-      at-record Corner (λ k. MarkOk s k × (CoordinatesOk l s k × (WeightOk l s k × (SomewhereOk s k × ¬ CornersOk s k)))) (λ p. omega arith) (record-corner l s) k
+      at-record Corner (λ k. MarkOk s k × (CoordinatesOk l s k × (WeightOk l s k × (SomewhereOk s k × ¬ CornersOk s k)))) (λ p. omega arith)
+      (record-corner l s) k
   refused (Unused p) = refused-8 p
   refused (Edge k) = refused-9 k
   refused (Room p) = never-given (Room p) (omega arith)

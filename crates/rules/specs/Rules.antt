@@ -7,7 +7,8 @@ use lib.ListN.{length}
 use Rattle.laws.specs.Lists.{Some}
 use Rattle.scene.specs.Limits.{Limits, leastWeight}
 use Rattle.scene.specs.Bytes.{twoAt}
-use Rattle.scene.specs.Records.{vertsA, vertsB, facesA, facesB, verts, faces, faceRecord, lastRecord, lengthOf, pointStart, faceStart, endStart, markSC, markFP, markVX, markFC, markEN}
+use Rattle.scene.specs.Records.{vertsA, vertsB, facesA, facesB, verts, faces, faceRecord, lastRecord, lengthOf}
+use Rattle.scene.specs.Records.{pointStart, faceStart, endStart, markSC, markFP, markVX, markFC, markEN}
 use Rattle.scene.specs.Tables.{rowAt, faceAt, tablesOf}
 use Rattle.scene.specs.Faces.{Corner, FaceOf, Sides, EdgeOk}
 use Rattle.scene.specs.declared.Row.{Row}

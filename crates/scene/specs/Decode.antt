@@ -51,10 +51,12 @@ module _ (l : List ℤ) (n : ℕ) (p : Row) where
       let z : getD (rowSet l n p) (4 * n + 2) (pos 0) ≡ p .z =
       getD-set-other l3 (4 * n + 3) (4 * n + 2) (p .w) (pos 0) (λ e. omega (arith, e)) ∙ getD-set-same l2 (4 * n + 2) (p .z) (pos 0) (omega arith) in
       let y : getD (rowSet l n p) (4 * n + 1) (pos 0) ≡ p .y =
-      getD-set-other l3 (4 * n + 3) (4 * n + 1) (p .w) (pos 0) (λ e. omega (arith, e)) ∙ getD-set-other l2 (4 * n + 2) (4 * n + 1) (p .z) (pos 0) (λ e. omega (arith, e))
+      getD-set-other l3 (4 * n + 3) (4 * n + 1) (p .w) (pos 0) (λ e. omega (arith, e))
+      ∙ getD-set-other l2 (4 * n + 2) (4 * n + 1) (p .z) (pos 0) (λ e. omega (arith, e))
       ∙ getD-set-same l1 (4 * n + 1) (p .y) (pos 0) (omega arith) in
       let x : getD (rowSet l n p) (4 * n) (pos 0) ≡ p .x =
-      getD-set-other l3 (4 * n + 3) (4 * n) (p .w) (pos 0) (λ e. omega (arith, e)) ∙ getD-set-other l2 (4 * n + 2) (4 * n) (p .z) (pos 0) (λ e. omega (arith, e))
+      getD-set-other l3 (4 * n + 3) (4 * n) (p .w) (pos 0) (λ e. omega (arith, e))
+      ∙ getD-set-other l2 (4 * n + 2) (4 * n) (p .z) (pos 0) (λ e. omega (arith, e))
       ∙ getD-set-other l1 (4 * n + 1) (4 * n) (p .y) (pos 0) (λ e. omega (arith, e)) ∙ getD-set-same l (4 * n) (p .x) (pos 0) (omega arith) in
       made-row x y z w
 
@@ -72,7 +74,8 @@ zeros (suc m) zero a = refl
 zeros (suc m) (suc i) a = zeros m i a
 
 -- n rows stored over m zeros, and zeros beyond: the rows at every number
-pub rows-decoded : (g : ℕ → Row) (n m : ℕ) {l : List ℤ} → l ≡ filled rowSet g n (replicate m (pos 0)) → 4 * n ≤ m → ((j : ℕ) → n ≤ j → g j ≡ noRow) → rowIn l ≡ g
+pub rows-decoded : (g : ℕ → Row) (n m : ℕ) {l : List ℤ} → l ≡ filled rowSet g n (replicate m (pos 0)) → 4 * n ≤ m →
+    ((j : ℕ) → n ≤ j → g j ≡ noRow) → rowIn l ≡ g
 rows-decoded g n m e h z =
     ap rowIn e
     ∙ filled-is rowSet rowIn (λ i k. 4 * i + 3 < k) row-keeps row-same row-other g n (replicate m (pos 0))

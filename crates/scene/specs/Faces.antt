@@ -1,8 +1,11 @@
 -- Faces and their edges: corners, sides, and the rule that an edge lies in an even number of its solid's faces. Assumes nothing.
 use mathlib.Core.Path.{_≡_}
-use mathlib.Core.Logic.{_≢_, _⊎_}
+use mathlib.Core.Logic.{_≢_, _⊎_, _↔_, Iff·trans, Iff·and}
+use mathlib.Core.Bool.{Bool, true, _&&_, _||_}
 use mathlib.Core.List.{List}
 use Prim.Native.Nat.{ℕ, _≤_, _<_}
+use lib.Dec.{eqb}
+use Rattle.laws.specs.Decides.{and-iff, or-iff, eqb-iff}
 use Rattle.laws.specs.Lists.{Each, Even}
 use Rattle.scene.specs.declared.Face.{Face}
 
@@ -12,6 +15,21 @@ Corner i f = (f .p ≡ i) ⊎ (f .q ≡ i) ⊎ (f .r ≡ i)
 
 abbrev pub Both : ℕ → ℕ → Face → Type 0
 Both i j f = Corner i f × Corner j f
+
+-- the same as tests
+unfoldable pub isCorner : ℕ → Face → Bool
+isCorner i f = eqb (f .p) i || (eqb (f .q) i || eqb (f .r) i)
+
+unfoldable pub hasBoth : ℕ → ℕ → Face → Bool
+hasBoth i j f = isCorner i f && isCorner j f
+
+pub corner-iff : (i : ℕ) (f : Face) → (isCorner i f ≡ true) ↔ Corner i f
+unfolding isCorner
+corner-iff i f = or-iff _ _ (eqb-iff _ i) (or-iff _ _ (eqb-iff _ i) (eqb-iff _ i))
+
+pub both-iff : (i j : ℕ) (f : Face) → (hasBoth i j f ≡ true) ↔ Both i j f
+unfolding hasBoth
+both-iff i j f = Iff·trans (and-iff _ _) (Iff·and (corner-iff i f) (corner-iff j f))
 
 -- the face's three corners differ
 pub record Proper (f : Face) : Type 0 where

@@ -51,7 +51,8 @@ module _ (s : List ℕ) where
   pub row-is : (i : ℕ) → 1 ≤ i → i ≤ verts s → row (tablesOf s) i ≡ rowAt s i
   row-is zero a b = absurd (omega arith)
   row-is (suc i) a b =
-      all-rows i ∙ List·getD-append rows (rowAt s 0 ∷ []) noRow i (omega (arith, long)) ∙ run-at (rowAt s) 1 (verts s) i noRow (omega arith) ∙ ap (rowAt s) (omega arith)
+      all-rows i ∙ List·getD-append rows (rowAt s 0 ∷ []) noRow i (omega (arith, long)) ∙ run-at (rowAt s) 1 (verts s) i noRow (omega arith)
+      ∙ ap (rowAt s) (omega arith)
 
   pub far-is : {i : ℕ} → i ≡ verts s + 1 → row (tablesOf s) i ≡ rowAt s 0
   far-is e =

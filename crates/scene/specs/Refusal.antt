@@ -1,7 +1,8 @@
 -- The number and the place of a refusal, as document 01 has them. Assumes nothing.
 use Prim.Native.Nat.{ℕ}
 use Rattle.scene.specs.declared.Refusal.{Refusal}
-use Rattle.scene.specs.declared.Refusal.the-variants.{Opening, Counts, Length, Mark, Coordinate, Weight, Corner, Unused, Edge, Room, Lacking, Same, Buffer, Nowhere}
+use Rattle.scene.specs.declared.Refusal.the-variants.{Opening, Counts, Length, Mark, Coordinate, Weight, Corner}
+use Rattle.scene.specs.declared.Refusal.the-variants.{Unused, Edge, Room, Lacking, Same, Buffer, Nowhere}
 
 abbrev pub numberOf : Refusal → ℕ
 numberOf Opening = 1

@@ -40,7 +40,8 @@ negated-fits m h k = rw (negated m h k) (record { sfits = omega arith })
 pub read-low : (half : ℕ) {n m : ℕ} → n ≡ m → n < 2 ^ 63 → n < half → toZ w64 n ≡ signed half m
 read-low half {n} e f h = toZ-pos w64 n f ∙ sym (signed-low half n h) ∙ ap (signed half) e
 
-pub read-high : (half : ℕ) {n m : ℕ} → n ≡ m → n < half + half → half < 2 ^ 62 → half ≤ n → toZ w64 (ofZ w64 (pos 0 -ℤ toZ w64 (half + half - n))) ≡ signed half m
+pub read-high : (half : ℕ) {n m : ℕ} → n ≡ m → n < half + half → half < 2 ^ 62 → half ≤ n →
+    toZ w64 (ofZ w64 (pos 0 -ℤ toZ w64 (half + half - n))) ≡ signed half m
 read-high half {n} e f b h =
     let k : ℕ = half + half - n in
     toZ-ofZ w64 _ (negated-fits k (omega arith) (omega arith)) ∙ negated k (omega arith) (omega arith) ∙ ap negsuc (omega arith)

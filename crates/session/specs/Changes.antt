@@ -1,17 +1,16 @@
 -- What an operation changes: the numbers of its record, and no other byte. A refused one changes nothing, and the empty session refuses all of them
 -- with 1. Assumes nothing.
-use mathlib.Core.Path.{_≡_, refl, sym, ap, _∙_}
+use mathlib.Core.Path.{_≡_, ap, _∙_}
 use mathlib.Core.Bool.{false}
 use mathlib.Core.List.{List}
 use Prim.Native.Nat.{ℕ, _+_, _-_, _≤_, _<_}
 use native.Mathlib.Omega.{arith}
-use lib.Dec.{eqb}
 use lib.ListN.{length, take}
 use borrow.Author.Tests.{ne-eqb}
 use Rattle.scene.specs.Bytes.{byteAt}
 use Rattle.scene.specs.Records.{lengthOf, pointStart, faceStart}
 use Rattle.scene.specs.Tables.{rowAt, faceAt}
-use Rattle.scene.specs.Write.{rowPut, cornersPut}
+use Rattle.scene.specs.Write.{rowPut}
 use Rattle.scene.specs.Written.{row-length, row-below, row-above, row-back, corners-length, corners-below, corners-above, corners-back}
 use Rattle.scene.specs.declared.Row.{Row}
 use Rattle.scene.specs.declared.Face.{Face}
@@ -21,10 +20,9 @@ use Rattle.judge.specs.Judge.{rule}
 use Rattle.judge.specs.declared.Judged.{Judged}
 use Rattle.judge.specs.declared.Judged.the-variants.{Accepted, Refused}
 use Rattle.session.specs.Session.{scene, fresh, isWhole, vertexFault, farFault, turnFault, changedBy, movedOf, farMovedOf, turned, turnedIn, reversedOf}
-use Rattle.session.specs.Laws.{row-fits, vertex-free, far-free, turn-free}
+use Rattle.session.specs.Laws.{row-fits, vertex-free, far-free}
 use Rattle.session.specs.Kept.{Empty, Holds, row-in, corners-in, vertex-room, far-room, face-room}
 use Rattle.session.specs.declared.Session.{Session}
-use Rattle.session.specs.declared.Changed.{Changed}
 
 -- t is s with v as the row of the file's point j (0 the far point, then the vertices)
 pub record RowChanged (s : List ℕ) (j : ℕ) (v : Row) (t : List ℕ) : Type 0 where

@@ -2,27 +2,24 @@
 use mathlib.Core.Path.{_≡_, refl, sym, ap, _∙_}
 use mathlib.Core.Logic.{_⊎_, inl, inr}
 use mathlib.Core.List.{List, [], _∷_, _++_}
-use Prim.Native.Nat.{ℕ, zero, suc, _+_, _-_, _≤_, _<_}
+use Prim.Native.Nat.{ℕ, zero, suc, _+_, _-_, _≤_}
 use native.Mathlib.Omega.{arith}
-use native.Mathlib.Nat.{add-suc, suc-add}
 use lib.ListN.{length, take, set, replicate}
 use lib.Seq.{sets, take-set-lt, take-append-seam}
 use Rattle.scene.specs.Limits.{limits, longest}
-use Rattle.scene.specs.Bytes.{byteAt}
-use Rattle.scene.specs.Records.{verts, faces, lengthOf, pointStart, faceStart}
-use Rattle.scene.specs.Tables.{rowAt, faceAt}
+use Rattle.scene.specs.Records.{lengthOf, pointStart, faceStart}
+use Rattle.scene.specs.Tables.{faceAt}
 use Rattle.scene.specs.Write.{rowBytes, cornerBytes, rowPut, cornersPut}
-use Rattle.scene.specs.Written.{row-length, row-below, row-above, row-back, corners-length, corners-below, corners-above, corners-back}
+use Rattle.scene.specs.Written.{row-length, corners-length}
 use Rattle.scene.specs.declared.Row.{Row}
 use Rattle.scene.specs.declared.Face.{Face}
-use Rattle.scene.specs.declared.Refusal.{Refusal}
-use Rattle.scene.specs.declared.Refusal.the-variants.{Opening}
 use Rattle.judge.specs.Judge.{judged}
 use Rattle.judge.specs.declared.Judged.{Judged}
 use Rattle.judge.specs.declared.Judged.the-variants.{Accepted, Refused}
 use Rattle.kernel.specs.Answers.{answered, countedOf}
 use Rattle.kernel.specs.declared.counts.Counted.the-variants as counted
-use Rattle.session.specs.Session.{scene, noCounts, countsBy, fresh, empty, openedBy, opened, vertexFault, farFault, turnFault, changedBy, movedOf, farMovedOf, turned, turnedIn, reversedOf}
+use Rattle.session.specs.Session.{scene, noCounts, countsBy, fresh, openedBy, opened, vertexFault, farFault}
+use Rattle.session.specs.Session.{turnFault, changedBy, movedOf, farMovedOf, turned, turnedIn, reversedOf}
 use Rattle.session.specs.Laws.{row-fits, vertex-free, far-free, turn-free}
 use Rattle.session.specs.Moved.{vertex-accepted, far-accepted}
 use Rattle.session.specs.Turned.{turned-accepted}
@@ -110,7 +107,8 @@ module _ (s : Session) where
       take-sets n (cornerBytes f) (s .bytes) (k + 2) (omega arith)
       ∙ ap (λ (l : List ℕ). sets l (k + 2) (cornerBytes f)) (take-again (s .len) (s .bytes))
 
-  changed-holds : (j : Judged) (b : List ℕ) {t : List ℕ} → Holds s → (j ≡ Accepted → take (length (scene s)) b ≡ t) → (j ≡ Accepted → length (scene s) ≡ length t) →
+  changed-holds : (j : Judged) (b : List ℕ) {t : List ℕ} → Holds s → (j ≡ Accepted → take (length (scene s)) b ≡ t) →
+      (j ≡ Accepted → length (scene s) ≡ length t) →
       (j ≡ Accepted → judged t ≡ Accepted) → Holds (changedBy j s b .session)
   changed-holds Accepted b h e l q = fresh-holds b n (e refl) (l refl) (q refl)
   changed-holds (Refused r) b h e l q = h

@@ -1,16 +1,14 @@
 -- What the operations' definitions give where the faults are known, in the form in which a call's answer and a branch arrive. Assumes nothing.
-use mathlib.Core.Path.{_≡_, refl, sym, ap, _∙_}
-use mathlib.Core.Logic.{_≢_}
+use mathlib.Core.Path.{_≡_, sym, ap, _∙_}
 use mathlib.Core.Bool.{Bool, true, false, not}
 use mathlib.Core.List.{List, _++_}
-use Prim.Native.Nat.{ℕ, zero, suc, _+_, _-_, _≤_, _<_}
+use Prim.Native.Nat.{ℕ, zero, suc, _+_, _-_, _≤_}
 use native.Mathlib.Omega.{arith}
 use native.Mathlib.Nat.{sub-zero, suc-sub-suc, zero-sub}
-use lib.IntN.{ℤ, pos, negsuc, natAbs}
+use lib.IntN.{natAbs}
 use lib.ListN.{length, take, drop, replicate}
-use Rattle.laws.specs.Decides.{decides}
 use Rattle.scene.specs.Limits.{limits, longest}
-use Rattle.scene.specs.Records.{verts, faces, lengthOf, pointStart}
+use Rattle.scene.specs.Records.{verts, faces, lengthOf}
 use Rattle.scene.specs.Write.{RowFits}
 use Rattle.scene.specs.declared.Row.{Row}
 use Rattle.scene.specs.declared.Refusal.{Refusal}
@@ -21,7 +19,8 @@ use Rattle.judge.specs.declared.Judged.the-variants.{Accepted, Refused}
 use Rattle.rules.specs.Rules.{Zeros}
 use Rattle.rules.specs.TableRules.{RowOk}
 use Rattle.rules.specs.Accepted.{accepted}
-use Rattle.session.specs.Session.{scene, fresh, empty, openedBy, opened, isWhole, sizesOf, rowFault, isNowhere, vertexFault, farFault, turnFault, changedBy}
+use Rattle.session.specs.Session.{scene, fresh, empty, openedBy, opened, isWhole, sizesOf, rowFault}
+use Rattle.session.specs.Session.{isNowhere, vertexFault, farFault, turnFault, changedBy}
 use Rattle.session.specs.declared.Session.{Session}
 use Rattle.session.specs.declared.Changed.{Changed}
 
@@ -86,7 +85,8 @@ module _ (s : Session) (b : List ℕ) {o j : Judged} (e : o ≡ j) where
   pub changed-not : {r : Refusal} → o ≡ Refused r → _≡_ {A = Changed} (record { answer = Refused r; session = s }) (changedBy j s b)
   changed-not q = ap (λ (k : Judged). changedBy k s b) (sym q ∙ e)
 
-  pub changed-so : {t : Session} {n : ℕ} → o ≡ Accepted → n ≡ length (scene s) → t ≡ fresh b n → _≡_ {A = Changed} (record { answer = Accepted; session = t }) (changedBy j s b)
+  pub changed-so : {t : Session} {n : ℕ} → o ≡ Accepted → n ≡ length (scene s) → t ≡ fresh b n →
+      _≡_ {A = Changed} (record { answer = Accepted; session = t }) (changedBy j s b)
   changed-so q n p = ap (λ (t : Session). record { answer = Accepted; session = t }) (p ∙ ap (fresh b) n) ∙ ap (λ (k : Judged). changedBy k s b) (sym q ∙ e)
 
 drop-zeros : (k n : ℕ) → drop k (replicate {A = ℕ} n 0) ≡ replicate {A = ℕ} (n - k) 0

@@ -1,10 +1,9 @@
 -- The same changes to the bytes of a scene in place: the scene's own refusals first, then the change's. Assumes nothing.
-use mathlib.Core.Path.{_≡_, refl, sym, ap, _∙_}
+use mathlib.Core.Path.{_≡_, sym, ap, _∙_}
 use mathlib.Core.List.{List}
 use Prim.Native.Nat.{ℕ, _+_, _-_, _≤_, _<_}
 use native.Mathlib.Omega.{arith}
 use lib.ListN.{length}
-use Rattle.scene.specs.Limits.{limits}
 use Rattle.scene.specs.Records.{pointStart, faceStart}
 use Rattle.scene.specs.Write.{RowFits, rowPut}
 use Rattle.scene.specs.declared.Row.{Row}

@@ -1,11 +1,9 @@
 -- A session's scene written into a lent buffer: the answer, what the buffer holds, and that reading gives the scene back. Assumes nothing.
-use mathlib.Core.Path.{_≡_, refl, sym, ap, _∙_}
-use mathlib.Core.Logic.{_⊎_, inl, inr}
-use mathlib.Core.Bool.{true, false}
+use mathlib.Core.Path.{_≡_, sym, ap, _∙_}
 use mathlib.Core.List.{List, _++_}
-use Prim.Native.Nat.{ℕ, _+_, _≤_, _<_}
+use Prim.Native.Nat.{ℕ, _≤_}
 use native.Mathlib.Omega.{arith}
-use lib.Dec.{leb, eqb}
+use lib.Dec.{leb}
 use lib.ListN.{length, take, drop}
 use lib.Seq.{take-append-seam, drop-append-seam}
 use borrow.Author.Tests.{eq-eqb, ne-eqb, le-leb}
@@ -17,7 +15,6 @@ use Rattle.judge.specs.Tests.{accepts}
 use Rattle.judge.specs.declared.Judged.{Judged}
 use Rattle.judge.specs.declared.Judged.the-variants.{Accepted, Refused}
 use Rattle.rules.specs.Accepted.{accepted}
-use Rattle.rules.specs.Rules.{FileOk}
 use Rattle.scene.specs.Limits.{limits}
 use Rattle.session.specs.Session.{scene, fresh, openedBy, opened, isWhole}
 use Rattle.session.specs.Kept.{Empty, Full, Holds}
@@ -58,10 +55,12 @@ module _ (s : Session) where
 
   pub save-full : Full s → (room : ℕ) → length (scene s) ≤ room → saveFault (scene s) room ≡ Accepted
   unfolding saveFault isWhole rule
-  save-full f room l = rw (eq-eqb (length (scene s)) (lengthOf (scene s)) (accepted limits (scene s) .0 (f .accepted) .header .long), le-leb (length (scene s)) room l)
+  save-full f room l =
+      rw (eq-eqb (length (scene s)) (lengthOf (scene s)) (accepted limits (scene s) .0 (f .accepted) .header .long), le-leb (length (scene s)) room l)
 
   -- the buffer, where there is room: the scene, and behind it what stood there
-  pub saved-front : Full s → (out : List ℕ) → length (scene s) ≤ length out → take (length (scene s)) (savedBy (saveFault (scene s) (length out)) (scene s) out) ≡ scene s
+  pub saved-front : Full s → (out : List ℕ) → length (scene s) ≤ length out →
+      take (length (scene s)) (savedBy (saveFault (scene s) (length out)) (scene s) out) ≡ scene s
   saved-front f out l = rw (save-full f (length out) l) (take-append-seam (scene s) _)
 
   pub saved-behind : Full s → (out : List ℕ) → length (scene s) ≤ length out →
@@ -69,7 +68,7 @@ module _ (s : Session) where
   saved-behind f out l = rw (save-full f (length out) l) (drop-append-seam (scene s) _)
 
 -- opening holds the very scene
-opened-scene : (b : List ℕ) → judged b ≡ Accepted → scene (opened b .session) ≡ b
+pub opened-scene : (b : List ℕ) → judged b ≡ Accepted → scene (opened b .session) ≡ b
 unfolding opened fresh
 opened-scene b q = ap (λ (j : Judged). scene (openedBy j b .session)) q ∙ take-append-seam b _
 

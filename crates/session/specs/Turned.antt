@@ -6,13 +6,12 @@ use Prim.Native.Nat.{ℕ, zero, suc, _+_, _*_, _≤_, _<_}
 use native.Mathlib.Omega.{arith}
 use native.Mathlib.Decide.{decLt, ℕ-discrete}
 use lib.ListN.{length}
-use Rattle.laws.specs.Lists.{Each, Some, Number, Even, run, length-run, run-each, each-run, run-same}
+use Rattle.laws.specs.Lists.{Each, Some, Number, run, length-run, run-each, each-run, run-same}
 use Rattle.scene.specs.Limits.{limits}
-use Rattle.scene.specs.Records.{vertsA, vertsB, verts, facesA, facesB, faces, lengthOf, pointStart, faceStart, endStart}
-use Rattle.scene.specs.Tables.{Table, size, rowAt, faceAt, tablesOf}
+use Rattle.scene.specs.Records.{vertsA, vertsB, verts, facesA, facesB, faces, pointStart, faceStart, endStart}
+use Rattle.scene.specs.Tables.{Table, rowAt, faceAt, tablesOf}
 use Rattle.scene.specs.Faces.{Corner, Both, FaceOf, Sides, EdgeOk}
 use Rattle.scene.specs.Bytes.{byteAt, twoAt}
-use Rattle.scene.specs.Write.{cornersPut}
 use Rattle.scene.specs.Written.{corners-length, corners-below, corners-above, corners-back}
 use Rattle.scene.specs.declared.Face.{Face}
 use Rattle.judge.specs.Judge.{judged}
@@ -124,19 +123,18 @@ module _ (s : List ℕ) (i : ℕ) where
   counts-same : SameCounts s′ s
   counts-same = front-same 2 4 (omega arith)
 
-  mark-same : (k : ℕ) → Same s′ s (faceStart s k) 2
-  mark-same k m a b = go (decLt i k)
+  apart : (k m : ℕ) → (i < k → at + 5 ≤ m) → (¬ (i < k) → m < at + 2) → byteAt s′ m ≡ byteAt s m
+  apart k m above below = go (decLt i k)
     where
       go : Dec (i < k) → byteAt s′ m ≡ byteAt s m
-      go (yes l) = corners-above s at (turned (faceAt s i)) m (omega arith)
-      go (no l) = corners-below s at (turned (faceAt s i)) m (omega arith)
+      go (yes l) = corners-above s at (turned (faceAt s i)) m (above l)
+      go (no l) = corners-below s at (turned (faceAt s i)) m (below l)
+
+  mark-same : (k : ℕ) → Same s′ s (faceStart s k) 2
+  mark-same k m a b = apart k m (λ l. omega arith) (λ l. omega arith)
 
   other-same : (k : ℕ) → k ≢ i → Same s′ s (faceStart s k) 5
-  other-same k d m a b = go (decLt i k)
-    where
-      go : Dec (i < k) → byteAt s′ m ≡ byteAt s m
-      go (yes l) = corners-above s at (turned (faceAt s i)) m (omega arith)
-      go (no l) = corners-below s at (turned (faceAt s i)) m (omega arith)
+  other-same k d m a b = apart k m (λ l. omega arith) (λ l. omega arith)
 
   row-same : (j : ℕ) → j ≤ verts s → rowAt s′ j ≡ rowAt s j
   row-same j h = row-frame s′ s j (front-same (pointStart j) 9 (omega arith))

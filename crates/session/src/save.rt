@@ -1,6 +1,5 @@
 // A session's scene, written into a lent buffer.
 ghost use mathlib.Core.Path.{_≡_};
-ghost use lib.ListN.{length};
 ghost use Rattle.session.specs.Session.{scene};
 ghost use Rattle.session.specs.Saved.{saveFault, IsSaved};
 use crate::Session;

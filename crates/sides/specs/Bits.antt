@@ -1,8 +1,7 @@
 -- What the code reads back of the numbers that it holds as bits, on the way to a plane and to a plane at a row. Assumes nothing.
 use mathlib.Core.Path.{_≡_, sym, subst, _∙_}
-use Prim.Native.Nat.{ℕ, _+_, _*_, _^_, _≤_, _<_}
+use Prim.Native.Nat.{ℕ, _^_, _≤_, _<_}
 use native.Mathlib.Nat.{lt-of-le-of-lt}
-use native.Mathlib.Omega.{arith}
 use lib.Dec.{lit<}
 use lib.IntN.{ℤ, _+ℤ_}
 use lib.Signed.{mag}
@@ -12,7 +11,7 @@ use Rattle.laws.specs.Size.{exactly, _⊗_, _⊖_, _⊕_, reread, Held, formed,
 use Rattle.scene.specs.declared.Row.{Row}
 use Rattle.orient.specs.Bits.{read, RowFits, crossed}
 use Rattle.orient.specs.Minors.{crossOf, threeOf}
-use Rattle.orient.specs.Formed.{mostFormed, crossSize, threeSize}
+use Rattle.orient.specs.Formed.{mostFormed, threeSize}
 use Rattle.sides.specs.Planes.{dotOf}
 use Rattle.sides.specs.Sizes.{dotSize}
 use Rattle.sides.specs.declared.planes.Line.{Line}

@@ -1,6 +1,6 @@
 -- An edge and a face whose plane parts its ends, a candidate: three signs tell whether the face is pierced. No other face is. Assumes
 -- nothing.
-use mathlib.Core.Path.{_≡_, refl, sym, ap, ap₂, _∙_}
+use mathlib.Core.Path.{_≡_, sym, ap, ap₂, _∙_}
 use mathlib.Core.Bool.{Bool, true, false, not, _&&_, Bool·beq}
 use Prim.Native.Nat.{ℕ, _+_, _*_, _-_, _≤_, _<_}
 use native.Mathlib.Omega.{arith}
@@ -11,15 +11,16 @@ use Rattle.scene.specs.Limits.{limits}
 use Rattle.scene.specs.declared.Row.{Row}
 use Rattle.scene.specs.declared.Face.{Face}
 use Rattle.orient.specs.Rules.{rules}
-use Rattle.orient.specs.Signs.{Upto, mixed, ne-sym}
+use Rattle.orient.specs.Signs.{mixed, ne-sym}
 use Rattle.orient.specs.Terms.{positiveAt}
 use Rattle.orient.specs.Weighted.{Weighted, Asked}
 use Rattle.pierce.specs.Beside.{Beside, BesideAll, beside-low, beside-high}
-use Rattle.pierce.specs.Faces.{maskBy, maskAgainst, valueOf}
+use Rattle.face_masks.specs.Faces.{maskBy, valueOf}
+use Rattle.pierce.specs.Against.{maskAgainst}
 use Rattle.pierce.specs.Five.{hits}
 use Rattle.pierce.specs.Formula.{formula, pierces, pierced}
 use Rattle.pierce.specs.Scene.{scene-five}
-use Rattle.pierce.specs.declared.faces.Mask.{Mask}
+use Rattle.face_masks.specs.declared.Mask.{Mask}
 use Rattle.sides.specs.Candidates.{kept, AtEach, kept-mask, each-mask}
 use Rattle.sides.specs.Sides.{above, sidesOf, masksBy, masks-value, first64}
 
@@ -54,10 +55,6 @@ module _ (s : ℕ → ℕ → ℕ → ℕ → Bool) (u v : ℕ) (f : Face) {qp q
     pub other-hand : Bool·beq qp qr ≡ false → not (Bool·beq qr pr) ≡ crosses s u v f
     unfolding crosses
     other-hand e = rw (← x, ← y, ← z, unlike qp qr e) (differ qr pr)
-
-    pub both-hands : (not (Bool·beq qp qr) && not (Bool·beq qr pr)) ≡ crosses s u v f
-    unfolding crosses
-    both-hands = rw (← x, ← y, ← z) (ap₂ _&&_ (differ qp qr) (differ qr pr))
 
 -- ---- where the ends lie on different sides this is piercing
 

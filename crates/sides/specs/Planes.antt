@@ -3,7 +3,7 @@
 use mathlib.Core.Path.{_≡_, sym, _∙_}
 use mathlib.Core.List.{[], _∷_}
 use Prim.Native.Nat.{ℕ}
-use lib.IntN.{ℤ, _+ℤ_, _-ℤ_, _*ℤ_}
+use lib.IntN.{ℤ, _+ℤ_}
 use Rattle.laws.specs.Ring.{ring}
 use Rattle.laws.specs.Ring.Expr.{_⊕_, _⊖_, _⊗_}
 use Rattle.scene.specs.declared.Row.{Row}
@@ -50,14 +50,14 @@ planeFor row f = planeOf (row (f .p)) (row (f .q)) (row (f .r))
 
 -- ---- the plane of three rows at a fourth is their determinant
 
-module _ {R : Type 0} (_+_ _-_ _*_ : R → R → R) where
-  infixl 6 _+_ _-_
-  infixl 7 _*_
+module _ {R : Type 0} (_plus_ _minus_ _times_ : R → R → R) where
+  infixl 6 _plus_ _minus_
+  infixl 7 _times_
   abbrev cross : R → R → R → R → R
-  cross a b c d = a * d - b * c
+  cross a b c d = a times d minus b times c
 
   abbrev three : R → R → R → R → R → R → R
-  three a b c d e f = a * b - c * d + e * f
+  three a b c d e f = a times b minus c times d plus e times f
 
   abbrev by-plane : Entries R → Entries R → Entries R → Entries R → R
   by-plane a b c d =
@@ -68,7 +68,7 @@ module _ {R : Type 0} (_+_ _-_ _*_ : R → R → R) where
       let yw = cross (a .y) (a .w) (b .y) (b .w) in
       let zw = cross (a .z) (a .w) (b .z) (b .w) in
       cross (three xy (c .z) xz (c .y) yz (c .x)) (three xy (c .w) xw (c .y) yw (c .x)) (d .z) (d .w)
-      + cross (three xz (c .w) xw (c .z) zw (c .x)) (three yz (c .w) yw (c .z) zw (c .y)) (d .x) (d .y)
+      plus cross (three xz (c .w) xw (c .z) zw (c .x)) (three yz (c .w) yw (c .z) zw (c .y)) (d .x) (d .y)
 
 pub plane-dot : (a b c d : Row) → dotOf (planeOf a b c) d ≡ det4 a b c d
 unfolding det4 planeOf

@@ -12,8 +12,8 @@ use Rattle.orient.specs.Signs.{Four, Upto, ne-sym}
 use Rattle.orient.specs.Terms.{positiveAt}
 use Rattle.orient.specs.Weighted.{Weighted, Asked}
 use Rattle.pierce.specs.Beside.{BesideAll, in-scene, apart}
-use Rattle.pierce.specs.Faces.{maskBy, valueOf}
-use Rattle.pierce.specs.declared.faces.Mask.{Mask}
+use Rattle.face_masks.specs.Faces.{maskBy, valueOf}
+use Rattle.face_masks.specs.declared.Mask.{Mask}
 use Rattle.sides.specs.Planes.{planeFor}
 
 -- the sign of the face's corners and t is plus

@@ -4,13 +4,13 @@ use Prim.Native.Nat.{ℕ, _+_, _*_, _≤_}
 use native.Mathlib.Nat.{le-trans, add-le-add, mul-le-mul}
 use native.Mathlib.Omega.{arith}
 use lib.Dec.{lit≤}
-use lib.IntN.{ℤ, natAbs}
+use lib.IntN.{ℤ}
 use Rattle.laws.specs.Size.{Small, _⊗_, _⊖_, _⊕_, below}
 use Rattle.scene.specs.Limits.{limits}
 use Rattle.scene.specs.Arrays.{RowWithin}
 use Rattle.scene.specs.declared.Row.{Row}
 use Rattle.orient.specs.Formed.{mostFormed, crossSize, threeSize, JoinWithin, RowSize}
-use Rattle.sides.specs.Planes.{joinOf, spanOf, planeOf}
+use Rattle.sides.specs.Planes.{joinOf, planeOf}
 use Rattle.sides.specs.declared.planes.Line.{Line}
 
 -- what is formed on the way to a plane, and to a plane at a row

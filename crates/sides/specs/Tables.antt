@@ -1,7 +1,7 @@
 -- The tables that are made once a scene: the planes of its faces, and two words a point, the sides of the other solid's faces. What they
 -- hold after they are filled, at every number. Assumes nothing.
 use mathlib.Core.Path.{_≡_, refl, sym, ap, _∙_}
-use mathlib.Core.Bool.{Bool, true, false, cond}
+use mathlib.Core.Bool.{cond}
 use mathlib.Core.List.{List}
 use Prim.Native.Nat.{ℕ, zero, suc, _+_, _-_, _*_, _≤_, _<_}
 use native.Mathlib.Omega.{arith}
@@ -11,14 +11,13 @@ use lib.IntN.{ℤ, pos}
 use lib.ListN.{length, getD, set, length-set, replicate}
 use lib.Seq.{getD-set-same, getD-set-other}
 use Rattle.laws.specs.Filled.{filled, filled-more, filled-at}
-use Rattle.scene.specs.Limits.{limits}
 use Rattle.scene.specs.Arrays.{rowIn}
 use Rattle.scene.specs.Decode.{rowSet, rows-decoded}
 use Rattle.scene.specs.Tables.{noRow}
 use Rattle.scene.specs.declared.Row.{Row}
 use Rattle.scene.specs.declared.Face.{Face}
 use Rattle.scene.specs.declared.Solid.{Solid}
-use Rattle.pierce.specs.declared.faces.Mask.{Mask}
+use Rattle.face_masks.specs.declared.Mask.{Mask}
 use Rattle.sides.specs.Planes.{planeFor}
 use Rattle.sides.specs.Sides.{sidesOf, ReadyAll, Planed}
 

@@ -1,22 +1,31 @@
 -- A sign told by a plane at a point: where that is not zero it is the sign of the four points. Assumes nothing.
-use mathlib.Core.Path.{_≡_, sym, subst, _∙_}
+use mathlib.Core.Path.{_≡_, refl, sym, ap, subst, _∙_}
 use Prim.Native.Nat.{ℕ, _^_, _<_, _≤_}
 use lib.IntN.{ℤ, pos}
 use lib.Signed.{mag, ltZ}
 use mir.Syntax.{w64}
-use mir.Val.{ofZ}
-use Rattle.laws.specs.Size.{reread}
+use mir.Val.{toZ, ofZ}
+use Rattle.laws.specs.Size.{reread, called}
 use Rattle.scene.specs.Limits.{limits}
 use Rattle.scene.specs.Arrays.{AllWithin}
 use Rattle.scene.specs.declared.Row.{Row}
 use Rattle.scene.specs.declared.Face.{Face}
 use Rattle.orient.specs.Bits.{decides}
 use Rattle.orient.specs.Formed.{mostFormed}
-use Rattle.orient.specs.Terms.{orientation, positiveAt}
+use Rattle.orient.specs.Terms.{c0, orientation, pointAt, positiveAt}
 use Rattle.sides.specs.Planes.{joinOf, spanOf, planeOf, planeFor, dotOf, plane-term}
 use Rattle.sides.specs.Sides.{above, Ready}
 use Rattle.sides.specs.Sizes.{SpanWithin, dotSize, span-formed, dot-formed}
 use Rattle.sides.specs.declared.planes.Line.{Line}
+
+-- c0 of four points is the number t: its sign is theirs, unless it is zero
+pub sign-first : (row : ℕ → Row) (i j k m : ℕ) {t : ℤ} → mag t < 2 ^ 63 → t ≡ c0 (pointAt row i) (pointAt row j) (pointAt row k) (pointAt row m) →
+    (ofZ w64 t ≡ 0 → ⊥) → ltZ (pos 0) (reread t) ≡ positiveAt row i j k m
+unfolding positiveAt orientation
+sign-first row i j k m ok e h = decides _ ok e h
+
+pub zero-bits : {d : ℤ} → mag d < 2 ^ 63 → ofZ w64 d ≡ 0 → d ≡ pos 0
+zero-bits ok z = sym (called ok refl) ∙ ap (toZ w64) z
 
 -- the plane of points i, j and k, spanned by the line l of the first two and the row y of the third
 module _ (row : ℕ → Row) (i j k : ℕ) {l : Line} {y : Row} (p : l ≡ joinOf (row i) (row j)) (q : y ≡ row k) where
@@ -34,9 +43,15 @@ module _ (row : ℕ → Row) (i j k m : ℕ) {x y : Row} (p : x ≡ planeOf (row
   pub dot-asked : AllWithin limits row → dotSize x y ≤ mostFormed
   dot-asked h = subst (λ (s : ℕ). s ≤ mostFormed) (λ o. dotSize (sym p o) (sym q o)) (dot-formed (h i) (h j) (h k) (h m))
 
+  pub dot-term : {d : ℤ} → d ≡ dotOf x y → d ≡ c0 (pointAt row i) (pointAt row j) (pointAt row k) (pointAt row m)
+  dot-term e = e ∙ (λ o. dotOf (p o) (q o)) ∙ plane-term row i j k m
+
   pub sign-told : {d : ℤ} → mag d < 2 ^ 63 → d ≡ dotOf x y → (ofZ w64 d ≡ 0 → ⊥) → ltZ (pos 0) (reread d) ≡ positiveAt row i j k m
-  unfolding positiveAt orientation
-  sign-told ok e h = decides _ ok (e ∙ (λ o. dotOf (p o) (q o)) ∙ plane-term row i j k m) h
+  sign-told ok e h = sign-first row i j k m ok (dot-term e) h
+
+-- the face's plane has the point
+abbrev pub InPlane : (ℕ → Row) → Face → ℕ → Type 0
+InPlane row f t = c0 (pointAt row (f .p)) (pointAt row (f .q)) (pointAt row (f .r)) (pointAt row t) ≡ pos 0
 
 -- the same for a face whose plane is in the table, and a point
 module _ (row : ℕ → Row) (face : ℕ → Face) (plane : ℕ → Row) (t k : ℕ) {x y : Row} (ready : Ready row face plane t k) (p : x ≡ plane k)
@@ -51,3 +66,6 @@ module _ (row : ℕ → Row) (face : ℕ → Face) (plane : ℕ → Row) (t k : 
   pub above-told : {d : ℤ} → mag d < 2 ^ 63 → d ≡ dotOf x y → (ofZ w64 d ≡ 0 → ⊥) → ltZ (pos 0) (reread d) ≡ above row t (face k)
   unfolding above
   above-told = sign-told row ((face k) .p) ((face k) .q) ((face k) .r) t corners q
+
+  pub above-in : {d : ℤ} → mag d < 2 ^ 63 → d ≡ dotOf x y → ofZ w64 d ≡ 0 → InPlane row (face k) t
+  above-in ok e z = sym (dot-term row ((face k) .p) ((face k) .q) ((face k) .r) t corners q e) ∙ zero-bits ok z

@@ -3,14 +3,15 @@ ghost use mathlib.Core.Path.{_≡_};
 ghost use Prim.Native.Nat.{_≤_};
 ghost use Rattle.scene.specs.Limits.{limits, mostPoints};
 ghost use Rattle.scene.specs.Arrays.{rowIn, AllWithin, FaceWithin};
-ghost use Rattle.orient.specs.Terms.{positiveAt};
+ghost use Rattle.orient.specs.Terms.{c0, pointAt, positiveAt};
+ghost use Rattle.orient.specs.Weighted.{Asked};
 ghost use Rattle.sides.specs.Planes.{joinOf};
 ghost use Rattle.sides.specs.Crossing.{crosses, Faced};
 use crate::planes::Line;
 use crate::planes::dot;
 use crate::planes::row_at;
 use crate::planes::span;
-use orient::positive_at;
+use orient::tied_at;
 use scene::Face;
 use scene::Rows;
 
@@ -24,35 +25,24 @@ pub fn crosses(rows: &Rows, l: Line, u: usize, v: usize, f: Face) -> bool
     let q = row_at(rows, f.q);
     let r = row_at(rows, f.r);
     let at_q = span(l, q);
-    let qp = dot(at_q, p);
-    if qp == 0 {
-        return tie_crosses(rows, u, v, f);
-    }
-    let qr = dot(at_q, r);
-    if qr == 0 {
-        return tie_crosses(rows, u, v, f);
-    }
-    if (0 < qp) == (0 < qr) {
+    let qp = sign_by(rows, dot(at_q, p), u, v, f.q, f.p);
+    let qr = sign_by(rows, dot(at_q, r), u, v, f.q, f.r);
+    if qp == qr {
         return false;
     }
-    let pr = dot(span(l, p), r);
-    if pr == 0 {
-        return tie_crosses(rows, u, v, f);
-    }
-    (0 < qr) != (0 < pr)
+    let pr = sign_by(rows, dot(span(l, p), r), u, v, f.p, f.r);
+    qr != pr
 }
 
-// The same by the three signs.
-fn tie_crosses(rows: &Rows, u: usize, v: usize, f: Face) -> bool
-    requires points { ⌜ AllWithin limits (rowIn (now rows)) × (u ≤ mostPoints limits) × (v ≤ mostPoints limits) × FaceWithin limits f ⌝ }
-    requires edge { ⌜ Faced (rowIn (now rows)) u v f ⌝ }
-    ensures { λ r. ⌜ r ≡ crosses (positiveAt (rowIn (now (rows .entry)))) u v f ⌝ }
+// The sign of four points whose c0 is t0; where that is zero the shift tells it.
+fn sign_by(rows: &Rows, t0: i64, a: usize, b: usize, c: usize, d: usize) -> bool
+    requires sizes { ⌜ AllWithin limits (rowIn (now rows)) × (a ≤ mostPoints limits) × (b ≤ mostPoints limits) × (c ≤ mostPoints limits) × (d ≤ mostPoints limits) ⌝ }
+    requires points { ⌜ Asked (rowIn (now rows)) a b c d ⌝ }
+    requires first { ⌜ t0 ≡ c0 (pointAt (rowIn (now rows)) a) (pointAt (rowIn (now rows)) b) (pointAt (rowIn (now rows)) c) (pointAt (rowIn (now rows)) d) ⌝ }
+    ensures { λ r. ⌜ r ≡ positiveAt (rowIn (now (rows .entry))) a b c d ⌝ }
 {
-    let p = f.p;
-    let q = f.q;
-    let r = f.r;
-    let qp = positive_at(rows, u, v, q, p);
-    let qr = positive_at(rows, u, v, q, r);
-    let pr = positive_at(rows, u, v, p, r);
-    (qp != qr) & (qr != pr)
+    if t0 != 0 {
+        return 0 < t0;
+    }
+    tied_at(rows, a, b, c, d)
 }

@@ -5,16 +5,17 @@ ghost use Rattle.laws.specs.Mask.{digit};
 ghost use Rattle.scene.specs.Limits.{limits, mostPoints};
 ghost use Rattle.scene.specs.Arrays.{rowIn, faceIn, AllWithin, FacesWithin};
 ghost use Rattle.orient.specs.Weighted.{Asked};
-ghost use Rattle.pierce.specs.Faces.{maskBy};
+ghost use Rattle.face_masks.specs.Faces.{maskBy};
 ghost use Rattle.sides.specs.Sides.{above, sidesOf, Ready, ReadyAll};
+ghost use Rattle.sides.specs.Told.{InPlane};
 ghost use Rattle.sides.specs.Tables.{maskIn, wordSet, wordsFor, ReadyFor};
 use crate::planes::Planes;
 use crate::planes::dot;
 use crate::planes::plane_at;
 use crate::planes::row_at;
-use orient::positive_at;
-use pierce::faces::Mask;
-use pierce::faces::WORD;
+use face_masks::Mask;
+use face_masks::WORD;
+use orient::tied_at;
 use scene::Corners;
 use scene::Row;
 use scene::Rows;
@@ -136,10 +137,11 @@ fn tie_above(rows: &Rows, corners: &Corners, k: usize, t: usize) -> bool
     requires rows { ⌜ AllWithin limits (rowIn (now rows)) × FacesWithin limits (faceIn (now corners)) ⌝ }
     requires numbers { ⌜ (k ≤ 2 * limits .mostFaces) × (t ≤ mostPoints limits) ⌝ }
     requires asked { ⌜ Asked (rowIn (now rows)) ((faceIn (now corners) k) .p) ((faceIn (now corners) k) .q) ((faceIn (now corners) k) .r) t ⌝ }
+    requires within { ⌜ InPlane (rowIn (now rows)) (faceIn (now corners) k) t ⌝ }
     ensures { λ a. ⌜ a ≡ above (rowIn (now (rows .entry))) t (faceIn (now (corners .entry)) k) ⌝ }
 {
     let f = face_in(corners, k);
-    positive_at(rows, f.p, f.q, f.r, t)
+    tied_at(rows, f.p, f.q, f.r, t)
 }
 
 // The digit of a test.

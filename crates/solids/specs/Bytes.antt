@@ -1,36 +1,41 @@
 -- The parts of the scene of two texts, as they are written one after another. Assumes nothing.
-use Prim.Native.Nat.{ℕ, zero, suc, _+_, _*_, _<_, _≤_}
-use mathlib.Core.Path.{_≡_, refl, sym, ap, ap₂, _∙_}
+use Prim.Native.Nat.{ℕ, zero, suc, _+_, _*_, _≤_}
+use mathlib.Core.Path.{_≡_, refl, sym, ap, _∙_}
 use mathlib.Core.List.{List, [], _∷_, _++_, map, flatMap, append-assoc}
 use native.Mathlib.Omega.{arith}
-use native.Mathlib.Decide.{decLt}
 use native.Mathlib.Nat.{mul-le-mul}
 use lib.ListN.{length, take, length-append}
 use Rattle.laws.specs.Lists.{run, length-run}
 use Rattle.scene.specs.Limits.{limits}
 use Rattle.scene.specs.Records.{markSC, markFP, markVX, markEN}
 use Rattle.scene.specs.Tables.{Tables}
-use Rattle.scene.specs.declared.Scene.{Scene}
 use Rattle.scene.specs.declared.Row.{Row}
 use Rattle.scene.specs.declared.Face.{Face}
 use Rattle.items.specs.Items.{after}
 use Rattle.items.specs.Numbers.{largest, atMost}
 use Rattle.items.specs.Laws.{at-most-low}
 use Rattle.texts.specs.Form.{numbersOf, verticesOf, facesOf}
+use Rattle.texts.specs.Head.{Headed}
 use Rattle.texts.specs.Laws.{numbers-low}
-use Rattle.rules.specs.Write.{pointBytes, faceBytes, bytesOf, header}
+use Rattle.texts.specs.declared.Head.{Head}
+use Rattle.rules.specs.Write.{pointBytes, faceBytes, bytesOf}
 use Rattle.scene.specs.Write.{two}
 use Rattle.rules.specs.Held.{length-all}
-use Rattle.solids.specs.Solid.{rowFrom, rowOf, cornersFrom, faceOf, pointOf, denoted}
+use Rattle.solids.specs.Solid.{past, rowFrom, rowOf, cornersFrom, faceOf, pointOf, denoted}
 use Rattle.solids.specs.Fitted.{fittedRow, fittedFace, fitted, sceneOf}
 use Rattle.solids.specs.Grown.{Grown, grown-join, grown-as, grown-none, grown-more}
-use Rattle.solids.specs.Told.{row-is, face-is}
+use Rattle.solids.specs.Told.{past-after, row-is, face-is}
 use Rattle.solids.specs.declared.points.Point.{Point}
 
--- the counts of a text are within the scene's limits, as far as room goes
-pub record Small (s : List ℕ) : Type 0 where
-  pub vertices : verticesOf s ≤ limits .mostVertices
-  pub faces : facesOf s ≤ limits .mostFaces
+-- h is what the text's first four items tell, and its counts are within the scene's limits, as far as room goes
+pub record Small (s : List ℕ) (h : Head) : Type 0 where
+  pub per : h .per ≡ numbersOf s
+  pub vertices : h .vertices ≡ verticesOf s
+  pub faces : h .faces ≡ facesOf s
+  pub at : h .at ≡ after s 4
+  pub within : h .at ≤ length s
+  pub few : h .vertices ≤ limits .mostVertices
+  pub low : h .faces ≤ limits .mostFaces
 
 abbrev pub rowIn : List ℕ → ℕ → Row
 rowIn s i = fittedRow (rowOf s i)
@@ -67,40 +72,48 @@ module _ (s : List ℕ) (k : ℕ) where
 
 -- ---- counts that are small are told as they are
 
-pub count-told : (n most : ℕ) {c : ℕ} → c ≡ atMost largest n → n ≤ most → most ≤ largest → c ≡ n
+count-told : (n most : ℕ) {c : ℕ} → c ≡ atMost largest n → n ≤ most → most ≤ largest → c ≡ n
 count-told n most e h k = e ∙ at-most-low largest n (omega arith)
 
+pub small : (s : List ℕ) (h : Head) → Headed s h → verticesOf s ≤ limits .mostVertices → facesOf s ≤ limits .mostFaces → Small s h
+small s h p v f =
+    let few = count-told (verticesOf s) (limits .mostVertices) (p .vertices) v (omega arith) in
+    let low = count-told (facesOf s) (limits .mostFaces) (p .faces) f (omega arith) in
+    record {
+      per = p .per;
+      vertices = few;
+      faces = low;
+      at = p .at;
+      within = p .within;
+      few = omega arith;
+      low = omega arith;
+    }
+
 -- the first face's item
-pub few-items : (s : List ℕ) {v per : ℕ} → v ≤ limits .mostVertices → per ≡ numbersOf s → v * per ≤ limits .mostVertices * 4
-few-items s h e = mul-le-mul h (numbers-low s e)
+pub few-items : (s : List ℕ) (h : Head) → Small s h → h .vertices * h .per ≤ limits .mostVertices * 4
+few-items s h p = mul-le-mul (p .few) (numbers-low s (p .per))
 
 -- where the loops start
 pub rows-first : (s : List ℕ) (n : ℕ) {m : ℕ} → m ≡ after s 4 → m ≡ after s (4 + 0 * n)
 rows-first s n p = let e : 4 ≡ 4 + 0 * n = omega arith in p ∙ ap (after s) e
 
-pub faces-first : (s : List ℕ) {v per m : ℕ} → v ≡ verticesOf s → per ≡ numbersOf s → m ≡ after s (4 + v * per) →
+pub faces-first : (s : List ℕ) (h : Head) → Small s h → {m : ℕ} → m ≡ past s (h .at) (h .vertices * h .per) →
     m ≡ after s (4 + verticesOf s * numbersOf s + 0 * 4)
-faces-first s p q e =
+faces-first s h p e =
     let f : 4 + verticesOf s * numbersOf s ≡ 4 + verticesOf s * numbersOf s + 0 * 4 = omega arith in
-    e ∙ ap₂ (λ (x y : ℕ). after s (4 + x * y)) p q ∙ ap (after s) f
+    let i = p .at in
+    let v = p .vertices in
+    let d = p .per in
+    e ∙ (λ k. past s (i k) (v k * d k)) ∙ past-after s 4 (verticesOf s * numbersOf s) ∙ ap (after s) f
 
 -- where they end
-pub rows-all : (s : List ℕ) (k : ℕ) {i n : ℕ} {t u : List ℕ} → Grown k (rowBytes s i) t u → i ≤ n → n ≤ i → n ≡ verticesOf s → Grown k (rowBytes s (verticesOf s)) t u
+pub rows-all : (s : List ℕ) (k : ℕ) {i n : ℕ} {t u : List ℕ} → Grown k (rowBytes s i) t u → i ≤ n → n ≤ i → n ≡ verticesOf s →
+    Grown k (rowBytes s (verticesOf s)) t u
 rows-all s k {i} g a b e = let f : i ≡ verticesOf s = omega arith in grown-as (ap (rowBytes s) f) g
 
-pub faces-all : (s : List ℕ) (k : ℕ) {i n : ℕ} {t u : List ℕ} → Grown k (facesBytes s i) t u → i ≤ n → n ≤ i → n ≡ facesOf s → Grown k (facesBytes s (facesOf s)) t u
+pub faces-all : (s : List ℕ) (k : ℕ) {i n : ℕ} {t u : List ℕ} → Grown k (facesBytes s i) t u → i ≤ n → n ≤ i → n ≡ facesOf s →
+    Grown k (facesBytes s (facesOf s)) t u
 faces-all s k {i} g a b e = let f : i ≡ facesOf s = omega arith in grown-as (ap (facesBytes s) f) g
-
--- the counts of two texts that are small
-pub record Counted (a b : List ℕ) (r : Scene) : Type 0 where
-  pub vertices-a : r .«vertices_a» ≡ verticesOf a
-  pub faces-a : r .«faces_a» ≡ facesOf a
-  pub vertices-b : r .«vertices_b» ≡ verticesOf b
-  pub faces-b : r .«faces_b» ≡ facesOf b
-  pub few-a : r .«vertices_a» ≤ limits .mostVertices
-  pub low-a : r .«faces_a» ≤ limits .mostFaces
-  pub few-b : r .«vertices_b» ≤ limits .mostVertices
-  pub low-b : r .«faces_b» ≤ limits .mostFaces
 
 -- ---- the whole
 
@@ -151,8 +164,9 @@ module _ (a b : List ℕ) (far : Point) where
   module _ {va fa vb fb : ℕ} (eva : va ≡ verticesOf a) (efa : fa ≡ facesOf a) (evb : vb ≡ verticesOf b) (efb : fb ≡ facesOf b) where
     parts-long : length (sceneOf a b far) ≡ 15 + 9 * (va + vb) + 5 * (fa + fb) + 2
     parts-long =
-        let e1 = length-append (rowBytes a (verticesOf a)) (rowBytes b (verticesOf b) ++ (facesBytes a (facesOf a) ++ (facesBytes b (facesOf b) ++ two markEN))) in
-        let e2 = length-append (rowBytes b (verticesOf b)) (facesBytes a (facesOf a) ++ (facesBytes b (facesOf b) ++ two markEN)) in
+        let rest = facesBytes a (facesOf a) ++ (facesBytes b (facesOf b) ++ two markEN) in
+        let e1 = length-append (rowBytes a (verticesOf a)) (rowBytes b (verticesOf b) ++ rest) in
+        let e2 = length-append (rowBytes b (verticesOf b)) rest in
         let e3 = length-append (facesBytes a (facesOf a)) (facesBytes b (facesOf b) ++ two markEN) in
         let e4 = length-append (facesBytes b (facesOf b)) (two markEN) in
         ap length (sym parts-are)
@@ -168,25 +182,25 @@ pointsBytes a b far =
 abbrev pub allFaces : List ℕ → List ℕ → List ℕ
 allFaces a b = facesBytes a (facesOf a) ++ (facesBytes b (facesOf b) ++ two markEN)
 
-module _ (a b : List ℕ) (n : Scene) (h : Counted a b n) where
+module _ (a b : List ℕ) (h g : Head) (p : Small a h) (q : Small b g) where
   pub faces-grown : {k m d : ℕ} {s0 s1 s2 s3 : List ℕ} → Grown k (facesBytes a (facesOf a)) s0 s1 →
-      m ≡ k + 5 * n .«faces_a» → Grown m (facesBytes b (facesOf b)) s1 s2 →
-      d ≡ k + 5 * n .«faces_a» + 5 * n .«faces_b» → Grown d (two markEN) s2 s3 → Grown k (allFaces a b) s0 s3
+      m ≡ k + 5 * h .faces → Grown m (facesBytes b (facesOf b)) s1 s2 →
+      d ≡ k + 5 * h .faces + 5 * g .faces → Grown d (two markEN) s2 s3 → Grown k (allFaces a b) s0 s3
   faces-grown g1 e g2 f g3 =
-      let fa = h .faces-a in
-      let fb = h .faces-b in
+      let fa = p .faces in
+      let fb = q .faces in
       grown-join g1 (omega (arith, faces-long a (facesOf a))) (grown-join g2 (omega (arith, faces-long b (facesOf b))) g3)
 
-module _ (a b : List ℕ) (far : Point) (n : Scene) (h : Counted a b n) where
+module _ (a b : List ℕ) (far : Point) (h g : Head) (p : Small a h) (q : Small b g) where
   pub points-grown : {s0 s1 s2 s3 s4 : List ℕ} {m : ℕ} →
-      Grown 0 (headBytes (n .«vertices_a») (n .«faces_a») (n .«vertices_b») (n .«faces_b»)) s0 s1 →
+      Grown 0 (headBytes (h .vertices) (h .faces) (g .vertices) (g .faces)) s0 s1 →
       Grown 6 (pointBytes markFP (fittedRow (pointOf far))) s1 s2 → Grown 15 (rowBytes a (verticesOf a)) s2 s3 →
-      m ≡ 15 + 9 * n .«vertices_a» → Grown m (rowBytes b (verticesOf b)) s3 s4 → Grown 0 (pointsBytes a b far) s0 s4
+      m ≡ 15 + 9 * h .vertices → Grown m (rowBytes b (verticesOf b)) s3 s4 → Grown 0 (pointsBytes a b far) s0 s4
   points-grown g1 g2 g3 e g4 =
-      let va = h .vertices-a in
-      let fa = h .faces-a in
-      let vb = h .vertices-b in
-      let fb = h .faces-b in
+      let va = p .vertices in
+      let fa = p .faces in
+      let vb = q .vertices in
+      let fb = q .faces in
       grown-join (grown-as (λ i. headBytes (va i) (fa i) (vb i) (fb i)) g1) (omega arith)
       (grown-join g2 (omega arith) (grown-join g3 (omega (arith, rows-long a (verticesOf a))) g4))
 
@@ -198,16 +212,16 @@ module _ (a b : List ℕ) (far : Point) (n : Scene) (h : Counted a b n) where
       (append-assoc (rowBytes a (verticesOf a)) (rowBytes b (verticesOf b)) (allFaces a b))
       ∙ parts-are a b far
 
-  scene-grown : {s0 s1 s2 : List ℕ} {m : ℕ} → Grown 0 (pointsBytes a b far) s0 s1 → m ≡ 15 + 9 * n .«vertices_a» + 9 * n .«vertices_b» →
+  scene-grown : {s0 s1 s2 : List ℕ} {m : ℕ} → Grown 0 (pointsBytes a b far) s0 s1 → m ≡ 15 + 9 * h .vertices + 9 * g .vertices →
       Grown m (allFaces a b) s1 s2 → Grown 0 (sceneOf a b far) s0 s2
-  scene-grown g e f =
-      let va = h .vertices-a in
-      let vb = h .vertices-b in
+  scene-grown x e y =
+      let va = p .vertices in
+      let vb = q .vertices in
       let long = length-append (rowBytes a (verticesOf a)) (rowBytes b (verticesOf b)) in
-      grown-as regrouped (grown-join g (omega (arith, long, rows-long a (verticesOf a), rows-long b (verticesOf b))) f)
+      grown-as regrouped (grown-join x (omega (arith, long, rows-long a (verticesOf a), rows-long b (verticesOf b))) y)
 
-  pub scene-length : {m : ℕ} → m ≡ 15 + 9 * n .«vertices_a» + 9 * n .«vertices_b» + 5 * n .«faces_a» + 5 * n .«faces_b» + 2 → m ≡ length (sceneOf a b far)
-  scene-length e = e ∙ omega (arith, parts-long a b far (h .vertices-a) (h .faces-a) (h .vertices-b) (h .faces-b))
+  pub scene-length : {m : ℕ} → m ≡ 15 + 9 * h .vertices + 9 * g .vertices + 5 * h .faces + 5 * g .faces + 2 → m ≡ length (sceneOf a b far)
+  scene-length e = e ∙ omega (arith, parts-long a b far (p .vertices) (p .faces) (q .vertices) (q .faces))
 
 -- what stands before the end is the scene
 scene-stands : {s t l : List ℕ} {m : ℕ} → Grown 0 l s t → m ≡ length l → take m t ≡ l
@@ -216,10 +230,10 @@ scene-stands {s} {t} {l} g e = ap (λ (n : ℕ). take n t) (e ∙ sym plus) ∙ 
     plus : 0 + length l ≡ length l
     plus = omega arith
 
-module _ (a b : List ℕ) (far : Point) (n : Scene) (h : Counted a b n) where
-  pub scene-made : {s0 s1 s2 : List ℕ} {m e : ℕ} → Grown 0 (pointsBytes a b far) s0 s1 → m ≡ 15 + 9 * n .«vertices_a» + 9 * n .«vertices_b» →
-      Grown m (allFaces a b) s1 s2 → e ≡ 15 + 9 * n .«vertices_a» + 9 * n .«vertices_b» + 5 * n .«faces_a» + 5 * n .«faces_b» + 2 → take e s2 ≡ sceneOf a b far
-  scene-made g p f q = scene-stands (scene-grown a b far n h g p f) (scene-length a b far n h q)
+module _ (a b : List ℕ) (far : Point) (h g : Head) (p : Small a h) (q : Small b g) where
+  pub scene-made : {s0 s1 s2 : List ℕ} {m e : ℕ} → Grown 0 (pointsBytes a b far) s0 s1 → m ≡ 15 + 9 * h .vertices + 9 * g .vertices →
+      Grown m (allFaces a b) s1 s2 → e ≡ 15 + 9 * h .vertices + 9 * g .vertices + 5 * h .faces + 5 * g .faces + 2 → take e s2 ≡ sceneOf a b far
+  scene-made x e y d = scene-stands (scene-grown a b far h g p q x e y) (scene-length a b far h g p q d)
 
 -- the header's four counts
 pub grown-head : {va fa vb fb : ℕ} {s t u v w x : List ℕ} → Grown 0 (two markSC) s t → Grown 2 (va ∷ []) t u → Grown 3 (fa ∷ []) u v →

@@ -4,7 +4,7 @@ use mathlib.Core.Path.{_≡_, refl, sym, ap, ap₂, _∙_}
 use mathlib.Core.Bool.{Bool, true, false}
 use native.Mathlib.Omega.{arith}
 use native.Mathlib.Decide.{decLt}
-use lib.IntN.{ℤ, pos, negsuc}
+use lib.IntN.{pos}
 use Rattle.items.specs.Numbers.{made, largest, atMost}
 use Rattle.items.specs.Laws.{at-most-low, at-most-high}
 use Rattle.scene.specs.Write.{unsigned}
@@ -38,7 +38,8 @@ at-most-twice a b n h = by (decLt b n)
     by (no k) = ap (atMost a) (at-most-low b n (omega arith))
 
 -- what was told of a number fits as the number itself does
-pub told-fits : (most : ℕ) → most ≤ largest → (b : Bool) (n : ℕ) {c : Bool} {m : ℕ} → c ≡ b → m ≡ atMost largest n → nearest most (made c m) ≡ nearest most (made b n)
+pub told-fits : (most : ℕ) → most ≤ largest → (b : Bool) (n : ℕ) {c : Bool} {m : ℕ} → c ≡ b → m ≡ atMost largest n →
+    nearest most (made c m) ≡ nearest most (made b n)
 told-fits most h b n p q =
     ap₂ (λ (x : Bool) (y : ℕ). nearest most (made x y)) p q ∙ nearest-made most b (atMost largest n)
     ∙ ap (made b) (at-most-twice most largest n h) ∙ sym (nearest-made most b n)
@@ -59,5 +60,6 @@ corner-high n {m} e h = sym (at-most-high 255 (n + 1) (by (decLt largest n)))
     by (no k) = omega (arith, at-most-low largest n (omega arith))
 
 -- the field of a number
-pub field-of : (half : ℕ) (b : Bool) (n : ℕ) {m r : ℕ} → m ≡ atMost (half - 1) n → r ≡ unsigned half (made b m) → r ≡ unsigned half (nearest (half - 1) (made b n))
+pub field-of : (half : ℕ) (b : Bool) (n : ℕ) {m r : ℕ} → m ≡ atMost (half - 1) n → r ≡ unsigned half (made b m) →
+    r ≡ unsigned half (nearest (half - 1) (made b n))
 field-of half b n p q = q ∙ ap (λ (k : ℕ). unsigned half (made b k)) p ∙ ap (unsigned half) (sym (nearest-made (half - 1) b n))

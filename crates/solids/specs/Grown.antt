@@ -1,6 +1,6 @@
 -- Bytes written one after another: what stands before the end of what was written. Assumes nothing.
-use Prim.Native.Nat.{ℕ, zero, suc, _+_, _*_, _<_, _≤_, _/_, _%_}
-use mathlib.Core.Path.{_≡_, refl, sym, ap, ap₂, _∙_, subst}
+use Prim.Native.Nat.{ℕ, _+_, _*_, _<_, _/_, _%_}
+use mathlib.Core.Path.{_≡_, refl, sym, ap, _∙_, subst}
 use mathlib.Core.List.{List, [], _∷_, _++_, append-assoc, append-nil, flatMap}
 use native.Mathlib.Omega.{arith}
 use native.Mathlib.Numerals.{add-one}
@@ -71,7 +71,8 @@ module _ {A : Type 0} (f : A → List ℕ) (c : ℕ) (long : (x : A) → length 
   unfolding flatMap
   grown-none s = let e : k + 0 ≡ k = omega arith in record { front = ap (λ (n : ℕ). take n s) e ∙ sym (append-nil (take k s)) }
 
-  pub grown-more : (i : ℕ) {m : ℕ} {l s t u : List ℕ} → Grown k (flatMap f (run g 0 i)) s t → m ≡ k + c * i → l ≡ f (g i) → Grown m l t u → Grown k (flatMap f (run g 0 (i + 1))) s u
+  pub grown-more : (i : ℕ) {m : ℕ} {l s t u : List ℕ} → Grown k (flatMap f (run g 0 i)) s t → m ≡ k + c * i → l ≡ f (g i) → Grown m l t u →
+      Grown k (flatMap f (run g 0 (i + 1))) s u
   grown-more i {m} a e p b =
-      grown-as (sym (flat-snoc f g i))
-      (grown-join a (let h : length (flatMap f (run g 0 i)) ≡ i * c = length-all f c long (run g 0 i) ∙ ap (λ (n : ℕ). n * c) (length-run g 0 i) in omega arith) (grown-as p b))
+      let h : length (flatMap f (run g 0 i)) ≡ i * c = length-all f c long (run g 0 i) ∙ ap (λ (n : ℕ). n * c) (length-run g 0 i) in
+      grown-as (sym (flat-snoc f g i)) (grown-join a (omega arith) (grown-as p b))

@@ -1,13 +1,12 @@
 -- What the code reads of a vertex and of a face is what the text denotes. Assumes nothing.
 use Prim.Native.Nat.{ℕ, zero, suc, _+_, _*_, _<_, _≤_}
-use mathlib.Core.Path.{_≡_, refl, sym, ap, ap₂, _∙_}
+use mathlib.Core.Path.{_≡_, sym, ap, ap₂, _∙_}
 use mathlib.Core.List.{List}
 use mathlib.Core.Bool.{Bool, true, false, cond}
 use native.Mathlib.Omega.{arith}
 use native.Mathlib.Numerals.{add-one}
 use borrow.Author.Tests.{eq-eqb, ne-eqb}
 use lib.IntN.{ℤ, pos}
-use lib.Dec.{eqb}
 use Rattle.scene.specs.declared.Row.{Row}
 use Rattle.scene.specs.declared.Face.{Face}
 use Rattle.items.specs.Items.{startOf, endOf, after}
@@ -23,7 +22,7 @@ use Rattle.solids.specs.declared.points.Point.{Point}
 pub past-next : (s : List ℕ) (at i : ℕ) {e m : ℕ} → e ≡ past s at i → m ≡ endOf s e → m ≡ past s at (i + 1)
 past-next s at i p q = q ∙ ap (endOf s) p ∙ ap (past s at) (sym (add-one i))
 
-past-after : (s : List ℕ) (k n : ℕ) → past s (after s k) n ≡ after s (k + n)
+pub past-after : (s : List ℕ) (k n : ℕ) → past s (after s k) n ≡ after s (k + n)
 past-after s k zero = let e : k ≡ k + 0 = omega arith in ap (after s) e
 past-after s k (suc n) = ap (endOf s) (past-after s k n) ∙ ap (after s) (more k n)
   where
@@ -73,7 +72,8 @@ module _ (per : ℕ) (s : List ℕ) (at : ℕ) where
     at-w : w ≡ past s at 3
     at-w = ew ∙ ap (endOf s) at-z
 
-    pub row-told : (p : Point) → nearest 32767 (toldOf (p .x)) ≡ nearest 32767 (numberFrom s at) → nearest 32767 (toldOf (p .y)) ≡ nearest 32767 (numberFrom s y) →
+    pub row-told : (p : Point) → nearest 32767 (toldOf (p .x)) ≡ nearest 32767 (numberFrom s at) →
+        nearest 32767 (toldOf (p .y)) ≡ nearest 32767 (numberFrom s y) →
         nearest 32767 (toldOf (p .z)) ≡ nearest 32767 (numberFrom s z) → nearest 127 (toldOf (p .w)) ≡ nearest 127 (weightFrom per s w) →
         fittedRow (pointOf p) ≡ fittedRow (rowFrom per s at)
     unfolding rowFrom
@@ -97,11 +97,13 @@ module _ (s : List ℕ) (at : ℕ) {y z w : ℕ} (ey : y ≡ endOf s at) (ez : z
 
 -- ---- by their numbers
 
-pub row-is : (s : List ℕ) (i : ℕ) {per at : ℕ} {r : Row} → per ≡ numbersOf s → at ≡ after s (4 + i * per) → r ≡ fittedRow (rowFrom per s at) → r ≡ fittedRow (rowOf s i)
+pub row-is : (s : List ℕ) (i : ℕ) {per at : ℕ} {r : Row} → per ≡ numbersOf s → at ≡ after s (4 + i * per) →
+    r ≡ fittedRow (rowFrom per s at) → r ≡ fittedRow (rowOf s i)
 unfolding rowOf
 row-is s i p q e =
     e ∙ ap₂ (λ (k j : ℕ). fittedRow (rowFrom k s j)) p (q ∙ ap (λ (k : ℕ). after s (4 + i * k)) p)
 
-pub face-is : (s : List ℕ) (i : ℕ) {at : ℕ} {f : Face} → at ≡ after s (4 + verticesOf s * numbersOf s + i * 4) → f ≡ fittedFace (cornersFrom s at) → f ≡ fittedFace (faceOf s i)
+pub face-is : (s : List ℕ) (i : ℕ) {at : ℕ} {f : Face} → at ≡ after s (4 + verticesOf s * numbersOf s + i * 4) →
+    f ≡ fittedFace (cornersFrom s at) → f ≡ fittedFace (faceOf s i)
 unfolding faceOf
 face-is s i q e = e ∙ ap (λ (j : ℕ). fittedFace (cornersFrom s j)) q

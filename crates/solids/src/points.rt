@@ -3,7 +3,7 @@ ghost use mathlib.Core.Path.{_≡_};
 ghost use Prim.Native.Nat.{_≤_, _<_};
 ghost use lib.ListN.{length};
 ghost use Rattle.items.specs.Items.{endOf};
-ghost use Rattle.items.specs.Numbers.{made, numberFrom, atMost};
+ghost use Rattle.items.specs.Numbers.{atMost};
 ghost use Rattle.solids.specs.Solid.{past, toldOf, pointOf, weightFrom, rowFrom, cornerFrom, cornersFrom};
 ghost use Rattle.solids.specs.Fitted.{nearest, fittedRow, fittedFace};
 use items::next;
@@ -42,22 +42,14 @@ pub fn past(text: &[u8], at: usize, k: usize) -> usize
     e
 }
 
-// The number of the first item from `at` on, which fits a field as the number itself does.
-fn number_at(text: &[u8], at: usize) -> Number
-    requires { ⌜ at ≤ length (now text) ⌝ }
-    ensures coordinate { λ r. ⌜ nearest 32767 (toldOf r) ≡ nearest 32767 (numberFrom (now (text .entry)) at) ⌝ }
-    ensures weight { λ r. ⌜ nearest 127 (toldOf r) ≡ nearest 127 (numberFrom (now (text .entry)) at) ⌝ }
-{
-    let i = next(text, at);
-    told(text, i.start, i.end)
-}
-
+// A number that is too large for its field is told by its size, so that it fits the field as the number itself does.
 fn weight_at(text: &[u8], at: usize, per: usize) -> Number
     requires { ⌜ at ≤ length (now text) ⌝ }
     ensures { λ r. ⌜ nearest 127 (toldOf r) ≡ nearest 127 (weightFrom per (now (text .entry)) at) ⌝ }
 {
     if per == 4 {
-        return number_at(text, at);
+        let w = next(text, at);
+        return told(text, w.start, w.end);
     }
     Number {
         minus: false,
@@ -70,14 +62,14 @@ pub fn vertex_at(text: &[u8], at: usize, per: usize) -> Point
     requires { ⌜ at ≤ length (now text) ⌝ }
     ensures { λ r. ⌜ fittedRow (pointOf r) ≡ fittedRow (rowFrom per (now (text .entry)) at) ⌝ }
 {
-    let y = pass(text, at);
-    let z = pass(text, y);
-    let w = pass(text, z);
+    let x = next(text, at);
+    let y = next(text, x.end);
+    let z = next(text, y.end);
     Point {
-        x: number_at(text, at),
-        y: number_at(text, y),
-        z: number_at(text, z),
-        w: weight_at(text, w, per),
+        x: told(text, x.start, x.end),
+        y: told(text, y.start, y.end),
+        z: told(text, z.start, z.end),
+        w: weight_at(text, z.end, per),
     }
 }
 

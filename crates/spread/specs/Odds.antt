@@ -2,7 +2,7 @@
 use mathlib.Core.Path.{_≡_, refl, sym, ap, ap₂, _∙_}
 use mathlib.Core.Bool.{Bool, true, false, cond, _&&_, _||_}
 use mathlib.Core.List.{List, [], _∷_, _++_}
-use Prim.Native.Nat.{ℕ, zero, suc, _+_, _-_, _*_, _^_, _≤_, _<_}
+use Prim.Native.Nat.{ℕ, _+_, _-_, _^_, _≤_, _<_}
 use native.Mathlib.Decide.{ℕ-discrete}
 use native.Mathlib.Omega.{arith}
 use borrow.Author.Tests.{eq-eqb, ne-eqb}
@@ -15,7 +15,7 @@ use Rattle.links.specs.Links.{words, ored, ored-at, ored-size, Cleared}
 use Rattle.scene.specs.Faces.{Vertex}
 use Rattle.edges.specs.Edges.{joined}
 use Rattle.scene.specs.declared.Solid.{Solid}
-use Rattle.pierce.specs.Faces.{isOdd}
+use Rattle.face_masks.specs.Faces.{isOdd}
 use Rattle.listing.specs.Hits.{Seen, Own, upTo, isInside}
 use Rattle.listing.specs.Laws.{upTo-more}
 use Rattle.table.specs.Table.{Entry, entryIn, entriesIn}
@@ -107,7 +107,8 @@ pub any-append : {A : Type 0} (p : A → Bool) (l r : List A) → anyIn p (l ++ 
 any-append p [] r = refl
 any-append p (x ∷ l) r = ap (λ (b : Bool). p x || b) (any-append p l r) ∙ sym (or-three (p x) (anyIn p l) (anyIn p r))
 
-pub marked-none : (low n : ℕ) (ends masks : List ℕ) {before odds : List ℕ} → length before ≡ words → Cleared low n before odds → Marked low n (entriesIn ends masks 0) odds
+pub marked-none : (low n : ℕ) (ends masks : List ℕ) {before odds : List ℕ} → length before ≡ words → Cleared low n before odds →
+    Marked low n (entriesIn ends masks 0) odds
 unfolding entriesIn upTo
 marked-none low n ends masks long c =
     record { size = c .size ∙ long; at = λ u h. c .own u h ∙ sym (mask-none (λ m. false) 64 (λ m b. refl)) }

@@ -1,27 +1,24 @@
 -- Of a table of all edges of the solid the words say, at each two neighbours, whether one is enclosed and the other not. Assumes nothing.
 use mathlib.Core.Path.{_≡_, refl, sym, ap, ap₂, _∙_}
-use mathlib.Core.Logic.{_≢_, _⊎_, inl, inr}
 use mathlib.Core.Bool.{Bool, true, false, _&&_, _||_}
-use mathlib.Core.List.{List, [], _∷_, _++_}
-use Prim.Native.Nat.{ℕ, zero, suc, _+_, _-_, _*_, _≤_, _<_}
+use mathlib.Core.List.{List, [], _∷_}
+use Prim.Native.Nat.{ℕ, zero, suc, _+_, _-_, _<_}
 use native.Mathlib.Decide.{ℕ-discrete, decLt}
 use native.Mathlib.Omega.{arith}
 use borrow.Author.Tests.{eq-eqb, ne-eqb, lt-ltb, ltb-true}
 use lib.Dec.{eqb, ltb}
-use lib.ListN.{getD}
 use Rattle.laws.specs.Bools.{_⊕_, law, all, _≐_}
-use Rattle.laws.specs.Mask.{maskOf, mask-test, testBit}
+use Rattle.laws.specs.Mask.{mask-test, testBit}
 use Rattle.laws.specs.Range.{anyOf}
-use Rattle.scene.specs.Faces.{Vertex}
-use Rattle.scene.specs.declared.Face.{Face}
-use Rattle.edges.specs.Edges.{isCorner, hasBoth, joined}
+use Rattle.scene.specs.Faces.{isCorner, hasBoth}
+use Rattle.edges.specs.Edges.{joined}
 use Rattle.scene.specs.declared.Solid.{Solid}
-use Rattle.pierce.specs.Faces.{isOdd}
+use Rattle.face_masks.specs.Faces.{isOdd}
 use Rattle.listing.specs.Hits.{Seen, Own, upTo, only, edgeMask, isInside}
 use Rattle.table.specs.Table.{Entry}
 use Rattle.edge_masks.specs.Edges.{entry, vertexEdges, solidEdges}
 use Rattle.spread.specs.Ready.{Ready, across}
-use Rattle.spread.specs.Odds.{anyIn, joins, marks, Marked, AreOdds, any-append}
+use Rattle.spread.specs.Odds.{anyIn, marks, Marked, AreOdds, any-append}
 
 -- ---- whether one of a run of runs passes
 
@@ -73,11 +70,13 @@ module _ (s : Seen) (k : Solid) where
   none-of u v h =
       any-nowhere (marks u v) _ (k .verts)
       (λ i b. any-nowhere (marks u v) _ (k .verts)
-      (λ m c. one-or-none (marks u v) (entry s k (k .low + 1 + i) (k .low + 1 + m)) (ltb (k .low + 1 + i) (k .low + 1 + m) && joined (s .face) k (k .low + 1 + i) (k .low + 1 + m))
+      (λ m c. one-or-none (marks u v) (entry s k (k .low + 1 + i) (k .low + 1 + m))
+      (ltb (k .low + 1 + i) (k .low + 1 + m) && joined (s .face) k (k .low + 1 + i) (k .low + 1 + m))
       (λ e. h (k .low + 1 + i) (k .low + 1 + m) (ltb-true (k .low + 1 + i) (k .low + 1 + m) (and-left (ltb (k .low + 1 + i) (k .low + 1 + m)) _ e)))))
 
   -- the edge of u and v passes
-  found : (u v : ℕ) → Own s k u → Own s k v → u < v → joined (s .face) k u v ≡ true → isOdd (edgeMask s k u v) ≡ true → anyIn (marks u v) (solidEdges s k) ≡ true
+  found : (u v : ℕ) → Own s k u → Own s k v → u < v → joined (s .face) k u v ≡ true → isOdd (edgeMask s k u v) ≡ true →
+      anyIn (marks u v) (solidEdges s k) ≡ true
   unfolding solidEdges vertexEdges marks
   found u v hu hv l j o =
       let i : ℕ = u - (k .low + 1) in
@@ -105,7 +104,7 @@ module _ (s : Seen) (k : Solid) where
       by true o = found u v hu hv l j o
       by false o = none-of u v (λ x y b. off o x y b (ℕ-discrete x u) (ℕ-discrete y v))
 
-  joined-back : (u v : ℕ) → joined (s .face) k u v ≡ joined (s .face) k v u
+  pub joined-back : (u v : ℕ) → joined (s .face) k u v ≡ joined (s .face) k v u
   unfolding joined hasBoth
   joined-back u v i =
       anyOf (λ f. law (all λ a. all λ b. a && b ≐ b && a) tt (isCorner u (s .face f)) (isCorner v (s .face f)) i) (k .first + 1) (k .first + 1 + k .count)
@@ -114,7 +113,8 @@ module _ (s : Seen) (k : Solid) where
   unfolding marks
   marks-back u v i e =
       isOdd (e .mask)
-      && law (all λ a. all λ b. all λ c. all λ d. (a && b) || (c && d) ≐ (d && c) || (b && a)) tt (eqb (e .low) u) (eqb (e .high) v) (eqb (e .high) u) (eqb (e .low) v) i
+      && law (all λ a. all λ b. all λ c. all λ d. (a && b) || (c && d) ≐ (d && c) || (b && a)) tt (eqb (e .low) u) (eqb (e .high) v)
+      (eqb (e .high) u) (eqb (e .low) v) i
 
   same-none : (u v x y : ℕ) → u ≡ v → x < y → marks u v (entry s k x y) ≡ false
   unfolding marks

@@ -7,8 +7,8 @@ use Rattle.laws.specs.Bools.{_⊕_}
 use Rattle.laws.specs.Lists.{run}
 use Rattle.scene.specs.Faces.{Vertex}
 use Rattle.scene.specs.declared.Solid as own
-use Rattle.pierce.specs.Faces.{isOdd}
-use Rattle.pierce.specs.Parity.{Solid, Triangle}
+use Rattle.face_masks.specs.Faces.{isOdd}
+use Rattle.pierce.specs.Parity.{Solid}
 use Rattle.pierce.specs.Scene.{scene-enclosed}
 use Rattle.listing.specs.Hits.{Seen, Own, edgeMask, isInside}
 use Rattle.edge_masks.specs.Edges.{Within}

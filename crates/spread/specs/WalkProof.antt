@@ -1,7 +1,7 @@
 -- The walk's start, its end, and a vertex asked of the far point: what is known is right. Assumes nothing.
 use mathlib.Core.Path.{_≡_, refl, sym, ap, ap₂, _∙_}
 use mathlib.Core.Bool.{Bool, true, false, cond, true≢false, _&&_, _||_}
-use Prim.Native.Nat.{ℕ, zero, suc, _+_, _-_, _*_, _^_, _≤_, _<_}
+use Prim.Native.Nat.{ℕ, zero, suc, _+_, _-_, _^_, _≤_, _<_}
 use native.Mathlib.Nat.{pow-suc}
 use native.Mathlib.Omega.{arith}
 use borrow.Author.Tests.{eq-eqb, eqb-true}
@@ -9,7 +9,7 @@ use lib.Bits.{bitAnd, bitOr, or-lt}
 use lib.Count.{trailingZeros}
 use lib.Dec.{eqb}
 use lib.Pow.{pow-lt, pow-pos}
-use Rattle.laws.specs.Mask.{maskOf, mask-lt, mask-test, mask-same, testBit}
+use Rattle.laws.specs.Mask.{maskOf, mask-test, mask-same, testBit}
 use Rattle.laws.specs.Walk.{First}
 use Rattle.links.specs.Bits.{test-or, test-and, test-one, test-zero, word-bits, word-first}
 use Rattle.scene.specs.declared.Solid.{Solid}
@@ -89,7 +89,8 @@ module _ (s : Seen) (k : Solid) where
   pub started-known : {t : Spread} → Reached s k t → 0 < bitAnd (t .known) (t .left) → Started s k t t
   started-known r h = record { reached = r; same = refl; some = h }
 
-  pub started-asked : (t : Spread) {i b : ℕ} {o : Bool} (inside : ℕ) → k .verts ≤ 64 → Reached s k t → 0 < t .left → i ≡ trailingZeros 64 (t .left) → b ≡ 2 ^ i →
+  pub started-asked : (t : Spread) {i b : ℕ} {o : Bool} (inside : ℕ) → k .verts ≤ 64 → Reached s k t → 0 < t .left →
+      i ≡ trailingZeros 64 (t .left) → b ≡ 2 ^ i →
       o ≡ isInside s k (k .low + 1 + i) → inside ≡ cond o (bitOr (t .inside) b) (t .inside) →
       Started s k t (record { inside = inside; known = bitOr (t .known) b; left = t .left })
   started-asked t {i} {b} {o} inside few r some ei eb eo en =
@@ -105,13 +106,16 @@ module _ (s : Seen) (k : Solid) where
           rest = λ m h e. r .rest m h (or-false (testBit (t .known) m) (testBit b m) (sym (test-or (t .known) b m) ∙ e));
           right = λ m h.
               ap (λ (w : ℕ). testBit w m) en ∙ asked-bit o m ∙ ap₂ (λ (x y : Bool). x || (o && y)) (r .right m h) (bit m h)
-              ∙ asked-law (testBit (t .known) m) (isInside s k (k .low + 1 + m)) o (eqb i m) (λ q. eo ∙ ap (λ (j : ℕ). isInside s k (k .low + 1 + j)) (eqb-true i m q))
+              ∙ asked-law (testBit (t .known) m) (isInside s k (k .low + 1 + m)) o (eqb i m)
+              (λ q. eo ∙ ap (λ (j : ℕ). isInside s k (k .low + 1 + j)) (eqb-true i m q))
               ∙ ap (λ (y : Bool). (testBit (t .known) m || y) && isInside s k (k .low + 1 + m)) (sym (bit m h))
               ∙ ap (λ (y : Bool). y && isInside s k (k .low + 1 + m)) (sym (test-or (t .known) b m));
         };
         same = refl;
         some = set-some i (bitAnd (bitOr (t .known) b) (t .left))
-            (test-and (bitOr (t .known) b) (t .left) i ∙ ap₂ _&&_ (test-or (t .known) b i ∙ ap (λ (y : Bool). testBit (t .known) i || y) (bit i here ∙ eq-eqb i i refl) ∙ or-right (testBit (t .known) i)) (f .passes));
+            (test-and (bitOr (t .known) b) (t .left) i ∙ ap₂ _&&_
+            (test-or (t .known) b i ∙ ap (λ (y : Bool). testBit (t .known) i || y) (bit i here ∙ eq-eqb i i refl)
+            ∙ or-right (testBit (t .known) i)) (f .passes));
       }
     where
       or-right : (a : Bool) → (a || true) ≡ true

@@ -1,10 +1,7 @@
 // The vertices of a solid that the other one encloses, along its edges: one mask toward the far point for each part, and the rest by the oddness
 // of the edges' masks.
 ghost use mathlib.Core.Path.{_≡_};
-ghost use mathlib.Core.Bool.{Bool};
-ghost use Prim.Native.Nat.{ℕ, _+_, _-_, _*_, _^_, _≤_, _<_};
-ghost use lib.Bits.{bitAnd};
-ghost use lib.ListN.{length};
+ghost use Prim.Native.Nat.{_+_, _-_, _^_, _<_};
 ghost use Rattle.laws.specs.Mask.{testBit};
 ghost use Rattle.scene.specs.Faces.{Vertex};
 ghost use Rattle.links.specs.Links.{words};
@@ -15,8 +12,8 @@ ghost use Rattle.spread.specs.Ready.{Ready};
 ghost use Rattle.spread.specs.Odds.{AreOdds};
 ghost use Rattle.spread.specs.Walk.{insideWord, Reached, Started, passed, turned, stepOf};
 use engine::Engine;
+use face_masks::is_odd;
 use links::Words;
-use pierce::faces::is_odd;
 use scene::Corners;
 use scene::Rows;
 use scene::Solid;

@@ -1,15 +1,15 @@
 // A word for each vertex of a solid: the neighbours to which an edge of an odd mask leads.
 ghost use mathlib.Core.Path.{_≡_};
-ghost use Prim.Native.Nat.{ℕ, _+_, _-_, _^_, _≤_, _<_};
+ghost use Prim.Native.Nat.{ℕ, _+_, _-_, _≤_, _<_};
 ghost use lib.ListN.{length};
 ghost use Rattle.links.specs.Links.{words};
 ghost use Rattle.table.specs.Table.{mostEdges, entryIn, entriesIn};
 ghost use Rattle.spread.specs.Odds.{EndsIn, MarksEntry, Marked};
+use face_masks::is_odd;
 use links::Words;
 use links::bit;
 use links::clear;
 use links::join;
-use pierce::faces::is_odd;
 use table::Ends;
 use table::Masks;
 use table::mask_at;

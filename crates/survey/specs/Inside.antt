@@ -1,16 +1,16 @@
 -- The word of the enclosed vertices: its ones are their number, its lowest one is the lowest of them. Assumes nothing.
 use mathlib.Core.Path.{_≡_, refl, sym, ap, _∙_}
 use mathlib.Core.Bool.{Bool, true, false, cond}
-use Prim.Native.Nat.{ℕ, zero, suc, _+_, _-_, _*_, _^_, _≤_, _<_}
+use Prim.Native.Nat.{ℕ, zero, suc, _+_, _-_, _≤_, _<_}
 use native.Mathlib.Decide.{ℕ-discrete}
 use native.Mathlib.Omega.{arith}
 use borrow.Author.Tests.{eq-eqb, ne-eqb}
 use lib.Count.{ones, trailingZeros}
 use lib.Dec.{eqb}
-use Rattle.laws.specs.Lists.{run, count-run}
-use Rattle.laws.specs.Mask.{maskOf, mask-ones, mask-test, testBit}
-use Rattle.laws.specs.Range.{fold, over, countOf, lowestOf, lowest-same}
-use Rattle.laws.specs.Walk.{First, mask-first}
+use Rattle.laws.specs.Lists.{count-run}
+use Rattle.laws.specs.Mask.{mask-ones, mask-test, testBit}
+use Rattle.laws.specs.Range.{fold, over, lowestOf}
+use Rattle.laws.specs.Walk.{mask-first}
 use Rattle.links.specs.Bits.{test-zero}
 use Rattle.scene.specs.declared.Solid.{Solid}
 use Rattle.listing.specs.Hits.{Seen, isInside, insideCount, lowestInside}
@@ -24,7 +24,8 @@ lowest-none : (p : ℕ → Bool) (z a n : ℕ) → ((j : ℕ) → a ≤ j → j 
 lowest-none p z a zero h = refl
 lowest-none p z a (suc n) h = rw (h a (omega arith) (omega arith)) (lowest-none p z (suc a) n (λ j b c. h j (omega arith) (omega arith)))
 
-lowest-at : (p : ℕ → Bool) (z a n d : ℕ) → d < n → p (a + d) ≡ true → ((j : ℕ) → a ≤ j → j < a + d → p j ≡ false) → fold (λ k rest. cond (p k) k rest) z a n ≡ a + d
+lowest-at : (p : ℕ → Bool) (z a n d : ℕ) → d < n → p (a + d) ≡ true → ((j : ℕ) → a ≤ j → j < a + d → p j ≡ false) →
+    fold (λ k rest. cond (p k) k rest) z a n ≡ a + d
 lowest-at p z a zero d l t h = absurd (omega arith)
 lowest-at p z a (suc n) zero l t h =
     let e : a + 0 ≡ a = omega arith in

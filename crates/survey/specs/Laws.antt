@@ -1,21 +1,20 @@
 -- What was surveyed is the listing; and the first of two runs. Assumes nothing.
-use mathlib.Core.Path.{_≡_, refl, sym, ap, ap₂, _∙_, subst}
+use mathlib.Core.Path.{_≡_, sym, ap₂, _∙_, subst}
 use mathlib.Core.Bool.{Bool, true, false, _&&_}
 use mathlib.Core.List.{List, [], _∷_, _++_}
-use Prim.Native.Nat.{ℕ, zero, suc, _+_, _-_, _*_, _≤_, _<_}
+use Prim.Native.Nat.{ℕ, zero, suc, _+_, _*_, _≤_, _<_}
 use native.Mathlib.Decide.{ℕ-discrete}
 use native.Mathlib.Omega.{arith}
 use lib.Dec.{ltb}
 use lib.ListN.{length, length-append}
 use Rattle.laws.specs.Lists.{Each, each-append}
-use Rattle.scene.specs.Faces.{Vertex}
 use Rattle.edges.specs.Edges.{joined}
 use Rattle.scene.specs.declared.Solid.{Solid}
 use Rattle.listing.specs.Hits.{Seen, Hit, Sound, upTo, only, solidHits}
 use Rattle.listing.specs.First.{firstOf}
 use Rattle.listing.specs.declared.find.Found.{Found}
 use Rattle.listing.specs.declared.find.Found.the-variants.{Nothing, Pair}
-use Rattle.pierce.specs.Faces.{width}
+use Rattle.face_masks.specs.Faces.{width}
 use Rattle.listing.specs.Laws.{bounded}
 use Rattle.table.specs.Table.{Entry, entryIn, entriesIn, entryHits, tableHits}
 use Rattle.table.specs.Entries.{entry-most}
@@ -23,7 +22,6 @@ use Rattle.edge_masks.specs.Edges.{entry, vertexEdges, solidEdges, Filled}
 use Rattle.edge_masks.specs.Order.{table-hits}
 use Rattle.spread.specs.Odds.{EndsIn, Marked}
 use Rattle.survey.specs.Survey.{Surveyed, pairsOf}
-use Rattle.survey.specs.declared.Part.{Part}
 use Rattle.survey.specs.declared.Survey.{Survey}
 
 -- ---- what was filled
@@ -102,6 +100,7 @@ ends-in s k ends masks n e j b =
     let all : Each P (solidEdges s k) =
     each-upTo P (λ i. vertexEdges s k (k .low + 1 + i)) (k .verts)
     (λ i h. each-upTo P _ (k .verts)
-    (λ m c. each-only P (ltb (k .low + 1 + i) (k .low + 1 + m) && joined (s .face) k (k .low + 1 + i) (k .low + 1 + m)) (entry s k (k .low + 1 + i) (k .low + 1 + m))
+    (λ m c. each-only P (ltb (k .low + 1 + i) (k .low + 1 + m) && joined (s .face) k (k .low + 1 + i) (k .low + 1 + m))
+    (entry s k (k .low + 1 + i) (k .low + 1 + m))
     (record { low-end = (omega arith, omega arith); high-end = (omega arith, omega arith) }))) in
     each-at P (entryIn ends masks) n j (rw e all) b

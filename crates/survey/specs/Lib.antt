@@ -3,3 +3,6 @@ pub mod Laws
 pub mod Inside
 pub mod Told
 pub mod Parted
+pub mod First
+pub mod Still
+pub mod Seek

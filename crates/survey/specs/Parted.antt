@@ -1,12 +1,12 @@
 -- The tables that narrow the questions about a solid's edges: made of the other solid's words, or left empty. Assumes nothing.
-use mathlib.Core.Path.{_≡_, refl, sym, ap, _∙_}
+use mathlib.Core.Path.{_≡_, refl, ap, _∙_}
 use mathlib.Core.Bool.{Bool, true, false, _&&_}
 use mathlib.Core.List.{List}
-use Prim.Native.Nat.{ℕ, zero, suc, _+_, _-_, _*_, _≤_, _<_}
+use Prim.Native.Nat.{ℕ, zero, suc, _+_, _*_, _≤_, _<_}
 use native.Mathlib.Omega.{arith}
 use borrow.Author.Tests.{eqb-true}
 use lib.Dec.{eqb}
-use lib.ListN.{length, getD, replicate, length-replicate}
+use lib.ListN.{getD, replicate, length-replicate}
 use Rattle.laws.specs.Lists.{each-run}
 use Rattle.laws.specs.Mask.{maskOf}
 use Rattle.scene.specs.Limits.{limits, mostPoints}
@@ -25,7 +25,7 @@ use Rattle.spread.specs.Ready.{Ready}
 abbrev pub mirrors : (k o : Solid) → Bool
 mirrors k o = eqb (o .other) (k .first) && (eqb (o .others) (k .count) && (eqb (o .first) (k .other) && eqb (o .count) (k .others)))
 
-zeros : (m i : ℕ) → _≡_ {A = ℕ} (getD (replicate m 0) i 0) 0
+pub zeros : (m i : ℕ) → _≡_ {A = ℕ} (getD (replicate m 0) i 0) 0
 zeros zero i = refl
 zeros (suc m) zero = refl
 zeros (suc m) (suc i) = zeros m i

@@ -1,9 +1,8 @@
 -- The tables of sides: with the planes of the other solid's faces made, the words of a solid's vertices and of the far point can be told, and
 -- once they are stored they stand. Assumes nothing.
-use mathlib.Core.Path.{_≡_, refl, sym, ap, _∙_, subst}
+use mathlib.Core.Path.{_≡_, sym, ap, _∙_, subst}
 use mathlib.Core.List.{List}
 use Prim.Native.Nat.{ℕ, _+_, _-_, _*_, _≤_, _<_}
-use native.Mathlib.Decide.{decLt}
 use native.Mathlib.Omega.{arith}
 use lib.IntN.{ℤ, pos}
 use lib.ListN.{length, replicate}
@@ -14,8 +13,9 @@ use Rattle.scene.specs.Arrays.{rowIn}
 use Rattle.scene.specs.Decode.{rowSet}
 use Rattle.scene.specs.Faces.{FaceOf}
 use Rattle.scene.specs.declared.Row.{Row}
+use Rattle.scene.specs.declared.Face.{Face}
 use Rattle.scene.specs.declared.Solid.{Solid}
-use Rattle.listing.specs.Hits.{Seen, Own}
+use Rattle.listing.specs.Hits.{Seen}
 use Rattle.sides.specs.Planes.{planeFor}
 use Rattle.sides.specs.Sides.{sidesOf, ReadyAll, Planed, ready, ready-ends}
 use Rattle.sides.specs.Tables.{maskIn, wordsFor, ReadyFor, planed, masks-at, masks-kept, masks-length}
@@ -26,43 +26,55 @@ use Rattle.spread.specs.Ready.{Ready}
 abbrev pub farOf : ℕ → Solid → Solid
 farOf n k = record { low = n - 1; verts = 1; first = k .first; count = k .count; other = k .other; others = k .others }
 
+-- the empty table of planes
+abbrev pub noPlanes : List ℤ
+noPlanes = replicate (4 * (2 * limits .mostFaces + 1)) (pos 0)
+
+-- the table has the planes of the faces that the solid has opposite
+pub record Made (row : ℕ → Row) (face : ℕ → Face) (k : Solid) (planes : List ℤ) : Type 0 where
+  pub has : Planed row face (rowIn planes) (k .other) (k .others)
+
+-- it was filled up to a face that is not before the last of them
+pub made : (row : ℕ → Row) (face : ℕ → Face) (k : Solid) (m : ℕ) {empty planes : List ℤ} → empty ≡ noPlanes → k .other + k .others ≤ m →
+    m ≤ 2 * limits .mostFaces →
+    planes ≡ filled rowSet (λ f. planeFor row (face f)) (m + 1) empty → Made row face k planes
+made row face k m z least most e = record {
+  has = planed row face (m + 1) (4 * (2 * limits .mostFaces + 1)) (e ∙ ap (filled rowSet (λ f. planeFor row (face f)) (m + 1)) z)
+      (omega arith) (k .other) (k .others) (omega arith);
+}
+
 module _ (s : Seen) (k : Solid) (r : Ready s k) where
-  abbrev Made : List ℤ → Type 0
-  Made planes = planes ≡ filled rowSet (λ f. planeFor (s .row) (s .face f)) (k .other + k .others + 1)
-      (replicate (4 * (2 * limits .mostFaces + 1)) (pos 0))
+  abbrev Planes : List ℤ → Type 0
+  Planes = Made (s .row) (s .face) k
 
-  made : {planes : List ℤ} → Made planes → Planed (s .row) (s .face) (rowIn planes) (k .other) (k .others)
-  made e =
-      let o = r .within .sound .other in
-      planed (s .row) (s .face) (k .other + k .others + 1) (4 * (2 * limits .mostFaces + 1)) e (omega (arith, o)) (k .other) (k .others) (omega arith)
-
-  own-ready : {planes : List ℤ} → Made planes → ReadyFor (s .row) (s .face) (rowIn planes) k
+  own-ready : {planes : List ℤ} → Planes planes → ReadyFor (s .row) (s .face) (rowIn planes) k
   own-ready {planes} e i b =
-      ready-ends (s .row) (s .face) (rowIn planes) (k .other) (k .others) (r .within .sound .weighted) (made e)
+      ready-ends (s .row) (s .face) (rowIn planes) (k .other) (k .others) (r .within .sound .weighted) (e .has)
       (r .within .sound .outward (k .low + 1 + i) (omega arith, omega arith)) .0
 
   faces : (i : ℕ) → i < k .others → FaceOf (r .low) (r .high) (s .face (k .other + 1 + i))
   faces i b = each-run (FaceOf (r .low) (r .high)) (s .face) (k .other + 1) (k .others) (r .closed .faces) (k .other + 1 + i) (omega arith) (omega arith)
 
-  far-ready : {planes : List ℤ} → Made planes → ReadyFor (s .row) (s .face) (rowIn planes) (farOf (s .points) k)
+  far-ready : {planes : List ℤ} → Planes planes → ReadyFor (s .row) (s .face) (rowIn planes) (farOf (s .points) k)
   far-ready {planes} e i b =
       let p = r .within .sound .points in
       let at : s .points ≡ s .points - 1 + 1 + i = omega (arith, p) in
       subst (λ (t : ℕ). ReadyAll (s .row) (s .face) (rowIn planes) t (k .other) (k .others)) at
-      (ready (s .row) (s .face) (rowIn planes) (k .other) (k .others) (r .within .sound .weighted) (made e) (r .closed .inside)
+      (ready (s .row) (s .face) (rowIn planes) (k .other) (k .others) (r .within .sound .weighted) (e .has) (r .closed .inside)
       (omega (arith, p), omega arith) (r .far) faces)
 
   -- what storing the words asks for
   abbrev Storable : Solid → Type 0
   Storable f = (f .low + f .verts ≤ mostPoints limits) × (f .other + f .others ≤ 2 * limits .mostFaces) × (f .others ≤ limits .mostFaces)
 
-  pub own-asked : {planes : List ℤ} → Made planes → Storable k × ReadyFor (s .row) (s .face) (rowIn planes) k
+  pub own-asked : {planes : List ℤ} → Planes planes → Storable k × ReadyFor (s .row) (s .face) (rowIn planes) k
   own-asked e = let o = r .within .sound in ((o .vertices .1, o .other .0, o .other .1), own-ready e)
 
-  pub far-asked : {planes : List ℤ} {f : Solid} → Made planes → f ≡ farOf (s .points) k → Storable f × ReadyFor (s .row) (s .face) (rowIn planes) f
+  pub far-asked : {planes : List ℤ} {f : Solid} → Planes planes → f ≡ farOf (s .points) k → Storable f × ReadyFor (s .row) (s .face) (rowIn planes) f
   far-asked {planes} {f} e d =
       let o = r .within .sound in
-      subst (λ (g : Solid). Storable g × ReadyFor (s .row) (s .face) (rowIn planes) g) (sym d) ((omega (arith, o .points), o .other .0, o .other .1), far-ready e)
+      subst (λ (g : Solid). Storable g × ReadyFor (s .row) (s .face) (rowIn planes) g) (sym d)
+      ((omega (arith, o .points), o .other .0, o .other .1), far-ready e)
 
   -- the far point's, then those of the vertices
   pub told : (w : List ℕ) {w1 w2 : List ℕ} {f : Solid} → length w ≡ 2 * (mostPoints limits + 1) → f ≡ farOf (s .points) k →

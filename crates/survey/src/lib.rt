@@ -3,6 +3,7 @@ ghost use Rattle.edge_masks.specs.Sides.{Told, Parted};
 ghost use Rattle.listing.specs.Hits.{seenIn};
 ghost use Rattle.spread.specs.Ready.{Ready};
 ghost use Rattle.survey.specs.Survey.{Surveyed, Sized};
+use crate::told::make_planes;
 use crate::told::mirrors;
 use crate::told::tell_sides;
 use edge_masks::fill_solid;
@@ -15,12 +16,15 @@ use scene::Corners;
 use scene::Rows;
 use scene::Scene;
 use scene::Solid;
+use sides::planes::Planes;
 use spread::enclosed_word;
 use spread::odds::fill_odds;
 use table::Ends;
 use table::Masks;
 
 pub mod answers;
+mod first;
+pub mod seek;
 mod told;
 
 // Of one solid: how many edges it has, and the word of its enclosed vertices.
@@ -48,10 +52,12 @@ pub fn survey_solid(
     requires { ⌜ Ready (seenIn n (now rows) (now corners)) k × Sized (now ends) (now masks) ⌝ }
     ensures { λ r. ⌜ Surveyed (seenIn n (now (rows .entry)) (now (corners .entry))) k (now (ends .exit)) (now (masks .exit)) r ⌝ }
 {
+    let mut planes: Planes = [0; 4 * (2 * Scene::MOST_FACES + 1)];
     let mut words: sides::words::Words = [0; 2 * (Scene::MOST_POINTS + 1)];
     let own: sides::words::Words = [0; 2 * (Scene::MOST_POINTS + 1)];
     let cuts: Cuts = [0; 2 * (2 * Scene::MOST_FACES + 1)];
-    tell_sides(rows, corners, n, k, &mut words);
+    make_planes(rows, corners, k, k, &mut planes);
+    tell_sides(rows, corners, &planes, n, k, &mut words);
     survey_part(
         engine,
         rows,
@@ -155,10 +161,12 @@ pub fn survey_scene(
     ensures { λ r. ⌜ Surveyed (seenIn n (now (rows .entry)) (now (corners .entry))) a (now (aends .exit)) (now (amasks .exit)) (r .a) ⌝ }
     ensures { λ r. ⌜ Surveyed (seenIn n (now (rows .entry)) (now (corners .entry))) b (now (bends .exit)) (now (bmasks .exit)) (r .b) ⌝ }
 {
+    let mut planes: Planes = [0; 4 * (2 * Scene::MOST_FACES + 1)];
     let mut words: sides::words::Words = [0; 2 * (Scene::MOST_POINTS + 1)];
     let mut others: sides::words::Words = [0; 2 * (Scene::MOST_POINTS + 1)];
-    tell_sides(rows, corners, n, a, &mut words);
-    tell_sides(rows, corners, n, b, &mut others);
+    make_planes(rows, corners, a, b, &mut planes);
+    tell_sides(rows, corners, &planes, n, a, &mut words);
+    tell_sides(rows, corners, &planes, n, b, &mut others);
     let of_a = survey_beside(
         engine,
         rows,

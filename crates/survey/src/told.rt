@@ -2,15 +2,15 @@
 ghost use Rattle.edge_masks.specs.Sides.{Told};
 ghost use Rattle.listing.specs.Hits.{seenIn};
 ghost use Rattle.spread.specs.Ready.{Ready};
-ghost use Rattle.survey.specs.Told.{farOf};
+ghost use Rattle.survey.specs.Told.{farOf, noPlanes, Made};
 ghost use Rattle.survey.specs.Parted.{mirrors};
 ghost use mathlib.Core.Path.{_≡_};
 ghost use Prim.Native.Nat.{_+_, _*_, _≤_};
 ghost use lib.ListN.{length};
 ghost use Rattle.scene.specs.Limits.{limits, mostPoints};
+ghost use Rattle.scene.specs.Arrays.{rowIn, faceIn, AllWithin, FacesWithin};
 use scene::Corners;
 use scene::Rows;
-use scene::Scene;
 use scene::Solid;
 use sides::planes::Planes;
 use sides::words::Words;
@@ -30,15 +30,38 @@ fn far(n: usize, k: Solid) -> Solid
     }
 }
 
-// The planes of the other solid's faces are made on the way.
-pub fn tell_sides(rows: &Rows, corners: &Corners, n: usize, k: Solid, words: &mut Words)
-    requires { ⌜ Ready (seenIn n (now rows) (now corners)) k × (length (now words) ≡ 2 * (mostPoints limits + 1)) ⌝ }
+// The planes of all faces up to the last that either solid has opposite.
+pub fn make_planes(rows: &Rows, corners: &Corners, a: Solid, b: Solid, planes: &mut Planes)
+    requires rows { ⌜ AllWithin limits (rowIn (now rows)) × FacesWithin limits (faceIn (now corners)) ⌝ }
+    requires faces { ⌜ (a .other + a .others ≤ 2 * limits .mostFaces) × (b .other + b .others ≤ 2 * limits .mostFaces) ⌝ }
+    requires empty { ⌜ now planes ≡ noPlanes ⌝ }
+    ensures { λ _. ⌜ Made (rowIn (now (rows .entry))) (faceIn (now (corners .entry))) a (now (planes .exit)) ⌝ }
+    ensures { λ _. ⌜ Made (rowIn (now (rows .entry))) (faceIn (now (corners .entry))) b (now (planes .exit)) ⌝ }
+{
+    let x = a.other + a.others;
+    let y = b.other + b.others;
+    if x < y {
+        sides::planes::fill(rows, corners, y, planes);
+    } else {
+        sides::planes::fill(rows, corners, x, planes);
+    }
+}
+
+// By the planes of the other solid's faces.
+pub fn tell_sides(
+    rows: &Rows,
+    corners: &Corners,
+    planes: &Planes,
+    n: usize,
+    k: Solid,
+    words: &mut Words,
+)
+    requires solid { ⌜ Ready (seenIn n (now rows) (now corners)) k × (length (now words) ≡ 2 * (mostPoints limits + 1)) ⌝ }
+    requires made { ⌜ Made (rowIn (now rows)) (faceIn (now corners)) k (now planes) ⌝ }
     ensures { λ _. ⌜ Told (seenIn n (now (rows .entry)) (now (corners .entry))) k (now (words .exit)) ⌝ }
 {
-    let mut planes: Planes = [0; 4 * (2 * Scene::MOST_FACES + 1)];
-    sides::planes::fill(rows, corners, k.other + k.others, &mut planes);
-    sides::words::fill(rows, corners, &planes, far(n, k), words);
-    sides::words::fill(rows, corners, &planes, k, words);
+    sides::words::fill(rows, corners, planes, far(n, k), words);
+    sides::words::fill(rows, corners, planes, k, words);
 }
 
 // Each of the two has the other's faces opposite.

@@ -1,24 +1,21 @@
 -- The pairs of one entry: by its mask's two words, how many, and the first. Assumes nothing.
 use mathlib.Core.Path.{_≡_, refl, sym, ap, ap₂, _∙_}
 use mathlib.Core.Bool.{Bool, true, false}
-use mathlib.Core.List.{List, [], _∷_, _++_}
-use Prim.Native.Nat.{ℕ, zero, suc, _+_, _-_, _*_, _^_, _≤_, _<_}
+use mathlib.Core.List.{[], _++_}
+use Prim.Native.Nat.{ℕ, _+_, _-_, _*_, _^_, _≤_, _<_}
 use native.Mathlib.Nat.{le-refl, mul-le-mul-right}
 use native.Mathlib.Omega.{arith}
 use lib.Count.{ones, trailingZeros}
 use lib.ListN.{length}
 use lib.Pow.{pow-add}
 use Rattle.laws.specs.Mask.{digit, testBit, test-low, test-high}
-use Rattle.laws.specs.Walk.{First}
 use Rattle.links.specs.Bits.{word-bits, word-first, test-zero}
 use Rattle.links.specs.Number.{sumOf, ones-sum}
-use Rattle.pierce.specs.Faces.{width, valueOf}
-use Rattle.pierce.specs.declared.faces.Mask.{Mask}
-use Rattle.listing.specs.Hits.{Hit, upTo, only}
+use Rattle.face_masks.specs.Faces.{width, valueOf}
+use Rattle.face_masks.specs.declared.Mask.{Mask}
 use Rattle.listing.specs.Laws.{upTo-same, bounded, only-most}
 use Rattle.listing.specs.Pour.{maskHit, maskHits}
 use Rattle.listing.specs.First.{firstOf, first-none, first-found}
-use Rattle.listing.specs.declared.find.Found.{Found}
 use Rattle.listing.specs.declared.find.Found.the-variants.{Nothing, Pair}
 use Rattle.table.specs.Table.{Entry, entryHits}
 use Rattle.table.specs.Runs.{upTo-join, upTo-none, upTo-length}

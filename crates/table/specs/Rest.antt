@@ -1,7 +1,7 @@
 -- Pouring by the set bits of a word: what is left to pour, and the whole. Assumes nothing.
 use mathlib.Core.Path.{_≡_, refl, sym, ap, _∙_}
-use mathlib.Core.List.{List, [], _∷_, _++_}
-use Prim.Native.Nat.{ℕ, _+_, _-_, _^_, _≤_, _<_}
+use mathlib.Core.List.{List, [], _∷_}
+use Prim.Native.Nat.{ℕ, _+_, _-_, _^_, _<_}
 use native.Mathlib.Omega.{arith}
 use lib.Bits.{bitAnd}
 use lib.Count.{trailingZeros}
@@ -45,12 +45,14 @@ module _ (u v first : ℕ) where
       record {
         count = omega (arith, s .count, ap length turn);
         held =
-            ap (λ (x : List ℕ). poured x from (n + 1) (bitHits u v first (bitAnd w (w - 1)))) (e ∙ ap (λ (y : ℕ). stepped d₁ from n (record { low = u; high = v; face = y })) ef)
+            ap (λ (x : List ℕ). poured x from (n + 1) (bitHits u v first (bitAnd w (w - 1))))
+            (e ∙ ap (λ (y : ℕ). stepped d₁ from n (record { low = u; high = v; face = y })) ef)
             ∙ ap (poured d₁ from n) (sym turn) ∙ s .held;
         long = l ∙ s .long;
       }
 
-  pub rest-end : {w : ℕ} {whole : List Hit} {from seen n : ℕ} {d d₁ : List ℕ} → w ≡ 0 → Rest (bitHits u v first w) whole from seen d d₁ n → Pours whole from seen d d₁ n
+  pub rest-end : {w : ℕ} {whole : List Hit} {from seen n : ℕ} {d d₁ : List ℕ} → w ≡ 0 → Rest (bitHits u v first w) whole from seen d d₁ n →
+      Pours whole from seen d d₁ n
   unfolding each poured
   rest-end {w} {whole} {from} {seen} {n} {d} {d₁} e s =
       let none : bitHits u v first w ≡ [] =

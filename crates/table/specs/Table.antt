@@ -3,7 +3,7 @@ use mathlib.Core.List.{List, [], _∷_, _++_}
 use Prim.Native.Nat.{ℕ, _+_, _*_, _^_}
 use lib.ListN.{getD}
 use Rattle.scene.specs.Limits.{limits}
-use Rattle.pierce.specs.Faces.{width}
+use Rattle.face_masks.specs.Faces.{width}
 use Rattle.listing.specs.Hits.{Hit, upTo}
 use Rattle.listing.specs.Pour.{maskHits}
 

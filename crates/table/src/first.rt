@@ -8,7 +8,6 @@ use crate::Ends;
 use crate::Masks;
 use crate::mask_at;
 use listing::find::Found;
-use pierce::faces;
 
 fn wide(x: u16) -> usize
     ensures { λ r. ⌜ r ≡ x ⌝ }
@@ -22,14 +21,14 @@ fn find_entry(ends: &Ends, masks: &Masks, j: usize, first: usize) -> Found
     ensures { λ r. ⌜ r ≡ firstOf (entryHits first (entryIn (now (ends .entry)) (now (masks .entry)) j)) ⌝ }
 {
     let m = mask_at(masks, j);
-    if !faces::has_face(m) {
+    if !face_masks::has_face(m) {
         return Found::Nothing;
     }
     let at = 2 * j;
     Found::Pair(
         wide(ends[at]),
         wide(ends[at + 1]),
-        first + 1 + faces::first_face(m),
+        first + 1 + face_masks::first_face(m),
     )
 }
 

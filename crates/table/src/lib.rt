@@ -2,11 +2,10 @@
 ghost use mathlib.Core.Path.{_≡_};
 ghost use mathlib.Core.List.{List};
 ghost use Prim.Native.Nat.{ℕ, _+_, _*_, _^_, _≤_, _<_};
-ghost use lib.ListN.{length, getD};
-ghost use Rattle.pierce.specs.Faces.{width, valueOf};
+ghost use lib.ListN.{length};
+ghost use Rattle.face_masks.specs.Faces.{width, valueOf};
 ghost use Rattle.table.specs.Table.{mostEdges, maskIn, tableHits};
-use pierce::faces;
-use pierce::faces::Mask;
+use face_masks::Mask;
 use scene::Scene;
 
 pub mod first;
@@ -49,7 +48,7 @@ pub fn count(masks: &Masks, n: usize) -> usize
     let mut c: usize = 0;
     let mut j: usize = 0;
     while j < n {
-        c += faces::ones(mask_at(masks, j));
+        c += face_masks::ones(mask_at(masks, j));
         j += 1;
     }
     c

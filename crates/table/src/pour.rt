@@ -2,13 +2,13 @@
 ghost use mathlib.Core.Path.{_≡_};
 ghost use Prim.Native.Nat.{_+_, _*_, _≤_, _<_};
 ghost use Rattle.listing.specs.Pour.{Pours, stepped, maskHits, most};
-ghost use Rattle.pierce.specs.Faces.{width};
+ghost use Rattle.face_masks.specs.Faces.{width};
 ghost use Rattle.scene.specs.Limits.{limits};
 ghost use Rattle.table.specs.Table.{mostEdges, entryIn, entryHits, tableHits};
 use crate::Ends;
 use crate::Masks;
 use crate::mask_at;
-use pierce::faces::WORD;
+use face_masks::WORD;
 
 fn narrow(x: usize) -> u16
     requires { ⌜ x < 65536 ⌝ }

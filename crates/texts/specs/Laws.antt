@@ -1,5 +1,5 @@
 -- The laws of the form, in the form in which a loop's turn, a call's answer and a branch arrive. Assumes nothing.
-use Prim.Native.Nat.{ℕ, zero, suc, _+_, _*_, _-_, _<_, _≤_, _^_}
+use Prim.Native.Nat.{ℕ, suc, _+_, _*_, _-_, _<_, _≤_, _^_}
 use mathlib.Core.Path.{_≡_, refl, sym, ap, ap₂, _∙_}
 use mathlib.Core.List.{List}
 use mathlib.Core.Bool.{Bool, true, false, not, cond, _&&_}
@@ -11,10 +11,10 @@ use borrow.Author.Tests.{eq-eqb, ne-eqb, not-true, not-false}
 use lib.ListN.{length}
 use lib.Dec.{eqb}
 use Rattle.items.specs.Items.{startOf, endOf, after}
-use Rattle.items.specs.Numbers.{isWhole, sizeOf, wholeFrom, sizeFrom, largest, atMost}
+use Rattle.items.specs.Numbers.{isWhole, sizeOf, wholeFrom, largest, atMost}
 use Rattle.items.specs.Laws.{at-most-low, at-most-high}
 use Rattle.texts.specs.Form.{isThree, isFour, keyword, goOn, wholes, faceFrom, facesFrom, endFrom, numbersOf, countsThen, formOf}
-use Rattle.texts.specs.Places.{after-in, Reached, wholes-reach, wholes-many, face-reach, faces-reach, faces-many}
+use Rattle.texts.specs.Places.{after-in, wholes-reach, wholes-many, face-reach, faces-reach, faces-many}
 use Rattle.texts.specs.declared.Reading.{Reading}
 use Rattle.texts.specs.declared.Reading.the-variants.{At, Outside, Sides}
 
@@ -120,6 +120,8 @@ module _ (s : List ℕ) (n i at : ℕ) {w : Reading} (inv : facesFrom (n - i) s 
     pub faces-next : {k : ℕ} → o ≡ At k → facesFrom (n - (i + 1)) s k ≡ w
     faces-next q = ap (λ (r : Reading). goOn r (facesFrom (n - (i + 1)) s)) (sym q) ∙ faces-turn
 
+pub ruleset reads = (wholes-stop, wholes-found, wholes-next, faces-stop, faces-outside, faces-sides, faces-next, needs)
+
 -- ---- where a reading ends, within the text
 
 module _ (s : List ℕ) {at k : ℕ} {o : Reading} (h : at ≤ length s) (q : o ≡ At k) where
@@ -179,6 +181,8 @@ equal-goes-on {n} {m} v {y} p q e = e ∙ sym (ap (λ (b : Bool). b && y) (eq-eq
 pub equal-last : {n m : ℕ} (v : ℕ) → n ≡ m → eqb n v ≡ eqb m v
 equal-last v p = ap (λ (k : ℕ). eqb k v) p
 
+pub ruleset equals = (equal-stops, equal-goes-on, equal-last)
+
 module _ (s : List ℕ) (i n : ℕ) {o : Bool} (p : o ≡ isThree s i n) where
   pub keyword-three : o ≡ true → 3 ≡ keyword s i n
   unfolding keyword
@@ -195,7 +199,7 @@ module _ (s : List ℕ) (i n : ℕ) {o : Bool} (p : o ≡ isThree s i n) where
     pub keyword-none : t ≡ false → 0 ≡ keyword s i n
     keyword-none f = ap (λ (b : Bool). cond b 4 0) (sym f) ∙ keyword-by
 
-pub keyword-low : (s : List ℕ) (i n : ℕ) → keyword s i n ≤ 4
+keyword-low : (s : List ℕ) (i n : ℕ) → keyword s i n ≤ 4
 unfolding keyword
 keyword-low s i n = by (isThree s i n) (isFour s i n)
   where
@@ -204,9 +208,9 @@ keyword-low s i n = by (isThree s i n) (isFour s i n)
     by false true = omega arith
     by false false = omega arith
 
-pub keyword-high : (s : List ℕ) (i n : ℕ) → (keyword s i n ≡ 0 → ⊥) → 3 ≤ keyword s i n
+keyword-some : (s : List ℕ) (i n : ℕ) → (keyword s i n ≡ 0 → ⊥) → 3 ≤ keyword s i n
 unfolding keyword
-keyword-high s i n = by (isThree s i n) (isFour s i n)
+keyword-some s i n = by (isThree s i n) (isFour s i n)
   where
     by : (a b : Bool) → (_≡_ {A = ℕ} (cond a 3 (cond b 4 0)) 0 → ⊥) → 3 ≤ cond a 3 (cond b 4 0)
     by true b h = omega arith
@@ -225,17 +229,27 @@ module _ (s : List ℕ) (at : ℕ) {b : ℕ} (p : b ≡ startOf s at) where
   end-outside q =
       ap Outside p ∙ sym (ap (λ (t : Bool). cond t (At at) (Outside (startOf s at))) (ne-eqb (startOf s at) (length s) (λ e. q (p ∙ e))))
 
-module _ (s : List ℕ) {n : ℕ} (p : n ≡ numbersOf s) where
-  pub form-outside : {b : ℕ} → n ≡ 0 → b ≡ startOf s 0 → Outside b ≡ formOf s
-  unfolding formOf
-  form-outside q e = ap Outside e ∙ sym (ap (λ (t : Bool). cond t (Outside (startOf s 0)) (countsThen s)) (eq-eqb (numbersOf s) 0 (sym p ∙ q)))
-
-  pub form-counts : {r : Reading} → (n ≡ 0 → ⊥) → r ≡ countsThen s → r ≡ formOf s
-  unfolding formOf
-  form-counts q e = e ∙ sym (ap (λ (t : Bool). cond t (Outside (startOf s 0)) (countsThen s)) (ne-eqb (numbersOf s) 0 (λ z. q (p ∙ z))))
+pub counts-from : (s : List ℕ) {at : ℕ} {r : Reading} → at ≡ after s 1 → r ≡ wholes false 3 s at → r ≡ wholes false 3 s (after s 1)
+counts-from s p e = e ∙ ap (wholes false 3 s) p
 
 pub numbers-low : (s : List ℕ) {n : ℕ} → n ≡ numbersOf s → n ≤ 4
 numbers-low s e = omega (arith, keyword-low s (startOf s 0) (endOf s 0 - startOf s 0))
 
-pub numbers-high : (s : List ℕ) {n : ℕ} → n ≡ numbersOf s → (n ≡ 0 → ⊥) → 3 ≤ numbersOf s
-numbers-high s e h = keyword-high s (startOf s 0) (endOf s 0 - startOf s 0) (λ z. h (e ∙ z))
+-- by the first item
+module _ (s : List ℕ) {b e n : ℕ} (p : b ≡ startOf s 0) (q : e ≡ endOf s 0) (k : n ≡ keyword s b (e - b)) where
+  pub keyword-first : n ≡ numbersOf s
+  keyword-first = k ∙ ap₂ (λ (i j : ℕ). keyword s i (j - i)) p q
+
+  pub form-outside : n ≡ 0 → Outside b ≡ formOf s
+  unfolding formOf
+  form-outside z =
+      ap Outside p ∙ sym (ap (λ (t : Bool). cond t (Outside (startOf s 0)) (countsThen s)) (eq-eqb (numbersOf s) 0 (sym keyword-first ∙ z)))
+
+  module _ (h : n ≡ 0 → ⊥) where
+    pub keyword-high : 3 ≤ n
+    keyword-high = omega (arith, keyword-some s b (e - b) (λ z. h (k ∙ z)))
+
+    pub form-counts : {r : Reading} → r ≡ countsThen s → r ≡ formOf s
+    unfolding formOf
+    form-counts x =
+        x ∙ sym (ap (λ (t : Bool). cond t (Outside (startOf s 0)) (countsThen s)) (ne-eqb (numbersOf s) 0 (λ z. h (keyword-first ∙ z))))

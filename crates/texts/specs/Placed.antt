@@ -1,6 +1,5 @@
 -- A reading's offset is within the text, also where it is that of a fault. Assumes nothing.
 use Prim.Native.Nat.{ℕ, zero, suc, _*_, _≤_}
-use mathlib.Core.Path.{_≡_, refl}
 use mathlib.Core.List.{List}
 use mathlib.Core.Bool.{Bool, true, false, cond}
 use native.Mathlib.Omega.{arith}
@@ -8,7 +7,7 @@ use lib.ListN.{length}
 use lib.Dec.{eqb}
 use Rattle.items.specs.Items.{startOf, endOf, after}
 use Rattle.items.specs.Numbers.{wholeFrom, sizeFrom}
-use Rattle.texts.specs.Form.{goOn, wholes, faceFrom, facesFrom, endFrom, numbersOf, verticesOf, facesOf, facesThen, verticesThen, countsThen, formOf}
+use Rattle.texts.specs.Form.{goOn, wholes, faceFrom, facesFrom, endFrom, numbersOf, verticesOf, facesOf, facesThen, verticesThen, formOf}
 use Rattle.texts.specs.Places.{start-in, end-in, after-in}
 use Rattle.texts.specs.declared.Reading.{Reading}
 use Rattle.texts.specs.declared.Reading.the-variants.{At, Outside, Sides}

@@ -1,15 +1,15 @@
 -- Where items stand: behind what was read and within the text; and that a count above the number of items left tells as much as any other
 -- such count. Assumes nothing.
-use Prim.Native.Nat.{ℕ, zero, suc, _+_, _*_, _-_, _<_, _≤_}
-use mathlib.Core.Path.{_≡_, refl, sym, ap, _∙_}
+use Prim.Native.Nat.{ℕ, zero, suc, _+_, _<_, _≤_}
+use mathlib.Core.Path.{_≡_, refl}
 use mathlib.Core.List.{List, [], _∷_}
 use mathlib.Core.Bool.{Bool, true, false, cond, _&&_}
 use native.Mathlib.Omega.{arith}
 use borrow.Author.Tests.{ltb-true}
 use lib.ListN.{length, drop, length-drop}
-use lib.Dec.{eqb, ltb}
+use lib.Dec.{eqb}
 use Rattle.items.specs.Items.{separates, begins, comments, gap, word, startOf, wordEnd, endOf, after}
-use Rattle.items.specs.Numbers.{digits, minusAt, bodyOf, isWhole, wholeFrom, sizeFrom}
+use Rattle.items.specs.Numbers.{minusAt, bodyOf, isWhole, wholeFrom, sizeFrom}
 use Rattle.texts.specs.Form.{goOn, wholes, faceFrom, facesFrom}
 use Rattle.texts.specs.declared.Reading.{Reading}
 use Rattle.texts.specs.declared.Reading.the-variants.{At, Outside, Sides}

@@ -4,9 +4,11 @@ ghost use mathlib.Core.Bool.{true, false};
 ghost use Prim.Native.Nat.{_+_, _*_, _^_, _≤_, _<_};
 ghost use lib.ListN.{length};
 ghost use Rattle.items.specs.Items.{after};
-ghost use Rattle.items.specs.Numbers.{largest, atMost};
-ghost use Rattle.texts.specs.Form.{isOff, isThree, isFour, keyword, numbersOf, countAt, verticesOf, facesOf, wholes, faceFrom, facesFrom, endFrom, facesThen, verticesThen, countsThen, formOf};
-use items::after;
+ghost use Rattle.items.specs.Numbers.{sizeOf, largest, atMost};
+ghost use Rattle.texts.specs.Form.{isOff, isThree, isFour, keyword, numbersOf, verticesOf, facesOf, wholes, faceFrom, facesFrom, endFrom};
+ghost use Rattle.texts.specs.Form.{facesThen, verticesThen, countsThen, formOf};
+ghost use Rattle.texts.specs.Head.{Headed};
+use items::Item;
 use items::next;
 use items::numbers::LARGEST;
 use items::numbers::is_whole;
@@ -18,6 +20,15 @@ pub enum Reading {
     At(usize),
     Outside(usize),
     Sides(usize),
+}
+
+// What a text's first four items tell: by the keyword how many numbers each vertex has, 3 or 4, and 0 where it is neither OFF nor 4OFF; the
+// counts of vertices and of faces; and where the four end.
+pub struct Head {
+    pub per: usize,
+    pub vertices: usize,
+    pub faces: usize,
+    pub at: usize,
 }
 
 // `OFF` at i.
@@ -70,20 +81,34 @@ fn keyword(text: &[u8], i: usize, n: usize) -> usize
     0
 }
 
-// How many numbers each vertex has: 3 or 4, by the keyword; 0 where it is neither OFF nor 4OFF.
-pub fn numbers_of(text: &[u8]) -> usize
-    ensures { λ r. ⌜ r ≡ numbersOf (now (text .entry)) ⌝ }
+fn count(text: &[u8], i: Item) -> usize
+    requires { ⌜ (i .start ≤ i .end) × (i .end ≤ length (now text)) ⌝ }
+    ensures { λ r. ⌜ r ≡ atMost largest (sizeOf false (now (text .entry)) (i .start) (i .end)) ⌝ }
 {
-    let k = next(text, 0);
-    keyword(text, k.start, k.end - k.start)
+    size(text, i.start, i.end, false)
 }
 
-// The number that item k tells.
-pub fn count_at(text: &[u8], k: usize) -> usize
-    ensures { λ r. ⌜ r ≡ atMost largest (countAt (now (text .entry)) k) ⌝ }
+// Behind the keyword, which says `per`: the three counts are the first items from `at` on.
+fn head_from(text: &[u8], at: usize, per: usize) -> Head
+    requires { ⌜ (at ≡ after (now text) 1) × (at ≤ length (now text)) × (per ≡ numbersOf (now text)) ⌝ }
+    ensures { λ r. ⌜ Headed (now (text .entry)) r ⌝ }
 {
-    let i = next(text, after(text, k));
-    size(text, i.start, i.end, false)
+    let v = next(text, at);
+    let f = next(text, v.end);
+    Head {
+        per: per,
+        vertices: count(text, v),
+        faces: count(text, f),
+        at: next(text, f.end).end,
+    }
+}
+
+// The text's first four items.
+pub fn head_of(text: &[u8]) -> Head
+    ensures { λ r. ⌜ Headed (now (text .entry)) r ⌝ }
+{
+    let k = next(text, 0);
+    head_from(text, k.end, keyword(text, k.start, k.end - k.start))
 }
 
 // n whole numbers from `at` on.
@@ -154,23 +179,21 @@ fn times(v: usize, per: usize) -> usize
 }
 
 // The vertices' numbers. A count that is larger than any text is long tells no more than the largest number does.
-fn vertices(text: &[u8], at: usize) -> Reading
-    requires { ⌜ (at ≤ length (now text)) × (3 ≤ numbersOf (now text)) ⌝ }
+fn vertices(text: &[u8], at: usize, h: Head) -> Reading
+    requires { ⌜ (at ≤ length (now text)) × (3 ≤ h .per) × Headed (now text) h ⌝ }
     ensures { λ r. ⌜ r ≡ wholes true (verticesOf (now (text .entry)) * numbersOf (now (text .entry))) (now (text .entry)) at ⌝ }
 {
-    let v = count_at(text, 1);
-    let per = numbers_of(text);
-    if v < 4611686018427387904 {
-        return wholes(text, at, times(v, per), true);
+    if h.vertices < 4611686018427387904 {
+        return wholes(text, at, times(h.vertices, h.per), true);
     }
     wholes(text, at, LARGEST, true)
 }
 
-fn all_faces(text: &[u8], at: usize) -> Reading
-    requires { ⌜ at ≤ length (now text) ⌝ }
+fn all_faces(text: &[u8], at: usize, h: Head) -> Reading
+    requires { ⌜ (at ≤ length (now text)) × Headed (now text) h ⌝ }
     ensures { λ r. ⌜ r ≡ facesFrom (facesOf (now (text .entry))) (now (text .entry)) at ⌝ }
 {
-    faces(text, at, count_at(text, 2))
+    faces(text, at, h.faces)
 }
 
 // Nothing from `at` on.
@@ -185,40 +208,42 @@ fn end(text: &[u8], at: usize) -> Reading
     Reading::Outside(i)
 }
 
-fn faces_then(text: &[u8], at: usize) -> Reading
-    requires { ⌜ at ≤ length (now text) ⌝ }
+fn faces_then(text: &[u8], at: usize, h: Head) -> Reading
+    requires { ⌜ (at ≤ length (now text)) × Headed (now text) h ⌝ }
     ensures { λ r. ⌜ r ≡ facesThen (now (text .entry)) at ⌝ }
 {
-    match all_faces(text, at) {
+    match all_faces(text, at, h) {
         Reading::At(e) => end(text, e),
         Reading::Outside(p) => Reading::Outside(p),
         Reading::Sides(p) => Reading::Sides(p),
     }
 }
 
-fn vertices_then(text: &[u8], at: usize) -> Reading
-    requires { ⌜ (at ≤ length (now text)) × (3 ≤ numbersOf (now text)) ⌝ }
+fn vertices_then(text: &[u8], at: usize, h: Head) -> Reading
+    requires { ⌜ (at ≤ length (now text)) × (3 ≤ h .per) × Headed (now text) h ⌝ }
     ensures { λ r. ⌜ r ≡ verticesThen (now (text .entry)) at ⌝ }
 {
-    match vertices(text, at) {
-        Reading::At(e) => faces_then(text, e),
+    match vertices(text, at, h) {
+        Reading::At(e) => faces_then(text, e, h),
         Reading::Outside(p) => Reading::Outside(p),
         Reading::Sides(p) => Reading::Sides(p),
     }
 }
 
-fn counts(text: &[u8]) -> Reading
+// The three items behind the keyword, which ends at `at`.
+fn counts(text: &[u8], at: usize) -> Reading
+    requires { ⌜ (at ≡ after (now text) 1) × (at ≤ length (now text)) ⌝ }
     ensures { λ r. ⌜ r ≡ wholes false 3 (now (text .entry)) (after (now (text .entry)) 1) ⌝ }
 {
-    wholes(text, after(text, 1), 3, false)
+    wholes(text, at, 3, false)
 }
 
-fn counts_then(text: &[u8]) -> Reading
-    requires { ⌜ 3 ≤ numbersOf (now text) ⌝ }
+fn counts_then(text: &[u8], at: usize, per: usize) -> Reading
+    requires { ⌜ (at ≡ after (now text) 1) × (at ≤ length (now text)) × (per ≡ numbersOf (now text)) × (3 ≤ per) ⌝ }
     ensures { λ r. ⌜ r ≡ countsThen (now (text .entry)) ⌝ }
 {
-    match counts(text) {
-        Reading::At(e) => vertices_then(text, e),
+    match counts(text, at) {
+        Reading::At(e) => vertices_then(text, e, head_from(text, at, per)),
         Reading::Outside(p) => Reading::Outside(p),
         Reading::Sides(p) => Reading::Sides(p),
     }
@@ -228,8 +253,10 @@ fn counts_then(text: &[u8]) -> Reading
 pub fn form(text: &[u8]) -> Reading
     ensures { λ r. ⌜ r ≡ formOf (now (text .entry)) ⌝ }
 {
-    if numbers_of(text) == 0 {
-        return Reading::Outside(next(text, 0).start);
+    let k = next(text, 0);
+    let per = keyword(text, k.start, k.end - k.start);
+    if per == 0 {
+        return Reading::Outside(k.start);
     }
-    counts_then(text)
+    counts_then(text, k.end, per)
 }

@@ -3,18 +3,14 @@
 ghost use Prim.Native.Nat.{_≤_};
 ghost use lib.ListN.{length};
 use answers::lent;
+use answers::lent::PLACES;
+use answers::lent::TEXT;
+use answers::reports;
 use engine::Engine;
 use judge::Judged;
-use kernel::lists::MOST_PAIRS;
 use libc::STDOUT_FILENO;
-use lines::reports;
 use scene::offsets;
 use scene::read;
-
-// Room for the longest listing, of three numbers and at most 18 bytes a pair, and for the lines beside it.
-const PLACES: usize = 3 * MOST_PAIRS;
-
-const TEXT: usize = 18 * MOST_PAIRS + 4096;
 
 // The remainder of n by m; 0 where m is 0, as no count of an accepted scene is.
 fn rest(n: usize, m: usize) -> usize
@@ -75,45 +71,45 @@ fn others(engine: Engine, s: &[u8], n: usize, out: &mut [u8], at: usize) -> usiz
     answers::shown(s, k, out, q)
 }
 
-// All but the last, the listing into up to 99 lent places.
-fn write_answers(engine: Engine, s: &[u8], n: usize, out: &mut [u8]) {
+// All but the last, the listing into up to 99 lent places. Whether it was written, as each of those below.
+fn write_answers(engine: Engine, s: &[u8], n: usize, out: &mut [u8]) -> bool {
     let p = signs(s, n, out, 0);
     let q = edges(engine, s, n, out, p);
     let r = masks(engine, s, n, out, q);
     let end = others(engine, s, n, out, r);
-    io::write_all(STDOUT_FILENO, &out[..end]);
+    io::write_all(STDOUT_FILENO, &out[..end])
 }
 
-fn write_lent(engine: Engine, s: &[u8], n: usize, list: &mut [u16], out: &mut [u8]) {
+fn write_lent(engine: Engine, s: &[u8], n: usize, list: &mut [u16], out: &mut [u8]) -> bool {
     let a = lent::lend(engine, s, n % 100, list);
     let end = lent::listed(a, list, out, 0);
-    io::write_all(STDOUT_FILENO, &out[..end]);
+    io::write_all(STDOUT_FILENO, &out[..end])
 }
 
-fn write_report(engine: Engine, s: &[u8], list: &mut [u16], out: &mut [u8]) {
+fn write_report(engine: Engine, s: &[u8], list: &mut [u16], out: &mut [u8]) -> bool {
     let top = reports::head(engine, s, out);
     let end = top.end;
-    io::write_all(STDOUT_FILENO, &out[..end]);
+    if !io::write_all(STDOUT_FILENO, &out[..end]) {
+        return false;
+    }
     let r = reports::part(engine, s, 0, list, out);
     let all = r.end;
-    io::write_all(STDOUT_FILENO, &out[..all]);
+    io::write_all(STDOUT_FILENO, &out[..all])
 }
 
-fn write_scene(engine: Engine, s: &[u8], n: usize) {
+fn write_scene(engine: Engine, s: &[u8], n: usize) -> bool {
     let mut list = [0u16; PLACES];
     let mut out = [0u8; TEXT];
-    write_report(engine, s, &mut list, &mut out);
-    let j = judge::judge(s);
-    match j {
-        Judged::Refused(_) => {}
-        Judged::Accepted => {
-            write_answers(engine, s, n, &mut out);
-            write_lent(engine, s, n, &mut list, &mut out);
-        }
+    if !write_report(engine, s, &mut list, &mut out) {
+        return false;
     }
+    if let Judged::Refused(_) = judge::judge(s) {
+        return true;
+    }
+    write_answers(engine, s, n, &mut out) && write_lent(engine, s, n, &mut list, &mut out)
 }
 
-// Whether there was one more.
+// Whether there was one more, and its answers were written.
 fn write_next(n: usize) -> bool {
     let mut s = io::large_buffer();
     let e = entries::next(&mut s);
@@ -121,9 +117,7 @@ fn write_next(n: usize) -> bool {
         return false;
     }
     let len = e.len;
-    write_scene(Engine::Plain, &s[..len], n);
-    write_scene(Engine::Formula, &s[..len], n);
-    true
+    write_scene(Engine::Plain, &s[..len], n) && write_scene(Engine::Formula, &s[..len], n)
 }
 
 fn main() {

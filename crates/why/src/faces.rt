@@ -1,5 +1,6 @@
 // Refusals 7 and 9, of the face in record k, in words. Its corners are numbered from 1 to 3.
 ghost use Prim.Native.Nat.{_≤_};
+ghost use Rattle.why.specs.Bounds.{OneByte, InFace};
 ghost use Rattle.why.specs.Said.{Said};
 use crate::clauses::clause;
 use crate::clauses::limits;
@@ -41,7 +42,7 @@ fn equal(s: &[u8], k: usize, b: usize, m: usize, n: usize, out: &mut [u8], at: u
 
 // Two of the corners from byte b on are equal.
 fn equals(s: &[u8], k: usize, b: usize, out: &mut [u8], at: usize) -> usize
-    requires { ⌜ b ≤ 65536 ⌝ }
+    requires { ⌜ InFace b ⌝ }
     ensures { λ p. ⌜ Said (now (out .entry)) at (now (out .exit)) p ⌝ }
 {
     if byte(s, b) == byte(s, b + 1) {
@@ -80,7 +81,7 @@ fn is_edge(s: &[u8], f: usize, v: usize, w: usize) -> bool {
 
 // How many faces of the solid have both vertices, by their numbers within it.
 fn faces_with(s: &[u8], k: usize, v: usize, w: usize) -> usize
-    requires { ⌜ (v ≤ 255) × (w ≤ 255) ⌝ }
+    requires { ⌜ OneByte v × OneByte w ⌝ }
 {
     let o = solid_in(s, k);
     let low = o.low;
@@ -105,14 +106,14 @@ fn next(m: usize) -> usize
 
 // Whether the side that starts from corner m is in an odd number of the solid's faces; the corners stand behind byte b.
 fn is_odd(s: &[u8], k: usize, b: usize, m: usize) -> bool
-    requires { ⌜ (b ≤ 65536) × (m ≤ 3) ⌝ }
+    requires { ⌜ InFace b × (m ≤ 3) ⌝ }
 {
     faces_with(s, k, byte(s, b + m), byte(s, b + next(m))) % 2 == 1
 }
 
 // The corner that the first such side starts from.
 fn odd_side(s: &[u8], k: usize, b: usize) -> usize
-    requires { ⌜ b ≤ 65536 ⌝ }
+    requires { ⌜ InFace b ⌝ }
     ensures { λ r. ⌜ r ≤ 3 ⌝ }
 {
     if is_odd(s, k, b, 1) {

@@ -1,5 +1,6 @@
 // The records of a scene whose counts are within their limits, by their numbers. Every answer is total: a record that the scene lacks is taken as some other.
 ghost use Prim.Native.Nat.{_<_};
+ghost use Rattle.why.specs.Bounds.{OneByte, recordsEnd};
 use scene::Row;
 use scene::Solid;
 use scene::offsets;
@@ -7,7 +8,7 @@ use scene::read;
 
 // The first byte of record k.
 pub fn start(s: &[u8], k: usize) -> usize
-    ensures { λ r. ⌜ r < 16384 ⌝ }
+    ensures { λ r. ⌜ r < recordsEnd ⌝ }
 {
     let n = offsets::points(s);
     if k == 0 {
@@ -33,7 +34,7 @@ pub fn row_in(s: &[u8], k: usize) -> Row {
 
 // The solid whose face is in record k.
 pub fn solid_in(s: &[u8], k: usize) -> Solid
-    ensures { λ r. ⌜ (r .low < 256) × (r .verts < 256) × (r .first < 256) × (r .count < 256) ⌝ }
+    ensures { λ r. ⌜ OneByte (r .low) × OneByte (r .verts) × OneByte (r .first) × OneByte (r .count) ⌝ }
 {
     if k <= offsets::points(s) + read::counts(s).faces_a {
         return read::solid(s, 1);

@@ -2,7 +2,7 @@
 -- back from its decimal. Assumes nothing.
 use Prim.Native.Nat.{ℕ, zero, suc, _+_, _*_, _-_, _<_, _≤_, _^_}
 use mathlib.Core.Path.{_≡_, refl, sym, ap, ap₂, _∙_}
-use mathlib.Core.Bool.{Bool, true, false, not, cond, _&&_}
+use mathlib.Core.Bool.{Bool, true, false, not}
 use mathlib.Core.List.{List, [], _∷_}
 use native.Mathlib.Omega.{arith}
 use native.Mathlib.Decide.{decLt}
@@ -19,7 +19,6 @@ use Rattle.render.specs.Decimal.{IsDigit, numberFrom, decimal-digits, decimal-s
 use Rattle.items.specs.Numbers.{isDigit, digits, value, minusAt, bodyOf, isWhole, sizeOf, made, largest, atMost}
 use Rattle.items.specs.Laws.{at-most-low, at-most-high}
 use Rattle.words.specs.Word.{most, isNumber, numberOf}
-use Rattle.words.specs.declared.Word.{Word}
 use Rattle.words.specs.declared.Word.the-variants.{Number, None}
 
 -- ---- a sign and a size, in the machine

@@ -14,9 +14,6 @@ pub enum Word {
 
 const MOST: usize = 1000000000000000000;
 
-// The longest word that the system passes on.
-const LONGEST: usize = 131072;
-
 fn held(n: usize) -> usize
     ensures { λ r. ⌜ (r ≡ atMost most n) × (r ≤ most) ⌝ }
 {
@@ -47,11 +44,25 @@ pub fn number(w: &[u8]) -> Word
     Word::Number(signed(n.minus, held(n.size)))
 }
 
-// Word i of the command line, where 0 is the program's own.
-pub fn number_at(i: usize) -> Word {
-    let mut w = [0u8; LONGEST];
+// A word for which 32 bytes are too few, up to the longest that the system passes on.
+fn long_number_at(i: usize) -> Word {
+    let mut w = [0u8; 131072];
     let n = os::arg(i, &mut w);
     if os::errno() != 0 {
+        return Word::None;
+    }
+    number(&w[..n])
+}
+
+// Word i of the command line, where 0 is the program's own. Few words are long, and clearing room for the longest takes time.
+pub fn number_at(i: usize) -> Word {
+    let mut w = [0u8; 32];
+    let n = os::arg(i, &mut w);
+    let error = os::errno();
+    if error == libc::ENAMETOOLONG {
+        return long_number_at(i);
+    }
+    if error != 0 {
         return Word::None;
     }
     number(&w[..n])

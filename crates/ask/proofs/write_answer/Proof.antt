@@ -20,6 +20,9 @@ slice-aggregate-write-all c = simp length-take (omega arith)
 write-all-requires : tie.Need-write-all-requires
 write-all-requires c κs = search needs
 
+returns : tie.Need-returns
+returns c = search needs
+
 enum-told : tie.Need-enum-told
 enum-told c = search needs
 
@@ -29,11 +32,11 @@ slice-aggregate-write-rows c = search needs
 write-rows-requires : tie.Need-write-rows-requires
 write-rows-requires c κs = search needs
 
-returns : tie.Need-returns
-returns c = search needs
-
 returns-2 : tie.Need-returns-2
 returns-2 c = search needs
+
+returns-3 : tie.Need-returns-3
+returns-3 c = search needs
 
 pub write-answer-spec : {M : Type 1} → statement M
 write-answer-spec =
@@ -44,8 +47,9 @@ write-answer-spec =
     array-share-prefix-out
     slice-aggregate-write-all
     write-all-requires
+    returns
     enum-told
     slice-aggregate-write-rows
     write-rows-requires
-    returns
-    returns-2)
+    returns-2
+    returns-3)

@@ -19,8 +19,11 @@ row-in-requires-3 c κs = search needs
 
 plane-requires : tie.Need-plane-requires
 plane-requires c κs =
-    let s = c .before .before .before in
-    (row-small (s .pre .0) _ (c .before .before .row-in .ensures), row-small (s .pre .0) _ (c .before .row-in2 .ensures), row-small (s .pre .0) _ (c .row-in3 .ensures))
+    let s = c .before .before .before in (
+      row-small (s .pre .0) _ (c .before .before .row-in .ensures),
+      row-small (s .pre .0) _ (c .before .row-in2 .ensures),
+      row-small (s .pre .0) _ (c .row-in3 .ensures),
+    )
 
 add-meets : tie.Need-add-meets
 add-meets c = search needs
@@ -30,8 +33,12 @@ add-meets-2 c = search needs
 
 meets-requires : tie.Need-meets-requires
 meets-requires c κs =
-    let s = c .before .before .before .before in
-    (s .pre .0, three-small (s .pre .0) (c .before .before .before .row-in .ensures) (c .before .before .row-in2 .ensures) (c .before .row-in3 .ensures) (c .plane .ensures), omega arith)
+    let s = c .before .before .before .before in (
+      s .pre .0,
+      three-small (s .pre .0) (c .before .before .before .row-in .ensures) (c .before .before .row-in2 .ensures)
+          (c .before .row-in3 .ensures) (c .plane .ensures),
+      omega arith,
+    )
 
 returns : tie.Need-returns
 returns c =

@@ -13,7 +13,8 @@ use Rattle.edge_masks.proofs.fill_solid.Statement.{statement}
 use Rattle.edge_masks.proofs.fill_solid.Tie as tie
 
 abbrev Inv-loop : tie.InvT-loop
-Inv-loop engine rows corners n k links words own cuts ends₀ masks₀ low verts c₀ i₀ ends masks c i = (i ≤ verts) × Filled (upTo (λ j. vertexEdges (seenIn n rows corners) k (k .low + 1 + j)) i) 0 ends₀ masks₀ ends masks c
+Inv-loop engine rows corners n k links words own cuts ends₀ masks₀ low verts c₀ i₀ ends masks c i =
+    (i ≤ verts) × Filled (upTo (λ j. vertexEdges (seenIn n rows corners) k (k .low + 1 + j)) i) 0 ends₀ masks₀ ends masks c
 
 abbrev μ-loop : tie.MeasureT-loop
 μ-loop engine rows corners n k links words own cuts ends₀ masks₀ low verts c₀ i₀ ends masks c i = verts - i

@@ -16,7 +16,9 @@ use Rattle.edge_masks.proofs.fill_vertex.Statement.{statement}
 use Rattle.edge_masks.proofs.fill_vertex.Tie as tie
 
 abbrev Inv-loop : tie.InvT-loop
-Inv-loop engine rows corners n k words own cuts u higher at ends₀ masks₀ left₀ c₀ ends masks left c = (left < 2 ^ 64) × (left ≤ higher) × Filling (bitEdges (seenIn n rows corners) k u left) (vertexEdges (seenIn n rows corners) k u) at ends₀ masks₀ ends masks c
+Inv-loop engine rows corners n k words own cuts u higher at ends₀ masks₀ left₀ c₀ ends masks left c =
+    (left < 2 ^ 64) × (left ≤ higher) × Filling (bitEdges (seenIn n rows corners) k u left) (vertexEdges (seenIn n rows corners) k u)
+    at ends₀ masks₀ ends masks c
 
 abbrev μ-loop : tie.MeasureT-loop
 μ-loop engine rows corners n k words own cuts u higher at ends₀ masks₀ left₀ c₀ ends masks left c = left
@@ -40,14 +42,16 @@ edge-mask-requires c κs =
     let l = c .before .loop in
     let p = c .before .before .pre .0 in
     let k = c .before .before .args .k in
-    let t = word-first 64 (k .low + k .verts - c .before .before .args .u) (omega (arith, p .0 .vertices .0)) (lt-of-le-of-lt (l .inv .1) (p .2 .small)) (omega arith) .below in
+    let t = word-first 64 (k .low + k .verts - c .before .before .args .u) (omega (arith, p .0 .vertices .0))
+    (lt-of-le-of-lt (l .inv .1) (p .2 .small)) (omega arith) .below in
     ((p .0, p .1, (omega arith, omega (arith, t)), omega arith), c .before .before .pre .1 .1)
 
 narrow-requires : tie.Need-narrow-requires Inv-loop μ-loop
 narrow-requires c κs = omega (arith, c .before .before .before .before .pre .0 .0 .vertices .1)
 
 narrow-requires-2 : tie.Need-narrow-requires-2 Inv-loop μ-loop
-narrow-requires-2 c κs = omega (arith, trailing-le 64 (c .before .before .before .before .loop .left), c .before .before .before .before .before .pre .0 .0 .vertices .1)
+narrow-requires-2 c κs =
+    omega (arith, trailing-le 64 (c .before .before .before .before .loop .left), c .before .before .before .before .before .pre .0 .0 .vertices .1)
 
 put-ends-requires : tie.Need-put-ends-requires Inv-loop μ-loop
 put-ends-requires c κs =
@@ -79,7 +83,9 @@ loop-again c =
     let r = filling-room _ _ _ (l .loop .left) (omega arith) (l .loop .inv .0) (l .loop .inv .2) in (
       omega (arith, and-le-r (l .loop .left) (l .loop .left - 1)),
       omega (arith, and-le-r (l .loop .left) (l .loop .left - 1)),
-      filling-turn (seenIn (s .args .n) (now (s .args .rows)) (now (s .args .corners))) (s .args .k) (s .args .u) (l .loop .left) (m .edge-mask .result) (omega arith) (l .loop .inv .0) (omega (arith, r)) (omega (arith, r)) refl (m .edge-mask .ensures) (l .loop .inv .2) (e .before .before .narrow .ensures) (e .before .narrow2 .ensures) (e .put-ends .ensures) (c .put-mask .ensures),
+      filling-turn (seenIn (s .args .n) (now (s .args .rows)) (now (s .args .corners))) (s .args .k) (s .args .u) (l .loop .left)
+          (m .edge-mask .result) (omega arith) (l .loop .inv .0) (omega (arith, r)) (omega (arith, r)) refl (m .edge-mask .ensures)
+          (l .loop .inv .2) (e .before .before .narrow .ensures) (e .before .narrow2 .ensures) (e .put-ends .ensures) (c .put-mask .ensures),
     )
 
 returns : tie.Need-returns Inv-loop μ-loop

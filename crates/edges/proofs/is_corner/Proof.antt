@@ -1,7 +1,7 @@
 -- The first corner that is i decides.
 use mathlib.Core.Path.{refl}
 use Rattle.laws.specs.Tests.{or-found, or-goes-on}
-use Rattle.edges.specs.Edges.{isCorner}
+use Rattle.scene.specs.Faces.{isCorner}
 use Rattle.edges.proofs.is_corner.Statement.{statement}
 use Rattle.edges.proofs.is_corner.Tie as tie
 

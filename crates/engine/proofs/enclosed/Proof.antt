@@ -1,6 +1,6 @@
 -- The oddness of the mask toward the far point.
 use mathlib.Core.Path.{ap, _∙_}
-use Rattle.pierce.specs.Faces.{isOdd}
+use Rattle.face_masks.specs.Faces.{isOdd}
 use borrow.Author.Needs.{needs}
 use Rattle.engine.proofs.enclosed.Statement.{statement}
 use Rattle.engine.proofs.enclosed.Tie as tie

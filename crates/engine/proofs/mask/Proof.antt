@@ -2,9 +2,10 @@
 use native.Mathlib.Omega.{arith}
 use denote.Ref.{now}
 use borrow.Author.Needs.{needs}
-use Rattle.scene.specs.Arrays.{faceIn}
+use Rattle.scene.specs.Arrays.{rowIn, faceIn}
 use Rattle.pierce.specs.Beside.{beside-low, beside-high}
-use Rattle.pierce.specs.Faces.{valueOf, mask-words}
+use Rattle.pierce.specs.Formula.{pierced}
+use Rattle.face_masks.specs.Faces.{valueOf, mask-words}
 use Rattle.engine.proofs.mask.Statement.{statement}
 use Rattle.engine.proofs.mask.Tie as tie
 
@@ -37,7 +38,8 @@ returns-2 : tie.Need-returns-2
 unfolding valueOf
 returns-2 c =
     let s = c .before .before .before in
-    mask-words _ _ (faceIn (now (s .args .corners))) _ _ (s .args .first) _ (c .before .before .if1 .left) (c .before .word2 .ensures) (c .word3 .ensures)
+    mask-words (pierced (s .args .n) (rowIn (now (s .args .rows))) (s .args .u) (s .args .v)) (faceIn (now (s .args .corners))) (s .args .first) _
+    (c .before .before .if1 .left) (c .before .word2 .ensures) (c .word3 .ensures)
 
 pub mask-spec : {M : Type 1} → statement M
 mask-spec =

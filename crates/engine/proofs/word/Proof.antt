@@ -8,7 +8,7 @@ use Rattle.scene.specs.Limits.{limits}
 use Rattle.scene.specs.Arrays.{rowIn, faceIn, FaceWithin}
 use Rattle.pierce.specs.Formula.{pierced}
 use Rattle.pierce.specs.Beside.{beside-same}
-use Rattle.pierce.specs.Faces.{maskAgainst}
+use Rattle.pierce.specs.Against.{maskAgainst}
 use Rattle.engine.proofs.word.Statement.{statement}
 use Rattle.engine.proofs.word.Tie as tie
 

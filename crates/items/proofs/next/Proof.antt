@@ -12,7 +12,10 @@ end-requires : tie.Need-end-requires
 end-requires c κs = search needs
 
 returns : tie.Need-returns
-returns c = (c .before .start .ensures .0, c .end .ensures .0 ∙ ap (wordEnd _) (c .before .start .ensures .0), c .before .start .ensures .1, c .end .ensures .1, c .end .ensures .2)
+returns c =
+    let s = c .before .start .ensures in
+    let e = c .end .ensures in
+    (s .0, e .0 ∙ ap (wordEnd _) (s .0), s .1, e .1, e .2)
 
 pub next-spec : {M : Type 1} → statement M
 next-spec = tie.close (tie.spec start-requires end-requires returns)

@@ -1,15 +1,13 @@
 -- One byte after another.
-use Rattle.laws.specs.Tests.{or-found, or-goes-on}
-use mathlib.Core.Path.{_≡_, refl, sym, ap, _∙_}
-use Rattle.laws.specs.Tests.{ands, ors}
+use Rattle.laws.specs.Tests.{or-found, or-goes-on, ors}
+use mathlib.Core.Path.{refl}
 use Rattle.items.specs.Items.{separates}
-use borrow.Author.Needs.{needs}
 use Rattle.items.proofs.separates.Statement.{statement}
 use Rattle.items.proofs.separates.Tie as tie
 
 returns : tie.Need-returns
 unfolding separates
-returns c = search (ors, refl)
+returns c = search ors
 
 returns-2 : tie.Need-returns-2
 unfolding separates

@@ -1,8 +1,6 @@
 -- The words of the vertices are emptied, and then have their neighbours by the faces below f.
 use Prim.Native.Nat.{_+_, _-_, _≤_}
-use mathlib.Core.Path.{_≡_}
 use native.Mathlib.Omega.{arith}
-use denote.Ref.{now}
 use Rattle.scene.specs.Arrays.{faceIn}
 use Rattle.edges.specs.Words.{in-word}
 use Rattle.links.specs.Links.{Linking, linking-none, linking-more, linking-all}
@@ -50,8 +48,12 @@ loop-less c = search needs
 loop-again : tie.Need-loop-again Inv-loop μ-loop
 loop-again c =
     let l = c .before .before .before .before in
-    let s = l .before .before .before .before in
-    (omega arith, omega arith, linking-more _ _ _ _ _ (omega arith) (omega arith) (s .pre .0 .0 (l .loop .f) (omega arith) (omega arith)) (c .before .face-in .ensures) (l .loop .inv .2) (c .link-face .ensures))
+    let s = l .before .before .before .before in (
+      omega arith,
+      omega arith,
+      linking-more _ _ _ _ _ (omega arith) (omega arith) (s .pre .0 .0 (l .loop .f) (omega arith) (omega arith))
+          (c .before .face-in .ensures) (l .loop .inv .2) (c .link-face .ensures),
+    )
 
 returns : tie.Need-returns Inv-loop μ-loop
 returns c = linking-all _ _ _ (omega arith) (c .before .before .clear .ensures) (c .before .loop .inv .2)

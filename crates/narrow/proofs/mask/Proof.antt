@@ -7,7 +7,7 @@ use Prim.Native.Nat.{ℕ}
 use Rattle.scene.specs.Arrays.{rowIn, faceIn}
 use Rattle.scene.specs.declared.Row.{Row}
 use Rattle.scene.specs.declared.Face.{Face}
-use Rattle.pierce.specs.declared.faces.Mask.{Mask}
+use Rattle.face_masks.specs.declared.Mask.{Mask}
 use Rattle.sides.specs.Planes.{joinOf}
 use Rattle.sides.specs.Sides.{sidesOf}
 use Rattle.sides.specs.Sizes.{join-formed}

@@ -9,7 +9,7 @@ use lib.Bits.{bitAnd, and-le-r}
 use lib.Count.{trailing-le, trailingZeros}
 use Rattle.laws.specs.Mask.{digit}
 use Rattle.laws.specs.Walk.{walk-less}
-use Rattle.pierce.specs.declared.faces.Mask.{Mask}
+use Rattle.face_masks.specs.declared.Mask.{Mask}
 use Rattle.sides.specs.Candidates.{AtEach, kept-le, kept-none, each-turn, turn-rest}
 use Rattle.sides.specs.Tables.{maskIn}
 use Rattle.narrow.specs.Cover.{covers}

@@ -2,11 +2,17 @@
 use Prim.Native.Nat.{ℕ}
 use lib.ListN.{length-replicate}
 use native.Mathlib.Omega.{arith}
-use mathlib.Core.Path.{refl}
-use Rattle.objects.specs.Laws.{fits-small, first-unfit, second-unfit, both-fit, own-count}
+use Rattle.objects.specs.Counts.{fits-small}
+use Rattle.objects.specs.Laws.{first-unfit, second-unfit, both-fit, own-count}
 use borrow.Author.Needs.{needs}
 use Rattle.objects.proofs.counted.Statement.{statement}
 use Rattle.objects.proofs.counted.Tie as tie
+
+head-of-requires : tie.Need-head-of-requires
+head-of-requires c κs = search needs
+
+head-of-requires-2 : tie.Need-head-of-requires-2
+head-of-requires-2 c κs = search needs
 
 counts-fit-requires : tie.Need-counts-fit-requires
 counts-fit-requires c κs = search needs
@@ -24,13 +30,19 @@ slice-aggregate-put-scene : tie.Need-slice-aggregate-put-scene
 slice-aggregate-put-scene c = search needs
 
 put-scene-requires : tie.Need-put-scene-requires
-put-scene-requires c κs = (fits-small _ (c .before .before .before .before .counts-fit .ensures) (c .before .before .before .if1 .left), fits-small _ (c .before .before .counts-fit2 .ensures) (c .before .if2 .left), omega (arith, length-replicate {A = ℕ} 1841 0))
+put-scene-requires c κs =
+    let g = c .before .before in
+    let h = g .before .before in (
+      fits-small _ _ (h .before .before .head-of .ensures) (h .counts-fit .ensures) (g .before .if1 .left),
+      fits-small _ _ (h .before .head-of2 .ensures) (g .counts-fit2 .ensures) (c .before .if2 .left),
+      omega (arith, length-replicate {A = ℕ} 1841 0),
+    )
 
 array-share-prefix-own : tie.Need-array-share-prefix-own
 array-share-prefix-own c = search needs
 
 slice-aggregate-judged : tie.Need-slice-aggregate-judged
-slice-aggregate-judged c = own-count _ (c .before .before .put-scene .ensures .0) (c .before .before .put-scene .ensures .1)
+slice-aggregate-judged c = search own-count
 
 judged-requires : tie.Need-judged-requires
 judged-requires c κs = search needs
@@ -45,6 +57,8 @@ pub counted-spec : {M : Type 1} → statement M
 counted-spec =
     tie.close
     (tie.spec
+    head-of-requires
+    head-of-requires-2
     counts-fit-requires
     returns
     counts-fit-requires-2

@@ -1,23 +1,23 @@
 -- Both counts.
 use Rattle.laws.specs.Tests.{ands}
+use Rattle.objects.specs.Counts.{headFits}
 use borrow.Author.Needs.{needs}
-use Rattle.objects.specs.Made.{countsFit}
 use Rattle.objects.proofs.counts_fit.Statement.{statement}
 use Rattle.objects.proofs.counts_fit.Tie as tie
 
-vertices-fit-requires : tie.Need-vertices-fit-requires
-vertices-fit-requires c κs = search needs
+is-within-requires : tie.Need-is-within-requires
+is-within-requires c κs = search needs
 
 returns : tie.Need-returns
-unfolding countsFit
+unfolding headFits
 returns c = search ands depth 14
 
-faces-fit-requires : tie.Need-faces-fit-requires
-faces-fit-requires c κs = search needs
+is-within-requires-2 : tie.Need-is-within-requires-2
+is-within-requires-2 c κs = search needs
 
 returns-2 : tie.Need-returns-2
-unfolding countsFit
+unfolding headFits
 returns-2 c = search ands depth 14
 
 pub counts-fit-spec : {M : Type 1} → statement M
-counts-fit-spec = tie.close (tie.spec vertices-fit-requires returns faces-fit-requires returns-2)
+counts-fit-spec = tie.close (tie.spec is-within-requires returns is-within-requires-2 returns-2)

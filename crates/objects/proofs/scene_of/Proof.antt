@@ -1,6 +1,4 @@
 -- Its faults first, and then those of the second.
-use native.Mathlib.Omega.{arith}
-use mathlib.Core.Path.{refl}
 use Rattle.objects.specs.Laws.{text-goes-on, text-outside, text-sides, from-start}
 use borrow.Author.Needs.{needs}
 use Rattle.objects.proofs.scene_of.Statement.{statement}

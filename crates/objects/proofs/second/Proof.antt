@@ -3,7 +3,6 @@ use Prim.Native.Nat.{_≤_}
 use lib.ListN.{length}
 use denote.Ref.{now}
 use native.Mathlib.Omega.{arith}
-use mathlib.Core.Path.{refl}
 use Rattle.objects.specs.Laws.{text-goes-on, text-outside, text-sides, outside-within, sides-within}
 use borrow.Author.Needs.{needs}
 use Rattle.objects.proofs.second.Statement.{statement}
@@ -22,13 +21,19 @@ enum-known-p : tie.Need-enum-known-p
 enum-known-p c = search needs
 
 add-t12 : tie.Need-add-t12
-add-t12 c = let h : c .before .p .given .0 .0 ≤ length (now (c .before .before .before .before .before .before .before .args .b)) = search outside-within in omega arith
+add-t12 c =
+    let b = c .before .before .before .before .before .before .before .args .b in
+    let h : c .before .p .given .0 .0 ≤ length (now b) = search outside-within in
+    omega arith
 
 enum-known-p-2 : tie.Need-enum-known-p-2
 enum-known-p-2 c = search needs
 
 add-t15 : tie.Need-add-t15
-add-t15 c = let h : c .before .p2 .given .0 .0 ≤ length (now (c .before .before .before .before .before .before .before .args .b)) = search sides-within in omega arith
+add-t15 c =
+    let b = c .before .before .before .before .before .before .before .args .b in
+    let h : c .before .p2 .given .0 .0 ≤ length (now b) = search sides-within in
+    omega arith
 
 same-length : tie.Need-same-length
 same-length c = search needs
@@ -37,10 +42,10 @@ returns : tie.Need-returns
 returns c = search text-goes-on
 
 returns-2 : tie.Need-returns-2
-returns-2 c = search (text-outside, refl)
+returns-2 c = search text-outside
 
 returns-3 : tie.Need-returns-3
-returns-3 c = search (text-sides, refl)
+returns-3 c = search text-sides
 
 pub second-spec : {M : Type 1} → statement M
 second-spec =

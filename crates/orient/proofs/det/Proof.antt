@@ -1,4 +1,4 @@
--- `orient::det` meets its contract: the minors give the 24 products. Assumes nothing.
+-- `orient::det` meets its contract: the minors give the expansion along the first row. Assumes nothing.
 use borrow.Author.Needs.{needs}
 use mathlib.Core.Path.{_∙_}
 use Rattle.laws.specs.Size.{called}

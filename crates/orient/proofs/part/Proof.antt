@@ -29,10 +29,11 @@ det-requires c κs =
 returns : tie.Need-returns
 unfolding partOf
 returns c =
-    let d = c .before in
+    let d4 = c .before in
+    let d3 = d4 .before in
+    let d2 = d3 .before in
     called (c .det .ok)
-    (c .det .ensures
-    ∙ (λ i. det4 (d .before .before .before .shifted .ensures i) (d .before .before .shifted2 .ensures i) (d .before .shifted3 .ensures i) (d .shifted4 .ensures i)))
+    (c .det .ensures ∙ (λ i. det4 (d2 .before .shifted .ensures i) (d2 .shifted2 .ensures i) (d3 .shifted3 .ensures i) (d4 .shifted4 .ensures i)))
 
 pub part-spec : {M : Type 1} → statement M
 part-spec =

@@ -32,7 +32,8 @@ returns-3 c =
     ∙ d .before .before .pre .1
     ∙ sym
     (ap isPlus
-    (passes-on _ (d .before .term1 .ok) (d .before .term1 .ensures) (d .if1 .left) ∙ passes-on _ (e .before .term2 .ok) (e .before .term2 .ensures) (e .if2 .left)))
+    (passes-on _ (d .before .term1 .ok) (d .before .term1 .ensures) (d .if1 .left)
+    ∙ passes-on _ (e .before .term2 .ok) (e .before .term2 .ensures) (e .if2 .left)))
 
 pub tie-spec : {M : Type 1} → statement M
 tie-spec =

@@ -32,7 +32,8 @@ returns-2 : tie.Need-returns-2
 unfolding pierces
 returns-2 c =
     let q = c .before .before .before in
-    ends-differ _ _ _ _ _ _ _ (q .before .positive-at .ensures) (q .positive-at2 .ensures) (c .before .before .if1 .left) (rw (c .before .helper .ensures) at (c .sides .ensures))
+    ends-differ _ _ _ _ _ _ _ (q .before .positive-at .ensures) (q .positive-at2 .ensures) (c .before .before .if1 .left)
+    (rw (c .before .helper .ensures) at (c .sides .ensures))
 
 pub pierces-spec : {M : Type 1} → statement M
 pierces-spec =

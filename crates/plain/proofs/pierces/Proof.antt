@@ -1,4 +1,4 @@
--- The ends decide, or the first two sides, or the last two; by five signs of different points the answer is that of the formula.
+-- The ends decide, or the first two sides, or the last two. Each sign is asked of four different points.
 use denote.Ref.{now}
 use Rattle.scene.specs.Arrays.{rowIn}
 use Rattle.pierce.specs.Beside.{ask-u, ask-v}
@@ -17,8 +17,7 @@ returns : tie.Need-returns
 returns c =
     let s = c .before .before .before in
     let a = s .args in
-    ends-alike (a .n) (rowIn (now (a .rows))) (a .u) (a .v) (a .f) (s .pre .1 .0) (s .pre .0 .1) (s .pre .1 .1) (c .before .before .positive-at .ensures)
-    (c .before .positive-at2 .ensures) (c .if1 .taken)
+    ends-alike (rowIn (now (a .rows))) (a .u) (a .v) (a .f) (c .before .before .positive-at .ensures) (c .before .positive-at2 .ensures) (c .if1 .taken)
 
 positive-at-requires-3 : tie.Need-positive-at-requires-3
 positive-at-requires-3 c κs = search needs
@@ -31,8 +30,8 @@ returns-2 c =
     let e = c .before .before .before in
     let s = e .before .before .before in
     let a = s .args in
-    sides-unlike (a .n) (rowIn (now (a .rows))) (a .u) (a .v) (a .f) (s .pre .1 .0) (s .pre .0 .1) (s .pre .1 .1) (e .before .before .positive-at .ensures)
-    (e .before .positive-at2 .ensures) (e .if1 .left) (c .before .before .positive-at3 .ensures) (c .before .positive-at4 .ensures) (c .if2 .taken)
+    sides-unlike (rowIn (now (a .rows))) (a .u) (a .v) (a .f) (e .before .before .positive-at .ensures) (e .before .positive-at2 .ensures)
+    (e .if1 .left) (c .before .before .positive-at3 .ensures) (c .before .positive-at4 .ensures) (c .if2 .taken)
 
 positive-at-requires-5 : tie.Need-positive-at-requires-5
 positive-at-requires-5 c κs = let s = c .before .before .before .before .before .before in (search needs, ask-rp (s .pre .1 .0) (s .pre .1 .1))
@@ -42,9 +41,9 @@ returns-3 c =
     let e = c .before .before .before .before in
     let s = e .before .before .before in
     let a = s .args in
-    last-sides (a .n) (rowIn (now (a .rows))) (a .u) (a .v) (a .f) (s .pre .1 .0) (s .pre .0 .1) (s .pre .1 .1) (e .before .before .positive-at .ensures)
-    (e .before .positive-at2 .ensures) (e .if1 .left) (c .before .before .before .positive-at3 .ensures) (c .before .before .positive-at4 .ensures)
-    (c .positive-at5 .ensures) (c .before .if2 .left)
+    last-sides (rowIn (now (a .rows))) (a .u) (a .v) (a .f) (e .before .before .positive-at .ensures) (e .before .positive-at2 .ensures)
+    (e .if1 .left) (c .before .before .before .positive-at3 .ensures) (c .before .before .positive-at4 .ensures) (c .positive-at5 .ensures)
+    (c .before .if2 .left)
 
 pub pierces-spec : {M : Type 1} → statement M
 pierces-spec =

@@ -1,30 +1,29 @@
--- What was rendered stands within the buffer.
-use native.Mathlib.Omega.{arith}
+-- By the judge.
+use Rattle.kernel.specs.Laws.{accepted-so}
 use borrow.Author.Needs.{needs}
-use lib.ListN.{length-take}
 use Rattle.report.proofs.write_report.Statement.{statement}
 use Rattle.report.proofs.write_report.Tie as tie
 
-slice-aggregate-head : tie.Need-slice-aggregate-head
-slice-aggregate-head c = search needs
+judge-requires : tie.Need-judge-requires
+judge-requires c κs = search needs
 
-head-requires : tie.Need-head-requires
-head-requires c κs = search needs
+enum-known-j : tie.Need-enum-known-j
+enum-known-j c = search needs
 
-array-share-prefix-out : tie.Need-array-share-prefix-out
-array-share-prefix-out c = search needs
+slice-aggregate-write-refused : tie.Need-slice-aggregate-write-refused
+slice-aggregate-write-refused c = search needs
 
-slice-aggregate-write-all : tie.Need-slice-aggregate-write-all
-slice-aggregate-write-all c = simp length-take (omega arith)
+write-refused-requires : tie.Need-write-refused-requires
+write-refused-requires c κs = search needs
 
-write-all-requires : tie.Need-write-all-requires
-write-all-requires c κs = search needs
+enum-told : tie.Need-enum-told
+enum-told c = search needs
 
-slice-aggregate-write-rows : tie.Need-slice-aggregate-write-rows
-slice-aggregate-write-rows c = search needs
+slice-aggregate-write-accepted : tie.Need-slice-aggregate-write-accepted
+slice-aggregate-write-accepted c = search needs
 
-write-rows-requires : tie.Need-write-rows-requires
-write-rows-requires c κs = search needs
+write-accepted-requires : tie.Need-write-accepted-requires
+write-accepted-requires c κs = search accepted-so
 
 returns : tie.Need-returns
 returns c = search needs
@@ -36,12 +35,12 @@ pub write-report-spec : {M : Type 1} → statement M
 write-report-spec =
     tie.close
     (tie.spec
-    slice-aggregate-head
-    head-requires
-    array-share-prefix-out
-    slice-aggregate-write-all
-    write-all-requires
-    slice-aggregate-write-rows
-    write-rows-requires
+    judge-requires
+    enum-known-j
+    slice-aggregate-write-refused
+    write-refused-requires
+    enum-told
+    slice-aggregate-write-accepted
+    write-accepted-requires
     returns
     returns-2)

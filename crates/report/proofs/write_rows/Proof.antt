@@ -9,20 +9,20 @@ use Rattle.report.proofs.write_rows.Statement.{statement}
 use Rattle.report.proofs.write_rows.Tie as tie
 
 abbrev Inv-loop : tie.InvT-loop
-Inv-loop s n out₀ list₀ from₀ out list from =
-    (from ≤ n) × (length list ≡ 3 * (2 * limits .mostFaces * limits .mostFaces / 5 + 1)) × (length out ≡ length out₀)
+Inv-loop t s aends amasks bends bmasks n out₀ list₀ from₀ out list from =
+    (from ≤ n) × (length list ≡ 3 * (2 * limits .mostFaces * limits .mostFaces / 7 + 1)) × (length out ≡ length out₀)
 
 abbrev μ-loop : tie.MeasureT-loop
-μ-loop s n out₀ list₀ from₀ out list from = n - from
+μ-loop t s aends amasks bends bmasks n out₀ list₀ from₀ out list from = n - from
 
 loop-holds : tie.Need-loop-holds Inv-loop μ-loop
 loop-holds c = search needs
 
-slice-aggregate-part : tie.Need-slice-aggregate-part Inv-loop μ-loop
-slice-aggregate-part c = search needs
+slice-aggregate-part-read : tie.Need-slice-aggregate-part-read Inv-loop μ-loop
+slice-aggregate-part-read c = search needs
 
-part-requires : tie.Need-part-requires Inv-loop μ-loop
-part-requires c κs = search needs
+part-read-requires : tie.Need-part-read-requires Inv-loop μ-loop
+part-read-requires c κs = search needs
 
 same-length : tie.Need-same-length Inv-loop μ-loop
 same-length c = search needs
@@ -73,8 +73,8 @@ write-rows-spec =
     Inv-loop
     μ-loop
     loop-holds
-    slice-aggregate-part
-    part-requires
+    slice-aggregate-part-read
+    part-read-requires
     same-length
     returns
     slice-reshare-prefix-write-all

@@ -30,7 +30,10 @@ fresh-requires : tie.Need-fresh-requires
 fresh-requires c κs = accepted-short _ (sym (c .before .before .before .before .before .judge .ensures) ∙ c .before .before .before .enum-told .given .1)
 
 returns-2 : tie.Need-returns-2
-returns-2 c = opened-so _ (c .before .before .before .before .before .before .judge .ensures) (c .before .before .before .before .enum-told .given .1) (c .before .before .copy .ensures) (c .fresh .ensures)
+returns-2 c =
+    let c4 = c .before .before .before .before in
+    let c6 = c4 .before .before in
+    opened-so _ (c6 .judge .ensures) (c4 .enum-told .given .1) (c .before .before .copy .ensures) (c .fresh .ensures)
 
 pub open-spec : {M : Type 1} → statement M
 open-spec =

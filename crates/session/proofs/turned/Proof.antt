@@ -29,7 +29,8 @@ byte-requires-3 c κs = search needs
 
 returns : tie.Need-returns
 returns c = (
-  ap turned (face-read _ _ (c .before .before .before .face-start .ensures .0) (c .byte3 .ensures .0) (c .before .byte2 .ensures .0) (c .before .before .byte .ensures .0)),
+  ap turned (face-read _ _ (c .before .before .before .face-start .ensures .0) (c .byte3 .ensures .0)
+      (c .before .byte2 .ensures .0) (c .before .before .byte .ensures .0)),
   record { p = c .before .before .byte .ensures .1; q = c .before .byte2 .ensures .1; r = c .byte3 .ensures .1 },
 )
 

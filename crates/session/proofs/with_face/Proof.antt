@@ -38,8 +38,12 @@ fresh-requires c κs = search needs
 
 returns : tie.Need-returns
 returns c =
+    let c4 = c .before .before .before .before in
+    let c6 = c4 .before .before in
+    let c8 = c6 .before .before in
     c .fresh .ensures
-    ∙ ap (λ (l : List ℕ). fresh l (c .before .before .before .before .before .before .before .before .args .n)) (c .before .before .put-corners .ensures ∙ ap₂ (cornersPut _) (c .before .before .before .before .before .before .face-start .ensures .0) (c .before .before .before .before .turned .ensures .0))
+    ∙ ap (λ (l : List ℕ). fresh l (c8 .args .n))
+    (c .before .before .put-corners .ensures ∙ ap₂ (cornersPut _) (c6 .face-start .ensures .0) (c4 .turned .ensures .0))
 
 pub with-face-spec : {M : Type 1} → statement M
 with-face-spec =

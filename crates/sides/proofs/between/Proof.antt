@@ -1,7 +1,6 @@
 -- The candidates of the two words, and what of them is pierced: no other face is.
 use borrow.Author.Needs.{needs}
 use denote.Ref.{now}
-use native.Mathlib.Omega.{arith}
 use mathlib.Core.Path.{_≡_, _∙_}
 use Prim.Native.Nat.{ℕ}
 use Rattle.scene.specs.Arrays.{rowIn, faceIn}

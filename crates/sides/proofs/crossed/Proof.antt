@@ -13,7 +13,7 @@ use Rattle.scene.specs.Limits.{limits}
 use Rattle.scene.specs.Arrays.{rowIn, faceIn, FaceWithin}
 use Rattle.pierce.specs.Beside.{beside-same}
 use Rattle.pierce.specs.Formula.{pierced}
-use Rattle.sides.specs.Candidates.{kept, AtEach, kept-le, kept-none, each-turn, turn-rest}
+use Rattle.sides.specs.Candidates.{kept-le, kept-none, each-turn, turn-rest}
 use Rattle.sides.specs.Crossing.{Candidate, Candidates, crossedOf, differs-same}
 use Rattle.sides.proofs.crossed.Statement.{statement}
 use Rattle.sides.proofs.crossed.Tie as tie

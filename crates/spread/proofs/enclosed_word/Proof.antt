@@ -1,5 +1,4 @@
 -- What is known is right; each turn passes one vertex more.
-use Prim.Native.Nat.{_+_}
 use native.Mathlib.Omega.{arith}
 use denote.Ref.{now}
 use lib.Pow.{pow-pos}
@@ -7,7 +6,6 @@ use Rattle.listing.specs.Hits.{seenIn}
 use Rattle.spread.specs.Walk.{Reached}
 use Rattle.spread.specs.WalkProof.{reached-none, reached-all}
 use Rattle.spread.specs.StepProof.{here, step-reached, step-less}
-use borrow.Author.Needs.{needs}
 use Rattle.spread.proofs.enclosed_word.Statement.{statement}
 use Rattle.spread.proofs.enclosed_word.Tie as tie
 
@@ -35,21 +33,24 @@ step-requires : tie.Need-step-requires Inv-loop μ-loop
 step-requires c κs =
     let s = c .before .before .before .before .before in
     let r = c .start .ensures in
-    let h = here (seenIn (s .args .n) (now (s .args .rows)) (now (s .args .corners))) (s .args .k) (s .pre .0 .0) (now (s .args .links)) (now (s .args .odds)) (s .pre .0 .1) (s .pre .0 .2) (c .start .result) (r .reached) (r .some) in
+    let h = here (seenIn (s .args .n) (now (s .args .rows)) (now (s .args .corners))) (s .args .k) (s .pre .0 .0) (now (s .args .links))
+    (now (s .args .odds)) (s .pre .0 .1) (s .pre .0 .2) (c .start .result) (r .reached) (r .some) in
     (omega (arith, h, s .pre .0 .0 .within .sound .vertices .0), omega (arith, h, s .pre .0 .0 .within .sound .vertices .1))
 
 loop-less : tie.Need-loop-less Inv-loop μ-loop
 loop-less c =
     let s = c .before .before .before .before .before .before in
     let r = c .before .start .ensures in
-    let l = step-less (seenIn (s .args .n) (now (s .args .rows)) (now (s .args .corners))) (s .args .k) (s .pre .0 .0) (now (s .args .links)) (now (s .args .odds)) (s .pre .0 .1) (s .pre .0 .2) (c .before .start .result) (r .reached) (r .some) in
+    let l = step-less (seenIn (s .args .n) (now (s .args .rows)) (now (s .args .corners))) (s .args .k) (s .pre .0 .0)
+    (now (s .args .links)) (now (s .args .odds)) (s .pre .0 .1) (s .pre .0 .2) (c .before .start .result) (r .reached) (r .some) in
     rw (c .step .ensures) (omega (arith, l, r .same))
 
 loop-again : tie.Need-loop-again Inv-loop μ-loop
 loop-again c =
     let s = c .before .before .before .before .before .before in
     let r = c .before .start .ensures in
-    rw (c .step .ensures) (step-reached (seenIn (s .args .n) (now (s .args .rows)) (now (s .args .corners))) (s .args .k) (s .pre .0 .0) (now (s .args .links)) (now (s .args .odds)) (s .pre .0 .1) (s .pre .0 .2) (c .before .start .result) (r .reached) (r .some))
+    rw (c .step .ensures) (step-reached (seenIn (s .args .n) (now (s .args .rows)) (now (s .args .corners))) (s .args .k) (s .pre .0 .0)
+    (now (s .args .links)) (now (s .args .odds)) (s .pre .0 .1) (s .pre .0 .2) (c .before .start .result) (r .reached) (r .some))
 
 returns : tie.Need-returns Inv-loop μ-loop
 returns c = reached-all _ _ (c .before .before .loop .inv) (omega arith)

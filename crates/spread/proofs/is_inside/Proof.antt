@@ -1,6 +1,6 @@
 -- The oddness of the mask toward the far point, asked for against the other solid.
 use mathlib.Core.Path.{ap, _∙_}
-use Rattle.pierce.specs.Faces.{isOdd}
+use Rattle.face_masks.specs.Faces.{isOdd}
 use Rattle.listing.specs.Hits.{isInside}
 use borrow.Author.Needs.{needs}
 use Rattle.spread.proofs.is_inside.Statement.{statement}

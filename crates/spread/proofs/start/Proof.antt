@@ -1,6 +1,5 @@
 -- Where none is known and left, the lowest that is left becomes known.
-use Prim.Native.Nat.{_+_, _<_}
-use mathlib.Core.Path.{_≡_, refl}
+use mathlib.Core.Path.{refl}
 use native.Mathlib.Omega.{arith}
 use lib.Bits.{bitOr}
 use lib.Count.{trailing-le}
@@ -19,7 +18,12 @@ cast-i c = omega (arith, trailing-le 64 (c .before .args .t .left))
 bit-requires : tie.Need-bit-requires
 bit-requires c κs =
     let s = c .before in
-    omega (arith, word-first 64 (s .args .k .verts) (omega (arith, s .pre .0 .0 .within .sound .vertices .0)) (s .pre .0 .1 .left-in) (s .pre .0 .2) .below, s .pre .0 .0 .within .sound .vertices .0)
+    omega (
+      arith,
+      word-first 64 (s .args .k .verts) (omega (arith, s .pre .0 .0 .within .sound .vertices .0)) (s .pre .0 .1 .left-in)
+          (s .pre .0 .2) .below,
+      s .pre .0 .0 .within .sound .vertices .0,
+    )
 
 add-is-inside : tie.Need-add-is-inside
 add-is-inside c = search needs
@@ -38,12 +42,16 @@ is-inside-requires c κs =
 returns-2 : tie.Need-returns-2
 returns-2 c =
     let s = c .before .before .before .before .before in
-    started-asked _ _ (s .args .t) _ (omega (arith, s .pre .0 .0 .within .sound .vertices .0)) (s .pre .0 .1) (s .pre .0 .2) refl (c .before .before .before .bit .ensures) (c .before .is-inside .ensures) (told-yes (bitOr (s .args .t .inside) (c .before .before .before .bit .result)) (s .args .t .inside) (c .if2 .taken))
+    started-asked _ _ (s .args .t) _ (omega (arith, s .pre .0 .0 .within .sound .vertices .0)) (s .pre .0 .1) (s .pre .0 .2) refl
+    (c .before .before .before .bit .ensures) (c .before .is-inside .ensures)
+    (told-yes (bitOr (s .args .t .inside) (c .before .before .before .bit .result)) (s .args .t .inside) (c .if2 .taken))
 
 returns-3 : tie.Need-returns-3
 returns-3 c =
     let s = c .before .before .before .before .before in
-    started-asked _ _ (s .args .t) _ (omega (arith, s .pre .0 .0 .within .sound .vertices .0)) (s .pre .0 .1) (s .pre .0 .2) refl (c .before .before .before .bit .ensures) (c .before .is-inside .ensures) (told-no (bitOr (s .args .t .inside) (c .before .before .before .bit .result)) (s .args .t .inside) (c .if2 .left))
+    started-asked _ _ (s .args .t) _ (omega (arith, s .pre .0 .0 .within .sound .vertices .0)) (s .pre .0 .1) (s .pre .0 .2) refl
+    (c .before .before .before .bit .ensures) (c .before .is-inside .ensures)
+    (told-no (bitOr (s .args .t .inside) (c .before .before .before .bit .result)) (s .args .t .inside) (c .if2 .left))
 
 pub start-spec : {M : Type 1} → statement M
 start-spec =

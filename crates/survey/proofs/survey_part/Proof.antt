@@ -21,7 +21,12 @@ fill-odds-requires c κs =
     let s = f .before .before .before .before .before .before in
     let v = seenIn (s .args .n) (now (s .args .rows)) (now (s .args .corners)) in
     let w = s .pre .0 .0 .within in (
-      (omega (arith, f .fill-solid .ensures .count, solid-room v (s .args .k) w), omega (arith, w .sound .vertices .0), omega (arith, w .sound .vertices .1), search needs),
+      (
+        omega (arith, f .fill-solid .ensures .count, solid-room v (s .args .k) w),
+        omega (arith, w .sound .vertices .0),
+        omega (arith, w .sound .vertices .1),
+        search needs,
+      ),
       ends-in v (s .args .k) _ _ _ (filled-edges (f .fill-solid .ensures)),
     )
 

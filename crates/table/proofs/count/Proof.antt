@@ -6,9 +6,9 @@ use native.Mathlib.Omega.{arith}
 use denote.Ref.{now}
 use lib.Count.{ones}
 use lib.ListN.{length}
-use Rattle.pierce.specs.Faces.{width}
+use Rattle.face_masks.specs.Faces.{width}
 use Rattle.listing.specs.Hits.{upTo}
-use Rattle.listing.specs.Laws.{bounded, count-more, count-all}
+use Rattle.listing.specs.Laws.{count-more, count-all}
 use Rattle.table.specs.Table.{entryIn, entryHits, tableHits}
 use Rattle.table.specs.Entries.{entry-most, entry-ones}
 use borrow.Author.Needs.{needs}
@@ -35,7 +35,12 @@ add-c : tie.Need-add-c Inv-loop μ-loop
 add-c c =
     let m = now (c .before .before .before .before .args .masks) in
     let e = entryIn m m (c .before .before .before .loop .j) in
-    omega (arith, c .ones .ensures ∙ ap ones (c .before .mask-at .ensures .0) ∙ entry-ones 0 e (rw (← c .before .mask-at .ensures .0) (c .before .mask-at .ensures .1)), entry-most 0 e)
+    omega (
+      arith,
+      c .ones .ensures ∙ ap ones (c .before .mask-at .ensures .0)
+          ∙ entry-ones 0 e (rw (← c .before .mask-at .ensures .0) (c .before .mask-at .ensures .1)),
+      entry-most 0 e,
+    )
 
 add-j : tie.Need-add-j Inv-loop μ-loop
 add-j c = search needs
@@ -47,8 +52,13 @@ loop-again : tie.Need-loop-again Inv-loop μ-loop
 loop-again c =
     let m = now (c .before .before .before .before .args .masks) in
     let l = c .before .before .before .loop in
-    let o : (first : ℕ) (ends : List ℕ) → c .ones .result ≡ length (entryHits first (entryIn ends m (l .j))) = λ first ends. c .ones .ensures ∙ ap ones (c .before .mask-at .ensures .0) ∙ entry-ones first (entryIn ends m (l .j)) (rw (← c .before .mask-at .ensures .0) (c .before .mask-at .ensures .1)) in
-    (omega arith, omega (arith, o 0 m, entry-most 0 (entryIn m m (l .j))), λ first ends. count-more (λ i. entryHits first (entryIn ends m i)) (l .j) (l .inv .2 first ends) (o first ends))
+    let o : (first : ℕ) (ends : List ℕ) → c .ones .result ≡ length (entryHits first (entryIn ends m (l .j))) =
+    λ first ends. c .ones .ensures ∙ ap ones (c .before .mask-at .ensures .0)
+    ∙ entry-ones first (entryIn ends m (l .j)) (rw (← c .before .mask-at .ensures .0) (c .before .mask-at .ensures .1)) in (
+      omega arith,
+      omega (arith, o 0 m, entry-most 0 (entryIn m m (l .j))),
+      λ first ends. count-more (λ i. entryHits first (entryIn ends m i)) (l .j) (l .inv .2 first ends) (o first ends),
+    )
 
 returns : tie.Need-returns Inv-loop μ-loop
 returns c = λ first ends. count-all _ (c .before .loop .inv .0) (c .loop-test .left) (c .before .loop .inv .2 first ends)

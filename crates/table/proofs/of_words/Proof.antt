@@ -1,6 +1,6 @@
 -- Two words have room for two times 64 faces.
 use borrow.Author.Needs.{needs}
-use Rattle.pierce.specs.Faces.{valueOf}
+use Rattle.face_masks.specs.Faces.{valueOf}
 use Rattle.table.specs.Entries.{words-fit}
 use Rattle.table.proofs.of_words.Statement.{statement}
 use Rattle.table.proofs.of_words.Tie as tie

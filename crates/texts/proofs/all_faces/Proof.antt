@@ -5,14 +5,11 @@ use borrow.Author.Needs.{needs}
 use Rattle.texts.proofs.all_faces.Statement.{statement}
 use Rattle.texts.proofs.all_faces.Tie as tie
 
-count-at-requires : tie.Need-count-at-requires
-count-at-requires c κs = search needs
-
 faces-requires : tie.Need-faces-requires
 faces-requires c κs = search needs
 
 returns : tie.Need-returns
-returns c = faces-held _ (omega arith) _ (omega arith) _ (c .before .count-at .ensures) (c .faces .ensures)
+returns c = faces-held _ (omega arith) _ (omega arith) _ (c .before .before .pre .1 .faces) (c .faces .ensures)
 
 pub all-faces-spec : {M : Type 1} → statement M
-all-faces-spec = tie.close (tie.spec count-at-requires faces-requires returns)
+all-faces-spec = tie.close (tie.spec faces-requires returns)

@@ -1,7 +1,5 @@
 -- Behind the counts, the vertices.
-use Rattle.texts.specs.Laws.{counts-within}
-use native.Mathlib.Omega.{arith}
-use Rattle.texts.specs.Laws.{goes, wholes-within, faces-within}
+use Rattle.texts.specs.Laws.{goes, counts-within}
 use borrow.Author.Needs.{needs}
 use Rattle.texts.proofs.counts_then.Statement.{statement}
 use Rattle.texts.proofs.counts_then.Tie as tie
@@ -12,8 +10,11 @@ counts-requires c κs = search needs
 enum-known-e : tie.Need-enum-known-e
 enum-known-e c = search needs
 
+head-from-requires : tie.Need-head-from-requires
+head-from-requires c κs = search needs
+
 vertices-then-requires : tie.Need-vertices-then-requires
-vertices-then-requires c κs = (search (counts-within, needs), omega arith)
+vertices-then-requires c κs = (search (counts-within, needs), search needs, search needs)
 
 enum-known-p : tie.Need-enum-known-p
 enum-known-p c = search needs
@@ -36,6 +37,7 @@ counts-then-spec =
     (tie.spec
     counts-requires
     enum-known-e
+    head-from-requires
     vertices-then-requires
     enum-known-p
     enum-known-p-2

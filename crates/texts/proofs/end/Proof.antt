@@ -1,5 +1,4 @@
 -- Nothing is left exactly where the next item would start at the end.
-use native.Mathlib.Omega.{arith}
 use Rattle.texts.specs.Laws.{end-reached, end-outside}
 use borrow.Author.Needs.{needs}
 use Rattle.texts.proofs.end.Statement.{statement}

@@ -1,12 +1,10 @@
 -- The rest of the faces reads as the whole.
-use Rattle.texts.specs.Laws.{face-within}
+use Rattle.texts.specs.Laws.{faces-begin, face-within, reads}
 use Prim.Native.Nat.{_-_, _≤_}
-use mathlib.Core.Path.{_≡_, refl}
+use mathlib.Core.Path.{_≡_}
 use lib.ListN.{length}
 use native.Mathlib.Omega.{arith}
 use Rattle.texts.specs.Form.{facesFrom}
-use Rattle.texts.specs.Places.{face-reach}
-use Rattle.texts.specs.Laws.{faces-begin, faces-stop, faces-outside, faces-sides, faces-next}
 use borrow.Author.Needs.{needs}
 use Rattle.texts.proofs.faces.Statement.{statement}
 use Rattle.texts.proofs.faces.Tie as tie
@@ -21,34 +19,34 @@ loop-holds : tie.Need-loop-holds Inv-loop μ-loop
 loop-holds c = (faces-begin _ _ _, omega arith, omega arith)
 
 face-requires : tie.Need-face-requires Inv-loop μ-loop
-face-requires c κs = search (faces-stop, faces-outside, faces-sides, faces-next, needs)
+face-requires c κs = search reads
 
 enum-known-e : tie.Need-enum-known-e Inv-loop μ-loop
-enum-known-e c = search (faces-stop, faces-outside, faces-sides, faces-next, needs)
+enum-known-e c = search reads
 
 enum-known-p : tie.Need-enum-known-p Inv-loop μ-loop
-enum-known-p c = search (faces-stop, faces-outside, faces-sides, faces-next, needs)
+enum-known-p c = search reads
 
 returns : tie.Need-returns Inv-loop μ-loop
-returns c = search (faces-stop, faces-outside, faces-sides, faces-next, needs)
+returns c = search reads
 
 enum-known-p-2 : tie.Need-enum-known-p-2 Inv-loop μ-loop
-enum-known-p-2 c = search (faces-stop, faces-outside, faces-sides, faces-next, needs)
+enum-known-p-2 c = search reads
 
 returns-2 : tie.Need-returns-2 Inv-loop μ-loop
-returns-2 c = search (faces-stop, faces-outside, faces-sides, faces-next, needs)
+returns-2 c = search reads
 
 add-i : tie.Need-add-i Inv-loop μ-loop
-add-i c = search (faces-stop, faces-outside, faces-sides, faces-next, needs)
+add-i c = search reads
 
 loop-less : tie.Need-loop-less Inv-loop μ-loop
-loop-less c = search (faces-stop, faces-outside, faces-sides, faces-next, needs)
+loop-less c = search reads
 
 loop-again : tie.Need-loop-again Inv-loop μ-loop
-loop-again c = (search (faces-next, needs), search (face-within, needs), omega arith)
+loop-again c = (search reads, search (face-within, needs), omega arith)
 
 returns-3 : tie.Need-returns-3 Inv-loop μ-loop
-returns-3 c = search (faces-stop, faces-outside, faces-sides, faces-next, needs)
+returns-3 c = search reads
 
 pub faces-spec : {M : Type 1} → statement M
 faces-spec =

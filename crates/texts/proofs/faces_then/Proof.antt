@@ -1,6 +1,5 @@
 -- Behind the faces, the end.
-use native.Mathlib.Omega.{arith}
-use Rattle.texts.specs.Laws.{goes, wholes-within, faces-within}
+use Rattle.texts.specs.Laws.{goes, faces-within}
 use borrow.Author.Needs.{needs}
 use Rattle.texts.proofs.faces_then.Statement.{statement}
 use Rattle.texts.proofs.faces_then.Tie as tie

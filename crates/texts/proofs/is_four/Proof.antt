@@ -1,6 +1,6 @@
 -- Four bytes.
 use mathlib.Core.Path.{refl}
-use Rattle.texts.specs.Laws.{equal-stops, equal-goes-on, equal-last}
+use Rattle.texts.specs.Laws.{equal-stops, equals}
 use Rattle.texts.specs.Form.{isFour}
 use borrow.Author.Needs.{needs}
 use Rattle.texts.proofs.is_four.Statement.{statement}
@@ -15,7 +15,7 @@ byte-requires c κs = search needs
 
 returns-2 : tie.Need-returns-2
 unfolding isFour
-returns-2 c = search (equal-stops, equal-goes-on, equal-last, refl)
+returns-2 c = search equals
 
 add-is-off : tie.Need-add-is-off
 add-is-off c = search needs
@@ -25,7 +25,7 @@ is-off-requires c κs = search needs
 
 returns-3 : tie.Need-returns-3
 unfolding isFour
-returns-3 c = search (equal-stops, equal-goes-on, equal-last, refl)
+returns-3 c = search equals
 
 pub is-four-spec : {M : Type 1} → statement M
 is-four-spec =

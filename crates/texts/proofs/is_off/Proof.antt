@@ -1,6 +1,5 @@
 -- Byte after byte.
-use mathlib.Core.Path.{refl}
-use Rattle.texts.specs.Laws.{equal-stops, equal-goes-on, equal-last}
+use Rattle.texts.specs.Laws.{equal-stops, equals}
 use Rattle.texts.specs.Form.{isOff}
 use borrow.Author.Needs.{needs}
 use Rattle.texts.proofs.is_off.Statement.{statement}
@@ -21,7 +20,7 @@ byte-requires-2 c κs = search needs
 
 returns-2 : tie.Need-returns-2
 unfolding isOff
-returns-2 c = search (equal-stops, equal-goes-on, equal-last)
+returns-2 c = search equals
 
 add-byte-2 : tie.Need-add-byte-2
 add-byte-2 c = search needs
@@ -31,7 +30,7 @@ byte-requires-3 c κs = search needs
 
 returns-3 : tie.Need-returns-3
 unfolding isOff
-returns-3 c = search (equal-stops, equal-goes-on, equal-last)
+returns-3 c = search equals
 
 pub is-off-spec : {M : Type 1} → statement M
 is-off-spec =

@@ -1,6 +1,6 @@
 -- Three bytes.
 use mathlib.Core.Path.{refl}
-use Rattle.texts.specs.Laws.{equal-stops, equal-goes-on, equal-last}
+use Rattle.texts.specs.Laws.{equal-stops, equals}
 use Rattle.texts.specs.Form.{isThree}
 use borrow.Author.Needs.{needs}
 use Rattle.texts.proofs.is_three.Statement.{statement}
@@ -15,7 +15,7 @@ is-off-requires c κs = search needs
 
 returns-2 : tie.Need-returns-2
 unfolding isThree
-returns-2 c = search (equal-stops, equal-goes-on, equal-last, refl)
+returns-2 c = search equals
 
 pub is-three-spec : {M : Type 1} → statement M
 is-three-spec = tie.close (tie.spec returns is-off-requires returns-2)

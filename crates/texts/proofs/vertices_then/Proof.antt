@@ -1,6 +1,5 @@
 -- Behind the vertices, the faces.
-use native.Mathlib.Omega.{arith}
-use Rattle.texts.specs.Laws.{goes, wholes-within, faces-within}
+use Rattle.texts.specs.Laws.{goes, wholes-within}
 use borrow.Author.Needs.{needs}
 use Rattle.texts.proofs.vertices_then.Statement.{statement}
 use Rattle.texts.proofs.vertices_then.Tie as tie
@@ -12,7 +11,7 @@ enum-known-e : tie.Need-enum-known-e
 enum-known-e c = search needs
 
 faces-then-requires : tie.Need-faces-then-requires
-faces-then-requires c κs = search (wholes-within, needs)
+faces-then-requires c κs = (search (wholes-within, needs), search needs)
 
 enum-known-p : tie.Need-enum-known-p
 enum-known-p c = search needs

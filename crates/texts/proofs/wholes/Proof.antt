@@ -1,12 +1,10 @@
 -- The rest of the numbers reads as the whole.
-use Rattle.texts.specs.Laws.{wholes-begin}
+use Rattle.texts.specs.Laws.{wholes-begin, reads}
 use Prim.Native.Nat.{_-_, _≤_}
-use mathlib.Core.Path.{_≡_, refl}
+use mathlib.Core.Path.{_≡_}
 use lib.ListN.{length}
 use native.Mathlib.Omega.{arith}
 use Rattle.texts.specs.Form.{wholes}
-use Rattle.texts.specs.Laws.{wholes-stop, wholes-found, wholes-next}
-use borrow.Author.Needs.{needs}
 use Rattle.texts.proofs.wholes.Statement.{statement}
 use Rattle.texts.proofs.wholes.Tie as tie
 
@@ -20,25 +18,25 @@ loop-holds : tie.Need-loop-holds Inv-loop μ-loop
 loop-holds c = (wholes-begin _ _ _ _, omega arith, omega arith)
 
 next-requires : tie.Need-next-requires Inv-loop μ-loop
-next-requires c κs = search (wholes-stop, wholes-found, wholes-next, needs)
+next-requires c κs = search reads
 
 is-whole-requires : tie.Need-is-whole-requires Inv-loop μ-loop
-is-whole-requires c κs = search (wholes-stop, wholes-found, wholes-next, needs)
+is-whole-requires c κs = search reads
 
 returns : tie.Need-returns Inv-loop μ-loop
-returns c = search (wholes-stop, wholes-found, wholes-next, needs)
+returns c = search reads
 
 add-i : tie.Need-add-i Inv-loop μ-loop
-add-i c = search (wholes-stop, wholes-found, wholes-next, needs)
+add-i c = search reads
 
 loop-less : tie.Need-loop-less Inv-loop μ-loop
-loop-less c = search (wholes-stop, wholes-found, wholes-next, needs)
+loop-less c = search reads
 
 loop-again : tie.Need-loop-again Inv-loop μ-loop
-loop-again c = search (wholes-stop, wholes-found, wholes-next, needs)
+loop-again c = search reads
 
 returns-2 : tie.Need-returns-2 Inv-loop μ-loop
-returns-2 c = search (wholes-stop, wholes-found, wholes-next, needs)
+returns-2 c = search reads
 
 pub wholes-spec : {M : Type 1} → statement M
 wholes-spec =

@@ -38,6 +38,9 @@ write-scene-requires-2 c κs = search needs
 returns-2 : tie.Need-returns-2
 returns-2 c = search needs
 
+returns-3 : tie.Need-returns-3
+returns-3 c = search needs
+
 pub write-next-spec : {M : Type 1} → statement M
 write-next-spec =
     tie.close
@@ -52,4 +55,5 @@ write-next-spec =
     array-share-prefix-s-2
     slice-aggregate-write-scene-2
     write-scene-requires-2
-    returns-2)
+    returns-2
+    returns-3)

@@ -1,4 +1,4 @@
--- What is lent on is within the buffer.
+-- What was rendered stands within the buffer.
 use native.Mathlib.Omega.{arith}
 use lib.ListN.{length-take}
 use borrow.Author.Needs.{needs}
@@ -17,6 +17,12 @@ slice-aggregate-write-all c = simp length-take (omega arith)
 write-all-requires : tie.Need-write-all-requires
 write-all-requires c κs = search needs
 
+same-length : tie.Need-same-length
+same-length c = search needs
+
+returns : tie.Need-returns
+returns c = search needs
+
 part-requires : tie.Need-part-requires
 part-requires c κs = search needs
 
@@ -29,14 +35,14 @@ slice-aggregate-write-all-2 c = simp length-take (omega arith)
 write-all-requires-2 : tie.Need-write-all-requires-2
 write-all-requires-2 c κs = search needs
 
-same-length : tie.Need-same-length
-same-length c = search needs
-
 same-length-2 : tie.Need-same-length-2
 same-length-2 c = search needs
 
-returns : tie.Need-returns
-returns c = search needs
+same-length-3 : tie.Need-same-length-3
+same-length-3 c = search needs
+
+returns-2 : tie.Need-returns-2
+returns-2 c = search needs
 
 pub write-report-spec : {M : Type 1} → statement M
 write-report-spec =
@@ -46,10 +52,12 @@ write-report-spec =
     slice-reshare-prefix-write-all
     slice-aggregate-write-all
     write-all-requires
+    same-length
+    returns
     part-requires
     slice-reshare-prefix-write-all-2
     slice-aggregate-write-all-2
     write-all-requires-2
-    same-length
     same-length-2
-    returns)
+    same-length-3
+    returns-2)

@@ -4,7 +4,6 @@ use mathlib.Core.Path.{_≡_}
 use lib.ListN.{length}
 use Rattle.laws.specs.Range.{anyOf, loops}
 use Rattle.answers.specs.Lent.{isTouched, areTouched}
-use denote.Ref.{now}
 use Rattle.answers.proofs.lent.are_touched.Statement.{statement}
 use Rattle.answers.proofs.lent.are_touched.Tie as tie
 

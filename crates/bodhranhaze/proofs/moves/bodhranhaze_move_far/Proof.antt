@@ -25,18 +25,24 @@ same-length c = search needs
 
 returns : tie.Need-returns
 returns c =
-    let a = c .before .before .before .before .before .before .before .args in
-    let f = c .before .before .before .before .before .before .before .fits in
-    moved-by (moveFarFault (now (a .s))) (rowPut (now (a .s)) 0) (now (a .s)) (row-again (f .x) (f .y) (f .z) (f .w)) (c .before .before .before .before .move-far .ensures) (c .enum-told .given .1) refl
+    let c4 = c .before .before .before .before in
+    let c7 = c4 .before .before .before in
+    let a = c7 .args in
+    let f = c7 .fits in
+    moved-by (moveFarFault (now (a .s))) (rowPut (now (a .s)) 0) (now (a .s)) (row-again (f .x) (f .y) (f .z) (f .w))
+    (c4 .move-far .ensures) (c .enum-told .given .1) refl
 
 same-length-2 : tie.Need-same-length-2
 same-length-2 c = search needs
 
 returns-2 : tie.Need-returns-2
 returns-2 c =
-    let a = c .before .before .before .before .before .before .before .before .before .args in
-    let f = c .before .before .before .before .before .before .before .before .before .fits in
-    moved-by (moveFarFault (now (a .s))) (rowPut (now (a .s)) 0) (now (a .s)) (row-again (f .x) (f .y) (f .z) (f .w)) (c .before .before .before .before .before .before .move-far .ensures) (c .before .before .j .given .1) (c .number .ensures)
+    let c6 = c .before .before .before .before .before .before in
+    let c9 = c6 .before .before .before in
+    let a = c9 .args in
+    let f = c9 .fits in
+    moved-by (moveFarFault (now (a .s))) (rowPut (now (a .s)) 0) (now (a .s)) (row-again (f .x) (f .y) (f .z) (f .w))
+    (c6 .move-far .ensures) (c .before .before .j .given .1) (c .number .ensures)
 
 pub bodhranhaze-move-far-spec : {M : Type 1} → statement M
 bodhranhaze-move-far-spec =

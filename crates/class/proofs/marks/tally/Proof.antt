@@ -48,7 +48,8 @@ count-in-requires c κs =
     let p = c .before .before .before in
     let l = p .before .before .loop in
     let a = p .before .before .before .before in
-    counting-here (now (a .args .block)) (l .at) (l .lines) (l .pairs) (l .inv) (omega arith) (p .part-at .result) (p .part-at .ensures) (c .before .mark-of .result) (c .before .mark-of .ensures) (a .pre)
+    counting-here (now (a .args .block)) (l .at) (l .lines) (l .pairs) (l .inv) (omega arith) (p .part-at .result) (p .part-at .ensures)
+    (c .before .mark-of .result) (c .before .mark-of .ensures) (a .pre)
 
 add-pairs : tie.Need-add-pairs Inv-loop μ-loop
 add-pairs c =
@@ -56,7 +57,11 @@ add-pairs c =
     let p = m .before .before in
     let l = p .before .before .loop in
     let a = p .before .before .before .before in
-    omega (arith, sum-fits (now (a .args .block)) (l .at) (l .lines) (l .pairs) (l .inv) (omega arith) (p .part-at .result) (p .part-at .ensures) (m .mark-of .result) (m .mark-of .ensures) (a .pre))
+    omega (
+      arith,
+      sum-fits (now (a .args .block)) (l .at) (l .lines) (l .pairs) (l .inv) (omega arith) (p .part-at .result)
+          (p .part-at .ensures) (m .mark-of .result) (m .mark-of .ensures) (a .pre),
+    )
 
 loop-less : tie.Need-loop-less Inv-loop μ-loop
 loop-less c =
@@ -73,7 +78,8 @@ loop-again c =
     let p = m .before .before in
     let l = p .before .before .loop in
     let a = p .before .before .before .before in
-    sofar-next (now (a .args .block)) (l .at) (l .lines) (l .pairs) (l .inv) (omega arith) (p .part-at .result) (p .part-at .ensures) (m .mark-of .result) (m .mark-of .ensures) (c .before .count-in .ensures)
+    sofar-next (now (a .args .block)) (l .at) (l .lines) (l .pairs) (l .inv) (omega arith) (p .part-at .result) (p .part-at .ensures)
+    (m .mark-of .result) (m .mark-of .ensures) (c .before .count-in .ensures)
 
 told-requires : tie.Need-told-requires Inv-loop μ-loop
 told-requires c κs =

@@ -63,19 +63,23 @@ returns c =
     record {
       x =
           called (x .volume .ok)
-          (x .volume .ensures ∙ (λ j. volumeOf (x .before .before .before .but-x .ensures .0 j) (x .before .before .but-x2 .ensures .0 j) (x .before .but-x3 .ensures .0 j)))
+          (x .volume .ensures ∙ (λ j. volumeOf (x .before .before .before .but-x .ensures .0 j) (x .before .before .but-x2 .ensures .0 j)
+          (x .before .but-x3 .ensures .0 j)))
           i;
       y =
           called (y .volume2 .ok)
-          (y .volume2 .ensures ∙ (λ j. volumeOf (y .before .before .before .but-y .ensures .0 j) (y .before .before .but-y2 .ensures .0 j) (y .before .but-y3 .ensures .0 j)))
+          (y .volume2 .ensures ∙ (λ j. volumeOf (y .before .before .before .but-y .ensures .0 j) (y .before .before .but-y2 .ensures .0 j)
+          (y .before .but-y3 .ensures .0 j)))
           i;
       z =
           called (z .volume3 .ok)
-          (z .volume3 .ensures ∙ (λ j. volumeOf (z .before .before .before .but-z .ensures .0 j) (z .before .before .but-z2 .ensures .0 j) (z .before .but-z3 .ensures .0 j)))
+          (z .volume3 .ensures ∙ (λ j. volumeOf (z .before .before .before .but-z .ensures .0 j) (z .before .before .but-z2 .ensures .0 j)
+          (z .before .but-z3 .ensures .0 j)))
           i;
       w =
           called (w .volume4 .ok)
-          (w .volume4 .ensures ∙ (λ j. volumeOf (w .before .before .before .but-w .ensures .0 j) (w .before .before .but-w2 .ensures .0 j) (w .before .but-w3 .ensures .0 j)))
+          (w .volume4 .ensures ∙ (λ j. volumeOf (w .before .before .before .but-w .ensures .0 j) (w .before .before .but-w2 .ensures .0 j)
+          (w .before .but-w3 .ensures .0 j)))
           i;
     }
 

@@ -6,11 +6,6 @@ use Rattle.doubles.specs.Unsigned.{narrow, nine}
 use borrow.Author.Needs.{needs}
 use Rattle.doubles.proofs.record.put.Statement.{statement}
 use Rattle.doubles.proofs.record.put.Tie as tie
-use Rattle.doubles.proofs.record.put.Reads as reads
-use Rattle.doubles.proofs.record.put.Lts as lts
-use Rattle.doubles.proofs.record.high.Reads as high-reads
-use Rattle.doubles.proofs.record.low.Reads as low-reads
-use Rattle.doubles.proofs.record.unsigned.Reads as unsigned-reads
 
 unsigned-requires : tie.Need-unsigned-requires
 unsigned-requires c κs = (narrow (c .before .before .args .r .x) _ 32768 (c .before .before .pre .1 .x) tt tt, le-refl 32768)
@@ -19,10 +14,18 @@ unsigned-requires-2 : tie.Need-unsigned-requires-2
 unsigned-requires-2 c κs = (narrow (c .before .before .before .before .args .r .y) _ 32768 (c .before .before .before .before .pre .1 .y) tt tt, le-refl 32768)
 
 unsigned-requires-3 : tie.Need-unsigned-requires-3
-unsigned-requires-3 c κs = (narrow (c .before .before .before .before .before .before .args .r .z) _ 32768 (c .before .before .before .before .before .before .pre .1 .z) tt tt, le-refl 32768)
+unsigned-requires-3 c κs = (
+  narrow (c .before .before .before .before .before .before .args .r .z) _ 32768
+      (c .before .before .before .before .before .before .pre .1 .z) tt tt,
+  le-refl 32768,
+)
 
 unsigned-requires-4 : tie.Need-unsigned-requires-4
-unsigned-requires-4 c κs = (narrow (c .before .before .before .before .before .before .before .before .args .r .w) _ 128 (c .before .before .before .before .before .before .before .before .pre .1 .w) tt tt, omega arith)
+unsigned-requires-4 c κs = (
+  narrow (c .before .before .before .before .before .before .before .before .args .r .w) _ 128
+      (c .before .before .before .before .before .before .before .before .pre .1 .w) tt tt,
+  omega arith,
+)
 
 low-requires : tie.Need-low-requires
 low-requires c κs = search needs

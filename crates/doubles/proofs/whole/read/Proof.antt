@@ -31,13 +31,15 @@ float-to-int-t8 : tie.Need-float-to-int-t8
 unfolding ofBits
 float-to-int-t8 c =
     let s = c .before .before .before .before .before .before in
-    casts (s .args .x) (s .args .most) (s .pre) (c .before .before .before .before .before .is-whole .ensures) (c .before .before .before .before .if1 .taken) (c .before .before .if2 .left) (c .before .if3 .left)
+    casts (s .args .x) (s .args .most) (s .pre) (c .before .before .before .before .before .is-whole .ensures)
+    (c .before .before .before .before .if1 .taken) (c .before .before .if2 .left) (c .before .if3 .left)
 
 returns-3 : tie.Need-returns-3
 unfolding ofBits
 returns-3 c =
     let s = c .before .before .before .before .before .before in
-    as-cast (s .args .x) (s .args .most) (s .pre) (c .before .before .before .before .before .is-whole .ensures) (c .before .before .before .before .if1 .taken) (c .before .before .if2 .left) (c .before .if3 .left)
+    as-cast (s .args .x) (s .args .most) (s .pre) (c .before .before .before .before .before .is-whole .ensures)
+    (c .before .before .before .before .if1 .taken) (c .before .before .if2 .left) (c .before .if3 .left)
 
 returns-4 : tie.Need-returns-4
 returns-4 c = search needs

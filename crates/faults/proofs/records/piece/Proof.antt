@@ -5,8 +5,8 @@ use borrow.Author.Needs.{needs}
 use Rattle.faults.proofs.records.piece.Statement.{statement}
 use Rattle.faults.proofs.records.piece.Tie as tie
 
-count-at-requires : tie.Need-count-at-requires
-count-at-requires c κs = search needs
+head-of-requires : tie.Need-head-of-requires
+head-of-requires c κs = search needs
 
 slice-aggregate-of-first : tie.Need-slice-aggregate-of-first
 slice-aggregate-of-first c = search needs
@@ -21,7 +21,7 @@ returns : tie.Need-returns
 returns c =
     let r = c .before .before in
     let t = r .before .before .before in
-    among-these _ _ _ _ (t .before .count-at .ensures) (t .if1 .taken) (r .of-first .ensures)
+    among-these _ _ _ _ (t .before .head-of .ensures .vertices) (t .if1 .taken) (r .of-first .ensures)
 
 rest-requires : tie.Need-rest-requires
 rest-requires c κs = search needs
@@ -33,13 +33,13 @@ returns-2 : tie.Need-returns-2
 returns-2 c =
     let r = c .before .before in
     let t = r .before .before in
-    among-those _ _ _ _ (t .before .count-at .ensures) (t .if1 .left) refl (r .rest .ensures)
+    among-those _ _ _ _ (t .before .head-of .ensures .vertices) (t .if1 .left) refl (r .rest .ensures)
 
 pub piece-spec : {M : Type 1} → statement M
 piece-spec =
     tie.close
     (tie.spec
-    count-at-requires
+    head-of-requires
     slice-aggregate-of-first
     of-first-requires
     same-length

@@ -1,7 +1,5 @@
 -- Behind the sign, where there is one.
 use Rattle.items.specs.Laws.{body-behind, body-there}
-use mathlib.Core.Path.{_≡_, refl, sym, ap, _∙_}
-use Rattle.items.specs.Numbers.{bodyOf}
 use borrow.Author.Needs.{needs}
 use Rattle.items.proofs.numbers.body.Statement.{statement}
 use Rattle.items.proofs.numbers.body.Tie as tie

@@ -1,8 +1,6 @@
 -- Two comparisons.
-use mathlib.Core.Path.{_≡_, refl, sym, ap, _∙_}
-use Rattle.laws.specs.Tests.{ands, ors}
+use Rattle.laws.specs.Tests.{ands}
 use Rattle.items.specs.Numbers.{isDigit}
-use borrow.Author.Needs.{needs}
 use Rattle.items.proofs.numbers.is_digit.Statement.{statement}
 use Rattle.items.proofs.numbers.is_digit.Tie as tie
 

@@ -1,5 +1,5 @@
 -- The digits decide, where there are any.
-use Rattle.items.specs.Laws.{whole-digits, whole-empty, size-body}
+use Rattle.items.specs.Laws.{whole-digits, whole-empty}
 use borrow.Author.Needs.{needs}
 use Rattle.items.proofs.numbers.is_whole.Statement.{statement}
 use Rattle.items.proofs.numbers.is_whole.Tie as tie

@@ -1,7 +1,5 @@
 -- The sign is looked at where there may be one.
-use Rattle.laws.specs.Tests.{same}
-use mathlib.Core.Path.{_≡_, refl, sym, ap, _∙_}
-use Rattle.laws.specs.Tests.{ands, ors}
+use Rattle.laws.specs.Tests.{same, ands}
 use Rattle.items.specs.Numbers.{minusAt}
 use borrow.Author.Needs.{needs}
 use Rattle.items.proofs.numbers.minus_at.Statement.{statement}

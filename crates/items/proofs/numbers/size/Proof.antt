@@ -1,5 +1,5 @@
 -- The value of the digits.
-use Rattle.items.specs.Laws.{whole-digits, whole-empty, size-body}
+use Rattle.items.specs.Laws.{size-body}
 use borrow.Author.Needs.{needs}
 use Rattle.items.proofs.numbers.size.Statement.{statement}
 use Rattle.items.proofs.numbers.size.Tie as tie

@@ -1,12 +1,10 @@
 -- The rest behind what was told equals the whole.
-use Rattle.items.specs.Laws.{told-le}
-use borrow.Author.Needs.{needs}
+use Rattle.items.specs.Laws.{told-le, scans, value-stop, value-next}
 use Prim.Native.Nat.{_-_, _≤_}
 use mathlib.Core.Path.{_≡_, refl}
 use native.Mathlib.Omega.{arith}
 use lib.Seq.{slice}
 use Rattle.items.specs.Numbers.{value, largest, atMost}
-use Rattle.items.specs.Laws.{scans, value-stop, value-next}
 use Rattle.items.proofs.numbers.value.Statement.{statement}
 use Rattle.items.proofs.numbers.value.Tie as tie
 

@@ -57,7 +57,8 @@ returns c =
     let e0 = k1 .corner .ensures .0 in
     let e1 = k2 .corner2 .ensures .0 in
     let e2 = k3 .corner3 .ensures .0 in
-    let t = three-places _ _ (p .2) (b1 .bit .ensures ∙ ap (λ (k : ℕ). 2 ^ k) e0) (b2 .bit2 .ensures ∙ ap (λ (k : ℕ). 2 ^ k) e1) (b3 .bit3 .ensures ∙ ap (λ (k : ℕ). 2 ^ k) e2) in
+    let t = three-places _ _ (p .2) (b1 .bit .ensures ∙ ap (λ (k : ℕ). 2 ^ k) e0) (b2 .bit2 .ensures ∙ ap (λ (k : ℕ). 2 ^ k) e1)
+    (b3 .bit3 .ensures ∙ ap (λ (k : ℕ). 2 ^ k) e2) in
     (turns-face _ _ _ (p .2) (p .0) e0 e1 e2 t (c1 .turn .ensures) (c2 .turn2 .ensures) (c .turn3 .ensures), t)
 
 pub turn-face-spec : {M : Type 1} → statement M

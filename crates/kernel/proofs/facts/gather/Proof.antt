@@ -25,8 +25,12 @@ same-length c = search needs
 
 returns : tie.Need-returns
 returns c =
-    let s = c .before .before .before .before .before .before .before .before .before .before .before .before .before .before .before .before .before .before .before .before .before .before in
-    gathered (now (s .args .s)) (s .pre) (c .before .before .before .before .before .before .before .before .before .before .before .before .before .before .before .survey-of .ensures) (search needs) (search needs) _ (search needs) (search needs)
+    let s =
+    c .before .before .before .before .before .before .before .before .before .before .before .before .before .before .before
+    .before .before .before .before .before .before .before in
+    gathered (now (s .args .s)) (s .pre)
+    (c .before .before .before .before .before .before .before .before .before .before .before .before .before .before .before .survey-of .ensures)
+    (search needs) (search needs) _ (search needs) (search needs)
 
 pub gather-spec : {M : Type 1} → statement M
 gather-spec =

@@ -51,4 +51,7 @@ returns-3 c =
     both-accept Refused _ ok h (ap Count (c .inside-of .ensures))
 
 pub inside-spec : {M : Type 1} → statement M
-inside-spec = tie.close (tie.spec judge-requires enum-known-r returns enum-told inside-fault-requires enum-known-r-2 returns-2 enum-told-2 inside-of-requires returns-3)
+inside-spec =
+    tie.close
+    (tie.spec judge-requires enum-known-r returns enum-told inside-fault-requires enum-known-r-2 returns-2
+    enum-told-2 inside-of-requires returns-3)

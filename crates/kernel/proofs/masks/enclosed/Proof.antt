@@ -59,22 +59,29 @@ is-odd-requires c κs = search needs
 returns-3 : tie.Need-returns-3
 unfolding enclosedOf enclosedIn
 returns-3 c =
-    let s = c .before .before .before .before .before .before .before .before .before .before .before .before in
+    let c3 = c .before .before .before in
+    let c4 = c3 .before in
+    let s = c4 .before .before .before .before .before .before .before .before in
     let ok : judged (now (s .args .s)) ≡ Accepted = search accepted-so in
     let h : enclosedFault (viewOf (now (s .args .s))) (s .args .i) ≡ Accepted = search accepted-so in
-    let p = enclosed-found (viewOf (now (s .args .s))) (s .args .i) (c .before .before .before .before .points .ensures .0) (c .before .before .before .other-solid .ensures)
+    let p = enclosed-found (viewOf (now (s .args .s))) (s .args .i) (c4 .points .ensures .0) (c3 .other-solid .ensures)
     (c .before .before .mask-of .ensures) (c .before .is-odd .ensures) in
     both-accept Refused _ ok h (yes-so p (c .if1 .taken))
 
 returns-4 : tie.Need-returns-4
 unfolding enclosedOf enclosedIn
 returns-4 c =
-    let s = c .before .before .before .before .before .before .before .before .before .before .before .before in
+    let c3 = c .before .before .before in
+    let c4 = c3 .before in
+    let s = c4 .before .before .before .before .before .before .before .before in
     let ok : judged (now (s .args .s)) ≡ Accepted = search accepted-so in
     let h : enclosedFault (viewOf (now (s .args .s))) (s .args .i) ≡ Accepted = search accepted-so in
-    let p = enclosed-found (viewOf (now (s .args .s))) (s .args .i) (c .before .before .before .before .points .ensures .0) (c .before .before .before .other-solid .ensures)
+    let p = enclosed-found (viewOf (now (s .args .s))) (s .args .i) (c4 .points .ensures .0) (c3 .other-solid .ensures)
     (c .before .before .mask-of .ensures) (c .before .is-odd .ensures) in
     both-accept Refused _ ok h (no-so p (c .if1 .left))
 
 pub enclosed-spec : {M : Type 1} → statement M
-enclosed-spec = tie.close (tie.spec judge-requires enum-known-r returns enum-told enclosed-fault-requires enum-known-r-2 returns-2 enum-told-2 points-requires other-solid-requires mask-of-requires is-odd-requires returns-3 returns-4)
+enclosed-spec =
+    tie.close
+    (tie.spec judge-requires enum-known-r returns enum-told enclosed-fault-requires enum-known-r-2 returns-2
+    enum-told-2 points-requires other-solid-requires mask-of-requires is-odd-requires returns-3 returns-4)

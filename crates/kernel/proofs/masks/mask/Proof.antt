@@ -57,4 +57,7 @@ returns-3 c =
     both-accept refused _ ok h (mask-said (c .before .mask-of .ensures) (c .ones .ensures))
 
 pub mask-spec : {M : Type 1} → statement M
-mask-spec = tie.close (tie.spec judge-requires enum-known-r returns enum-told mask-fault-requires enum-known-r-2 returns-2 enum-told-2 mask-of-requires ones-requires returns-3)
+mask-spec =
+    tie.close
+    (tie.spec judge-requires enum-known-r returns enum-told mask-fault-requires enum-known-r-2 returns-2
+    enum-told-2 mask-of-requires ones-requires returns-3)

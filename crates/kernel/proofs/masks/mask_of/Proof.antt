@@ -1,6 +1,7 @@
 -- The solid's faces are beside an edge of two points that are none of its vertices.
 use denote.Ref.{now}
-use Rattle.kernel.specs.Ready.{rows-fit, faces-fit, far-fits, point-fits, rows-are, corners-are, solid-fits, weighted-are, outside-beside, decoded, mask-found}
+use Rattle.kernel.specs.Ready.{rows-fit, faces-fit, far-fits, point-fits, rows-are, corners-are}
+use Rattle.kernel.specs.Ready.{solid-fits, weighted-are, outside-beside, decoded, mask-found}
 use borrow.Author.Needs.{needs}
 use Rattle.kernel.proofs.masks.mask_of.Statement.{statement}
 use Rattle.kernel.proofs.masks.mask_of.Tie as tie
@@ -38,9 +39,12 @@ mask-requires c κs =
 
 returns : tie.Need-returns
 returns c =
-    let s = c .before .before .before .before .before .before .before .before in
-    let a = decoded (now (s .args .s)) (c .before .before .before .before .before .before .rows .result) (c .before .before .before .before .before .faces .result) (c .before .points .ensures .0) (c .before .before .before .before .before .before .rows .ensures) (c .before .before .before .before .before .faces .ensures) in
-    mask-found a (s .args .k) (c .before .before .before .before .solid .ensures .0) (s .args .u) (s .args .v) (c .mask .ensures)
+    let c4 = c .before .before .before .before in
+    let c5 = c4 .before in
+    let c6 = c5 .before in
+    let s = c6 .before .before in
+    let a = decoded (now (s .args .s)) (c6 .rows .result) (c5 .faces .result) (c .before .points .ensures .0) (c6 .rows .ensures) (c5 .faces .ensures) in
+    mask-found a (s .args .k) (c4 .solid .ensures .0) (s .args .u) (s .args .v) (c .mask .ensures)
 
 pub mask-of-spec : {M : Type 1} → statement M
 mask-of-spec = tie.close (tie.spec rows-requires faces-requires solid-requires points-requires mask-requires returns)

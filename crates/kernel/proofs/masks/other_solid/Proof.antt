@@ -12,10 +12,14 @@ counts-requires : tie.Need-counts-requires
 counts-requires c κs = search needs
 
 returns : tie.Need-returns
-returns c = let s = c .before .before .before .before in other-b (viewOf (now (s .args .s))) (s .args .i) (ap (λ (n : Scene). n .«vertices_a») (c .before .before .counts .ensures .0)) (c .if1 .taken)
+returns c =
+    let s = c .before .before .before .before in
+    other-b (viewOf (now (s .args .s))) (s .args .i) (ap (λ (n : Scene). n .«vertices_a») (c .before .before .counts .ensures .0)) (c .if1 .taken)
 
 returns-2 : tie.Need-returns-2
-returns-2 c = let s = c .before .before .before .before in other-a (viewOf (now (s .args .s))) (s .args .i) (ap (λ (n : Scene). n .«vertices_a») (c .before .before .counts .ensures .0)) (c .if1 .left)
+returns-2 c =
+    let s = c .before .before .before .before in
+    other-a (viewOf (now (s .args .s))) (s .args .i) (ap (λ (n : Scene). n .«vertices_a») (c .before .before .counts .ensures .0)) (c .if1 .left)
 
 pub other-solid-spec : {M : Type 1} → statement M
 other-solid-spec = tie.close (tie.spec counts-requires returns returns-2)

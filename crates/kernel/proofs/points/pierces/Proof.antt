@@ -86,4 +86,7 @@ returns-4 c =
     both-accept Refused _ ok h (no-so p (c .if1 .left))
 
 pub pierces-spec : {M : Type 1} → statement M
-pierces-spec = tie.close (tie.spec judge-requires enum-known-r returns enum-told pierces-fault-requires enum-known-r-2 returns-2 enum-told-2 rows-requires points-requires corners-requires pierces-requires returns-3 returns-4)
+pierces-spec =
+    tie.close
+    (tie.spec judge-requires enum-known-r returns enum-told pierces-fault-requires enum-known-r-2 returns-2
+    enum-told-2 rows-requires points-requires corners-requires pierces-requires returns-3 returns-4)

@@ -56,12 +56,21 @@ terms-at-requires c κs =
 
 positive-at-requires : tie.Need-positive-at-requires
 positive-at-requires c κs =
-    let s = c .before .before .before .before .before .before .before .before .before .before .before in
+    let c3 = c .before .before .before in
+    let s = c3 .before .before .before .before .before .before .before .before in
     let ok : judged (now (s .args .s)) ≡ Accepted = search accepted-so in
     let b = now (s .args .s) in
     let h : signFault (viewOf (now (s .args .s))) (s .args .a) (s .args .b) (s .args .c) (s .args .d) ≡ Accepted = search accepted-so in
-    let f = sign-four (viewOf (now (s .args .s))) (s .args .a) (s .args .b) (s .args .c) (s .args .d) h in
-    ((rows-are b ok (c .before .before .before .rows .ensures), point-fits b ok (f .a-in), point-fits b ok (f .b-in), point-fits b ok (f .c-in), point-fits b ok (f .d-in)), four-are b ok (c .before .before .before .rows .ensures) f)
+    let f = sign-four (viewOf (now (s .args .s))) (s .args .a) (s .args .b) (s .args .c) (s .args .d) h in (
+      (
+        rows-are b ok (c3 .rows .ensures),
+        point-fits b ok (f .a-in),
+        point-fits b ok (f .b-in),
+        point-fits b ok (f .c-in),
+        point-fits b ok (f .d-in),
+      ),
+      four-are b ok (c3 .rows .ensures) f,
+    )
 
 returns-3 : tie.Need-returns-3
 unfolding signOf signIn
@@ -74,4 +83,7 @@ returns-3 c =
     (c .before .before .terms-at .ensures) (c .positive-at .ensures))
 
 pub sign-spec : {M : Type 1} → statement M
-sign-spec = tie.close (tie.spec judge-requires enum-known-r returns enum-told sign-fault-requires enum-known-r-2 returns-2 enum-told-2 rows-requires terms-at-requires positive-at-requires returns-3)
+sign-spec =
+    tie.close
+    (tie.spec judge-requires enum-known-r returns enum-told sign-fault-requires enum-known-r-2 returns-2
+    enum-told-2 rows-requires terms-at-requires positive-at-requires returns-3)

@@ -1,5 +1,5 @@
--- The first pair, else what is enclosed.
-use Rattle.kernel.specs.Readings.{other-fits, fits, cross-read, a-in-b-read, b-in-a-read, apart-read}
+-- The tables have the first pair and the words.
+use Rattle.kernel.specs.Readings.{other-fits, fits, sought-read}
 use borrow.Author.Needs.{needs}
 use Rattle.kernel.proofs.surveys.verdict_read.Statement.{statement}
 use Rattle.kernel.proofs.surveys.verdict_read.Tie as tie
@@ -13,46 +13,13 @@ solid-requires-2 c κs = search needs
 first-pair-requires : tie.Need-first-pair-requires
 first-pair-requires c κs = (search fits, search other-fits, search other-fits)
 
-enum-known-x : tie.Need-enum-known-x
-enum-known-x c = search needs
+verdict-by-requires : tie.Need-verdict-by-requires
+verdict-by-requires c κs = (search needs, search sought-read)
 
 returns : tie.Need-returns
-returns c = search cross-read
-
-enum-told : tie.Need-enum-told
-enum-told c = search needs
-
-lowest-inside-requires : tie.Need-lowest-inside-requires
-lowest-inside-requires c κs = search needs
-
-returns-2 : tie.Need-returns-2
-returns-2 c = search a-in-b-read
-
-lowest-inside-requires-2 : tie.Need-lowest-inside-requires-2
-lowest-inside-requires-2 c κs = search needs
-
-add-if2 : tie.Need-add-if2
-add-if2 c = search needs
-
-returns-3 : tie.Need-returns-3
-returns-3 c = search b-in-a-read
-
-returns-4 : tie.Need-returns-4
-returns-4 c = search apart-read
+returns c = search needs
 
 pub verdict-read-spec : {M : Type 1} → statement M
 verdict-read-spec =
     tie.close
-    (tie.spec
-    solid-requires
-    solid-requires-2
-    first-pair-requires
-    enum-known-x
-    returns
-    enum-told
-    lowest-inside-requires
-    returns-2
-    lowest-inside-requires-2
-    add-if2
-    returns-3
-    returns-4)
+    (tie.spec solid-requires solid-requires-2 first-pair-requires verdict-by-requires returns)

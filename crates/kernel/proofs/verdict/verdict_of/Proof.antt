@@ -19,8 +19,11 @@ returns c = search (refused-so Refused)
 enum-told : tie.Need-enum-told
 enum-told c = search needs
 
-decide-requires : tie.Need-decide-requires
-decide-requires c κs = search accepted-so
+sought-of-requires : tie.Need-sought-of-requires
+sought-of-requires c κs = search accepted-so
+
+verdict-by-requires : tie.Need-verdict-by-requires
+verdict-by-requires c κs = (search accepted-so, search needs)
 
 returns-2 : tie.Need-returns-2
 unfolding verdictOf
@@ -28,4 +31,4 @@ returns-2 c = search answered-so
 
 pub verdict-of-spec : {M : Type 1} → statement M
 verdict-of-spec =
-    tie.close (tie.spec judge-requires enum-known-r returns enum-told decide-requires returns-2)
+    tie.close (tie.spec judge-requires enum-known-r returns enum-told sought-of-requires verdict-by-requires returns-2)

@@ -14,8 +14,10 @@ file-row-requires c κs = search needs
 
 times-columns-requires : tie.Need-times-columns-requires
 times-columns-requires c κs =
-    let s = c .before .before .before in
-    (columns-small (c .before .columns .ensures) (map-small _ (s .pre .0 .entries)), file-row-small _ (s .pre .0 .accepted) _ (s .pre .1) (c .file-row .ensures))
+    let s = c .before .before .before in (
+      columns-small (c .before .columns .ensures) (map-small _ (s .pre .0 .entries)),
+      file-row-small _ (s .pre .0 .accepted) _ (s .pre .1) (c .file-row .ensures),
+    )
 
 returns : tie.Need-returns
 returns c =

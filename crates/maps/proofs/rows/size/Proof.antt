@@ -5,7 +5,6 @@ use lib.IntN.{natAbs}
 use mir.Syntax.{w64}
 use mir.Facts.{toZ-ofZ, toZ-pos}
 use Rattle.scene.specs.Negative.{below, above}
-use borrow.Author.Needs.{needs}
 use Rattle.maps.proofs.rows.size.Statement.{statement}
 use Rattle.maps.proofs.rows.size.Tie as tie
 

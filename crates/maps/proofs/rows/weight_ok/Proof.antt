@@ -26,7 +26,8 @@ returns : tie.Need-returns
 unfolding weightOk
 returns c =
     c .is-within .ensures
-    ∙ ap₂ (λ (l n : ℕ). within l (limits .mostWeight) n) (c .before .before .before .least-weight .ensures) (size-is (w-fits (c .before .before .before .before)) (c .before .size .ensures))
+    ∙ ap₂ (λ (l n : ℕ). within l (limits .mostWeight) n) (c .before .before .before .least-weight .ensures)
+    (size-is (w-fits (c .before .before .before .before)) (c .before .size .ensures))
 
 pub weight-ok-spec : {M : Type 1} → statement M
 weight-ok-spec =

@@ -1,7 +1,6 @@
 -- One word holds all faces, or the second goes on from there.
 use borrow.Author.Needs.{needs}
 use denote.Ref.{now}
-use native.Mathlib.Omega.{arith}
 use Rattle.scene.specs.Arrays.{faceIn}
 use Rattle.narrow.specs.Marks.{own-one, own-two}
 use Rattle.narrow.proofs.own.fill.Statement.{statement}

@@ -53,7 +53,8 @@ loop-again c = (omega arith, c .put-face .ensures ∙ filled-more faceSet _ _ _ 
 returns : tie.Need-returns Inv-loop μ-loop
 returns c =
     let s = now (c .before .before .before .before .before .args .s) in
-    faces-decoded (face (tablesOf s)) (c .before .loop .k) (3 * (2 * limits .mostFaces + 1)) (c .before .loop .inv .1) (omega arith) (λ j h. face-none s j (omega arith))
+    faces-decoded (face (tablesOf s)) (c .before .loop .k) (3 * (2 * limits .mostFaces + 1)) (c .before .loop .inv .1) (omega arith)
+    (λ j h. face-none s j (omega arith))
 
 pub faces-spec : {M : Type 1} → statement M
 faces-spec =

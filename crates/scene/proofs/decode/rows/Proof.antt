@@ -54,7 +54,8 @@ loop-again c = (omega arith, c .put-row .ensures ∙ filled-more rowSet _ _ _ (c
 returns : tie.Need-returns Inv-loop μ-loop
 returns c =
     let s = now (c .before .before .before .before .before .args .s) in
-    rows-decoded (row (tablesOf s)) (c .before .loop .i) (4 * (mostPoints limits + 1)) (c .before .loop .inv .1) (omega arith) (λ j h. row-none s j (omega arith))
+    rows-decoded (row (tablesOf s)) (c .before .loop .i) (4 * (mostPoints limits + 1)) (c .before .loop .inv .1) (omega arith)
+    (λ j h. row-none s j (omega arith))
 
 pub rows-spec : {M : Type 1} → statement M
 rows-spec =

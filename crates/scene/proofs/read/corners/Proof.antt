@@ -47,8 +47,11 @@ add-t9 c = search needs
 
 returns-4 : tie.Need-returns-4
 returns-4 c =
-    let a = c .before .before .before .before .before .before .before .before .before .before .before .args in
-    ap₂ raise (c .before .before .before .byte3 .ensures .0) (c .before .before .before .before .before .face-at .ensures .0) ∙ sym (face-b (now (a .s)) (a .k) (omega arith) (omega arith))
+    let c3 = c .before .before .before in
+    let c5 = c3 .before .before in
+    let c11 = c5 .before .before .before .before .before .before in
+    let a = c11 .args in
+    ap₂ raise (c3 .byte3 .ensures .0) (c5 .face-at .ensures .0) ∙ sym (face-b (now (a .s)) (a .k) (omega arith) (omega arith))
 
 pub corners-spec : {M : Type 1} → statement M
 corners-spec =

@@ -57,14 +57,21 @@ slice-write-out c = search needs
 
 returns : tie.Need-returns
 returns c =
-    let p = c .before .before .before .before .before .before .before .before .before .before .before .before .before .before .before .before .before .before .before .before .before .args .p in
+    let p =
+    c .before .before .before .before .before .before .before .before .before .before .before .before .before .before .before
+    .before .before .before .before .before .before .args .p in
     let fx : SFits w64 (p .x) = search needs in
     let fy : SFits w64 (p .y) = search needs in
     let fz : SFits w64 (p .z) = search needs in
     let fw : SFits w64 (p .w) = search needs in
-    row-stored _ _ p (c .before .before .before .before .before .before .before .before .before .before .before .before .before .before .before .before .put-two .ensures) (c .before .before .before .before .before .before .before .before .before .before .put-two2 .ensures) (c .before .before .before .before .put-two3 .ensures)
-    (c .before .before .before .before .before .before .before .before .before .before .before .before .before .before .before .before .before .unsigned .ensures .0 ∙ ap (unsigned 32768) (toZ-ofZ fx)) (c .before .before .before .before .before .before .before .before .before .before .before .unsigned2 .ensures .0 ∙ ap (unsigned 32768) (toZ-ofZ fy))
-    (c .before .before .before .before .before .unsigned3 .ensures .0 ∙ ap (unsigned 32768) (toZ-ofZ fz)) (c .unsigned4 .ensures .0 ∙ ap (unsigned 128) (toZ-ofZ fw))
+    let c4 = c .before .before .before .before in
+    let c5 = c4 .before in
+    let c10 = c5 .before .before .before .before .before in
+    let c11 = c10 .before in
+    let c16 = c11 .before .before .before .before .before in
+    row-stored _ _ p (c16 .put-two .ensures) (c10 .put-two2 .ensures) (c4 .put-two3 .ensures)
+    (c16 .before .unsigned .ensures .0 ∙ ap (unsigned 32768) (toZ-ofZ fx)) (c11 .unsigned2 .ensures .0 ∙ ap (unsigned 32768) (toZ-ofZ fy))
+    (c5 .unsigned3 .ensures .0 ∙ ap (unsigned 32768) (toZ-ofZ fz)) (c .unsigned4 .ensures .0 ∙ ap (unsigned 128) (toZ-ofZ fw))
 
 same-length : tie.Need-same-length
 same-length c = ap length (returns c) ∙ row-length _ _ _

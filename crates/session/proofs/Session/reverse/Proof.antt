@@ -30,20 +30,27 @@ sub-with-face c = let f = turn-free _ _ (sym (c .before .before .turn-fault .ens
 
 with-face-requires : tie.Need-with-face-requires
 with-face-requires c κs =
-    let w = c .before .before .before .before .before .size .ensures in
-    let l = length-take-le (c .before .before .before .before .before .size .result) (c .before .before .before .before .before .before .args .self .bytes) (w .within) in
+    let c5 = c .before .before .before .before .before in
+    let c6 = c5 .before in
+    let w = c5 .size .ensures in
+    let l = length-take-le (c5 .size .result) (c6 .args .self .bytes) (w .within) in
     let f = turn-free _ _ (sym (c .before .before .turn-fault .ensures) ∙ c .enum-told .given .1) in
     (omega (arith, f .whole, f .low, f .high, w .fits, l), w .fits, omega (arith, f .whole, f .low, f .high, w .fits, l))
 
 returns : tie.Need-returns
 unfolding reversedOf
-returns c = changed-not _ _ (rw (c .before .before .before .before .before .before .size .ensures .same) at (c .before .before .before .turn-fault .ensures)) (c .before .j .given .1)
+returns c =
+    let c3 = c .before .before .before in
+    let c6 = c3 .before .before .before in
+    changed-not _ _ (rw (c6 .size .ensures .same) at (c3 .turn-fault .ensures)) (c .before .j .given .1)
 
 returns-2 : tie.Need-returns-2
 unfolding reversedOf
 returns-2 c =
-    let w = c .before .before .before .before .before .before .size .ensures in
-    changed-so _ _ (rw (w .same) at (c .before .before .before .turn-fault .ensures)) (c .before .enum-told .given .1) (w .long) (rw (w .same) at (c .with-face .ensures))
+    let c3 = c .before .before .before in
+    let c6 = c3 .before .before .before in
+    let w = c6 .size .ensures in
+    changed-so _ _ (rw (w .same) at (c3 .turn-fault .ensures)) (c .before .enum-told .given .1) (w .long) (rw (w .same) at (c .with-face .ensures))
 
 pub reverse-spec : {M : Type 1} → statement M
 reverse-spec =

@@ -33,7 +33,15 @@ enum-known-r c = search needs
 
 returns-2 : tie.Need-returns-2
 unfolding farFault
-returns-2 c = rule-passed _ (c .before .before .before .before .before .before .before .is-whole .ensures) (c .before .before .before .before .before .before .if1 .left) (then-refused _ (c .before .before .before .row-fault .ensures ∙ ap₂ (rowFault 0) (ap (λ (n : ℕ). n + 1) (c .before .before .before .before .before .vertices .ensures .0)) (c .before .before .before .before .sizes-of .ensures)) (c .before .r .given .1))
+returns-2 c =
+    let c3 = c .before .before .before in
+    let c4 = c3 .before in
+    let c5 = c4 .before in
+    let c6 = c5 .before in
+    let c7 = c6 .before in
+    rule-passed _ (c7 .is-whole .ensures) (c6 .if1 .left)
+    (then-refused _ (c3 .row-fault .ensures ∙ ap₂ (rowFault 0) (ap (λ (n : ℕ). n + 1) (c5 .vertices .ensures .0)) (c4 .sizes-of .ensures))
+    (c .before .r .given .1))
 
 enum-told : tie.Need-enum-told
 enum-told c = search needs
@@ -44,16 +52,29 @@ is-nowhere-requires c κs = search needs
 returns-3 : tie.Need-returns-3
 unfolding farFault
 returns-3 c =
-    rule-passed _ (c .before .before .before .before .before .before .before .before .is-whole .ensures) (c .before .before .before .before .before .before .before .if1 .left)
-    (then-accepted (c .before .before .before .before .row-fault .ensures ∙ ap₂ (rowFault 0) (ap (λ (n : ℕ). n + 1) (c .before .before .before .before .before .before .vertices .ensures .0)) (c .before .before .before .before .before .sizes-of .ensures)) (c .before .before .enum-told .given .1)
-    (refused-where Nowhere (c .before .is-nowhere .ensures ∙ ap isNowhere (c .before .before .before .before .before .sizes-of .ensures)) (c .if2 .taken) (ap (λ (n : ℕ). n + 1) (c .before .before .before .before .before .before .vertices .ensures .0))))
+    let c4 = c .before .before .before .before in
+    let c5 = c4 .before in
+    let c6 = c5 .before in
+    let c7 = c6 .before in
+    let c8 = c7 .before in
+    rule-passed _ (c8 .is-whole .ensures) (c7 .if1 .left)
+    (then-accepted (c4 .row-fault .ensures ∙ ap₂ (rowFault 0) (ap (λ (n : ℕ). n + 1) (c6 .vertices .ensures .0)) (c5 .sizes-of .ensures))
+    (c .before .before .enum-told .given .1)
+    (refused-where Nowhere (c .before .is-nowhere .ensures ∙ ap isNowhere (c5 .sizes-of .ensures)) (c .if2 .taken)
+    (ap (λ (n : ℕ). n + 1) (c6 .vertices .ensures .0))))
 
 returns-4 : tie.Need-returns-4
 unfolding farFault
 returns-4 c =
-    rule-passed _ (c .before .before .before .before .before .before .before .before .is-whole .ensures) (c .before .before .before .before .before .before .before .if1 .left)
-    (then-accepted (c .before .before .before .before .row-fault .ensures ∙ ap₂ (rowFault 0) (ap (λ (n : ℕ). n + 1) (c .before .before .before .before .before .before .vertices .ensures .0)) (c .before .before .before .before .before .sizes-of .ensures)) (c .before .before .enum-told .given .1)
-    (passed-where _ (c .before .is-nowhere .ensures ∙ ap isNowhere (c .before .before .before .before .before .sizes-of .ensures)) (c .if2 .left)))
+    let c4 = c .before .before .before .before in
+    let c5 = c4 .before in
+    let c6 = c5 .before in
+    let c7 = c6 .before in
+    let c8 = c7 .before in
+    rule-passed _ (c8 .is-whole .ensures) (c7 .if1 .left)
+    (then-accepted (c4 .row-fault .ensures ∙ ap₂ (rowFault 0) (ap (λ (n : ℕ). n + 1) (c6 .vertices .ensures .0)) (c5 .sizes-of .ensures))
+    (c .before .before .enum-told .given .1)
+    (passed-where _ (c .before .is-nowhere .ensures ∙ ap isNowhere (c5 .sizes-of .ensures)) (c .if2 .left)))
 
 pub far-fault-spec : {M : Type 1} → statement M
 far-fault-spec =

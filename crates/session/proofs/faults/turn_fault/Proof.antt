@@ -23,11 +23,22 @@ is-within-requires c κs = search needs
 
 returns-2 : tie.Need-returns-2
 unfolding turnFault
-returns-2 c = rule-passed _ (c .before .before .before .before .is-whole .ensures) (c .before .before .before .if1 .left) (rule-refused _ (c .before .is-within .ensures ∙ ap (λ (n : ℕ). within 1 n (c .before .before .before .before .before .before .args .f)) (c .before .before .faces .ensures .0)) (c .if2 .taken))
+returns-2 c =
+    let c3 = c .before .before .before in
+    let c4 = c3 .before in
+    let c6 = c4 .before .before in
+    rule-passed _ (c4 .is-whole .ensures) (c3 .if1 .left)
+    (rule-refused _ (c .before .is-within .ensures ∙ ap (λ (n : ℕ). within 1 n (c6 .args .f)) (c .before .before .faces .ensures .0)) (c .if2 .taken))
 
 returns-3 : tie.Need-returns-3
 unfolding turnFault
-returns-3 c = rule-passed _ (c .before .before .before .before .is-whole .ensures) (c .before .before .before .if1 .left) (rule-passed _ (c .before .is-within .ensures ∙ ap (λ (n : ℕ). within 1 n (c .before .before .before .before .before .before .args .f)) (c .before .before .faces .ensures .0)) (c .if2 .left) refl)
+returns-3 c =
+    let c3 = c .before .before .before in
+    let c4 = c3 .before in
+    let c6 = c4 .before .before in
+    rule-passed _ (c4 .is-whole .ensures) (c3 .if1 .left)
+    (rule-passed _ (c .before .is-within .ensures ∙ ap (λ (n : ℕ). within 1 n (c6 .args .f)) (c .before .before .faces .ensures .0))
+    (c .if2 .left) refl)
 
 pub turn-fault-spec : {M : Type 1} → statement M
 turn-fault-spec =

@@ -23,7 +23,13 @@ is-within-requires c κs = search needs
 
 returns-2 : tie.Need-returns-2
 unfolding vertexFault
-returns-2 c = rule-passed _ (c .before .before .before .before .is-whole .ensures) (c .before .before .before .if1 .left) (rule-refused _ (c .before .is-within .ensures ∙ ap (λ (n : ℕ). within 1 n (c .before .before .before .before .before .before .args .p)) (c .before .before .vertices .ensures .0)) (c .if2 .taken))
+returns-2 c =
+    let c3 = c .before .before .before in
+    let c4 = c3 .before in
+    let c6 = c4 .before .before in
+    rule-passed _ (c4 .is-whole .ensures) (c3 .if1 .left)
+    (rule-refused _ (c .before .is-within .ensures ∙ ap (λ (n : ℕ). within 1 n (c6 .args .p)) (c .before .before .vertices .ensures .0))
+    (c .if2 .taken))
 
 sizes-of-requires : tie.Need-sizes-of-requires
 sizes-of-requires c κs = search needs
@@ -34,8 +40,13 @@ row-fault-requires c κs = search needs
 returns-3 : tie.Need-returns-3
 unfolding vertexFault
 returns-3 c =
-    rule-passed _ (c .before .before .before .before .before .before .is-whole .ensures) (c .before .before .before .before .before .if1 .left)
-    (rule-passed _ (c .before .before .before .is-within .ensures ∙ ap (λ (n : ℕ). within 1 n (c .before .before .before .before .before .before .before .before .args .p)) (c .before .before .before .before .vertices .ensures .0)) (c .before .before .if2 .left)
+    let c3 = c .before .before .before in
+    let c4 = c3 .before in
+    let c5 = c4 .before in
+    let c6 = c5 .before in
+    let c8 = c6 .before .before in
+    rule-passed _ (c6 .is-whole .ensures) (c5 .if1 .left)
+    (rule-passed _ (c3 .is-within .ensures ∙ ap (λ (n : ℕ). within 1 n (c8 .args .p)) (c4 .vertices .ensures .0)) (c .before .before .if2 .left)
     (c .row-fault .ensures ∙ ap (rowFault 1 _) (c .before .sizes-of .ensures)))
 
 pub vertex-fault-spec : {M : Type 1} → statement M

@@ -27,7 +27,10 @@ same-length-2 : tie.Need-same-length-2
 same-length-2 c = search needs
 
 returns-2 : tie.Need-returns-2
-returns-2 c = put-so _ _ (c .before .before .before .before .before .before .move-far-fault .ensures) (c .before .before .before .before .enum-told .given .1) (c .before .before .put-row .ensures)
+returns-2 c =
+    let c4 = c .before .before .before .before in
+    let c6 = c4 .before .before in
+    put-so _ _ (c6 .move-far-fault .ensures) (c4 .enum-told .given .1) (c .before .before .put-row .ensures)
 
 pub move-far-spec : {M : Type 1} → statement M
 move-far-spec =

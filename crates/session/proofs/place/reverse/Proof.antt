@@ -20,16 +20,28 @@ sub-face-start : tie.Need-sub-face-start
 sub-face-start c = let m = face-room _ _ (sym (c .before .before .before .reverse-fault .ensures) ∙ c .before .enum-told .given .1) in m .low
 
 face-start-requires : tie.Need-face-start-requires
-face-start-requires c κs = let m = face-room _ _ (sym (c .before .before .before .reverse-fault .ensures) ∙ c .before .enum-told .given .1) in omega (arith, m .high)
+face-start-requires c κs =
+    let m = face-room _ _ (sym (c .before .before .before .reverse-fault .ensures) ∙ c .before .enum-told .given .1) in omega (arith, m .high)
 
 sub-turned : tie.Need-sub-turned
-sub-turned c = let m = face-room _ _ (sym (c .before .before .before .before .before .reverse-fault .ensures) ∙ c .before .before .before .enum-told .given .1) in m .low
+sub-turned c =
+    let c3 = c .before .before .before in
+    let c5 = c3 .before .before in
+    let m = face-room _ _ (sym (c5 .reverse-fault .ensures) ∙ c3 .enum-told .given .1) in m .low
 
 turned-requires : tie.Need-turned-requires
-turned-requires c κs = let m = face-room _ _ (sym (c .before .before .before .before .before .reverse-fault .ensures) ∙ c .before .before .before .enum-told .given .1) in omega (arith, m .high)
+turned-requires c κs =
+    let c3 = c .before .before .before in
+    let c5 = c3 .before .before in
+    let m = face-room _ _ (sym (c5 .reverse-fault .ensures) ∙ c3 .enum-told .given .1) in omega (arith, m .high)
 
 put-corners-requires : tie.Need-put-corners-requires
-put-corners-requires c κs = let m = face-room _ _ (sym (c .before .before .before .before .before .before .before .reverse-fault .ensures) ∙ c .before .before .before .before .before .enum-told .given .1) in (c .before .turned .ensures .1, omega (arith, m .room, c .before .before .before .face-start .ensures .0))
+put-corners-requires c κs =
+    let c3 = c .before .before .before in
+    let c5 = c3 .before .before in
+    let c7 = c5 .before .before in
+    let m = face-room _ _ (sym (c7 .reverse-fault .ensures) ∙ c5 .enum-told .given .1) in
+    (c .before .turned .ensures .1, omega (arith, m .room, c3 .face-start .ensures .0))
 
 same-length : tie.Need-same-length
 same-length c = search needs
@@ -41,7 +53,13 @@ same-length-2 : tie.Need-same-length-2
 same-length-2 c = search needs
 
 returns-2 : tie.Need-returns-2
-returns-2 c = put-so _ _ (c .before .before .before .before .before .before .before .before .before .before .reverse-fault .ensures) (c .before .before .before .before .before .before .before .before .enum-told .given .1) (c .before .before .put-corners .ensures ∙ ap₂ (cornersPut _) (c .before .before .before .before .before .before .face-start .ensures .0) (c .before .before .before .before .turned .ensures .0))
+returns-2 c =
+    let c4 = c .before .before .before .before in
+    let c6 = c4 .before .before in
+    let c8 = c6 .before .before in
+    let c10 = c8 .before .before in
+    put-so _ _ (c10 .reverse-fault .ensures) (c8 .enum-told .given .1)
+    (c .before .before .put-corners .ensures ∙ ap₂ (cornersPut _) (c6 .face-start .ensures .0) (c4 .turned .ensures .0))
 
 pub reverse-spec : {M : Type 1} → statement M
 reverse-spec =

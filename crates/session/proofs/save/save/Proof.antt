@@ -34,15 +34,21 @@ copy-requires : tie.Need-copy-requires
 copy-requires c κs = save-room _ _ (sym (c .before .before .before .before .save-fault .ensures) ∙ c .before .before .enum-told .given .1)
 
 returns : tie.Need-returns
-returns c = saved-not _ _ (rw (c .before .before .before .before .before .before .size .ensures .same) at (c .before .before .before .save-fault .ensures)) refl (c .before .j .given .1)
+returns c =
+    let c3 = c .before .before .before in
+    let c6 = c3 .before .before .before in
+    saved-not _ _ (rw (c6 .size .ensures .same) at (c3 .save-fault .ensures)) refl (c .before .j .given .1)
 
 same-length : tie.Need-same-length
 same-length c = search needs
 
 returns-2 : tie.Need-returns-2
 returns-2 c =
-    let same = c .before .before .before .before .before .before .before .before .before .before .size .ensures .same in
-    saved-so _ _ (rw same at (c .before .before .before .before .before .before .before .save-fault .ensures)) refl (c .before .before .before .before .before .enum-told .given .1) (rw same at (c .before .before .copy .ensures))
+    let c5 = c .before .before .before .before .before in
+    let c7 = c5 .before .before in
+    let c10 = c7 .before .before .before in
+    let same = c10 .size .ensures .same in
+    saved-so _ _ (rw same at (c7 .save-fault .ensures)) refl (c5 .enum-told .given .1) (rw same at (c .before .before .copy .ensures))
 
 pub save-spec : {M : Type 1} → statement M
 save-spec =

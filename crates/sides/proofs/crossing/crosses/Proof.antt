@@ -1,17 +1,14 @@
--- The line's plane with one corner, at another, tells the sign of the four points; where one is zero the tie does.
+-- The line's plane with one corner, at another, is c0 of the four points.
 use borrow.Author.Needs.{needs}
 use denote.Ref.{now}
 use mathlib.Core.Path.{_≡_}
 use Prim.Native.Nat.{ℕ}
-use lib.IntN.{pos}
-use lib.Signed.{ltZ}
-use Rattle.laws.specs.Size.{reread}
+use Rattle.laws.specs.Size.{called}
 use Rattle.scene.specs.Arrays.{rowIn}
 use Rattle.scene.specs.declared.Row.{Row}
-use Rattle.orient.specs.Terms.{positiveAt}
 use Rattle.sides.specs.Planes.{planeOf}
-use Rattle.sides.specs.Crossing.{one-hand, other-hand}
-use Rattle.sides.specs.Told.{span-asked, spanned, dot-asked, sign-told}
+use Rattle.sides.specs.Crossing.{ask-qp, ask-qr, ask-pr, one-hand, other-hand}
+use Rattle.sides.specs.Told.{span-asked, spanned, dot-asked, dot-term}
 use Rattle.sides.proofs.crossing.crosses.Statement.{statement}
 use Rattle.sides.proofs.crossing.crosses.Tie as tie
 
@@ -46,11 +43,17 @@ dot-requires c κs =
     dot-asked (row s) (s .args .u) (s .args .v) (s .args .f .q) (s .args .f .p) (at-q c) (c .before .before .before .row-at .ensures)
     (s .pre .0 .0)
 
-tie-crosses-requires : tie.Need-tie-crosses-requires
-tie-crosses-requires c κs = search needs
-
-returns : tie.Need-returns
-returns c = search needs
+sign-by-requires : tie.Need-sign-by-requires
+sign-by-requires c κs =
+    let d = c .before in
+    let s = d .before .before .before .before in
+    let a = s .args in (
+      search needs,
+      (
+        ask-qp (s .pre .1 .1),
+        called (c .dot .ok) (dot-term (row s) (a .u) (a .v) (a .f .q) (a .f .p) (at-q d) (d .before .before .before .row-at .ensures) (c .dot .ensures)),
+      ),
+    )
 
 dot-requires-2 : tie.Need-dot-requires-2
 dot-requires-2 c κs =
@@ -58,24 +61,22 @@ dot-requires-2 c κs =
     let s = d .before .before .before .before in
     dot-asked (row s) (s .args .u) (s .args .v) (s .args .f .q) (s .args .f .r) (at-q d) (d .before .row-at3 .ensures) (s .pre .0 .0)
 
-tie-crosses-requires-2 : tie.Need-tie-crosses-requires-2
-tie-crosses-requires-2 c κs = search needs
-
-returns-2 : tie.Need-returns-2
-returns-2 c = search needs
-
-returns-3 : tie.Need-returns-3
-returns-3 c =
-    let e2 = c .before .before in
-    let e1 = e2 .before .before in
-    let d = e1 .before in
+sign-by-requires-2 : tie.Need-sign-by-requires-2
+sign-by-requires-2 c κs =
+    let d = c .before .before .before in
     let s = d .before .before .before .before in
-    let a = s .args in
-    one-hand _ (a .u) (a .v) (a .f)
-    (sign-told (row s) (a .u) (a .v) (a .f .q) (a .f .p) (at-q d) (d .before .before .before .row-at .ensures) (e1 .dot .ok)
-    (e1 .dot .ensures) (e2 .before .if1 .left))
-    (sign-told (row s) (a .u) (a .v) (a .f .q) (a .f .r) (at-q d) (d .before .row-at3 .ensures) (e2 .dot2 .ok) (e2 .dot2 .ensures)
-    (c .before .if2 .left)) (c .if3 .taken)
+    let a = s .args in (
+      search needs,
+      (
+        ask-qr (s .pre .1 .1),
+        called (c .dot2 .ok) (dot-term (row s) (a .u) (a .v) (a .f .q) (a .f .r) (at-q d) (d .before .row-at3 .ensures) (c .dot2 .ensures)),
+      ),
+    )
+
+returns : tie.Need-returns
+returns c =
+    let h = c .before in
+    one-hand _ _ _ _ (h .before .before .sign-by .ensures) (h .sign-by2 .ensures) (c .if1 .taken)
 
 span-requires-2 : tie.Need-span-requires-2
 span-requires-2 c κs =
@@ -99,29 +100,24 @@ dot-requires-3 c κs =
     let s = d .before .before .before .before in
     dot-asked (row s) (s .args .u) (s .args .v) (s .args .f .p) (s .args .f .r) (at-p c) (d .before .row-at3 .ensures) (s .pre .0 .0)
 
-tie-crosses-requires-3 : tie.Need-tie-crosses-requires-3
-tie-crosses-requires-3 c κs = search needs
-
-returns-4 : tie.Need-returns-4
-returns-4 c = search needs
-
-returns-5 : tie.Need-returns-5
-returns-5 c =
-    let e3 = c .before in
-    let d2 = e3 .before in
-    let i3 = d2 .before in
-    let e2 = i3 .before .before in
-    let e1 = e2 .before .before in
-    let d = e1 .before in
+sign-by-requires-3 : tie.Need-sign-by-requires-3
+sign-by-requires-3 c κs =
+    let d2 = c .before in
+    let d = d2 .before .before .before .before .before .before in
     let s = d .before .before .before .before in
-    let a = s .args in
-    other-hand _ (a .u) (a .v) (a .f)
-    (sign-told (row s) (a .u) (a .v) (a .f .q) (a .f .p) (at-q d) (d .before .before .before .row-at .ensures) (e1 .dot .ok)
-    (e1 .dot .ensures) (e2 .before .if1 .left))
-    (sign-told (row s) (a .u) (a .v) (a .f .q) (a .f .r) (at-q d) (d .before .row-at3 .ensures) (e2 .dot2 .ok) (e2 .dot2 .ensures)
-    (i3 .before .if2 .left))
-    (sign-told (row s) (a .u) (a .v) (a .f .p) (a .f .r) (at-p d2) (d .before .row-at3 .ensures) (e3 .dot3 .ok) (e3 .dot3 .ensures)
-    (c .if4 .left)) (i3 .if3 .left)
+    let a = s .args in (
+      search needs,
+      (
+        ask-pr (s .pre .1 .1),
+        called (c .dot3 .ok) (dot-term (row s) (a .u) (a .v) (a .f .p) (a .f .r) (at-p d2) (d .before .row-at3 .ensures) (c .dot3 .ensures)),
+      ),
+    )
+
+returns-2 : tie.Need-returns-2
+returns-2 c =
+    let e = c .before .before .before in
+    let h = e .before in
+    other-hand _ _ _ _ (h .before .before .sign-by .ensures) (h .sign-by2 .ensures) (c .sign-by3 .ensures) (e .if1 .left)
 
 pub crosses-spec : {M : Type 1} → statement M
 crosses-spec =
@@ -132,14 +128,11 @@ crosses-spec =
     row-at-requires-3
     span-requires
     dot-requires
-    tie-crosses-requires
-    returns
+    sign-by-requires
     dot-requires-2
-    tie-crosses-requires-2
-    returns-2
-    returns-3
+    sign-by-requires-2
+    returns
     span-requires-2
     dot-requires-3
-    tie-crosses-requires-3
-    returns-4
-    returns-5)
+    sign-by-requires-3
+    returns-2)

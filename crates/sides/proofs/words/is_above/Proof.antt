@@ -2,7 +2,7 @@
 use borrow.Author.Needs.{needs}
 use denote.Ref.{now}
 use Rattle.scene.specs.Arrays.{rowIn, faceIn}
-use Rattle.sides.specs.Told.{above-asked, above-told}
+use Rattle.sides.specs.Told.{above-asked, above-told, above-in}
 use Rattle.sides.proofs.words.is_above.Statement.{statement}
 use Rattle.sides.proofs.words.is_above.Tie as tie
 
@@ -27,7 +27,20 @@ returns c =
     (d .before .plane-at .ensures) (p .1 .0 .2) (d .dot .ok) (d .dot .ensures) (c .if1 .taken)
 
 tie-above-requires : tie.Need-tie-above-requires
-tie-above-requires c κs = search needs
+tie-above-requires c κs =
+    let d = c .before in
+    let s = d .before .before in
+    let p = s .pre in (
+      p .0,
+      (
+        (p .1 .0 .0, p .1 .0 .1),
+        (
+          p .1 .1 .asked,
+          above-in (rowIn (now (s .args .rows))) (faceIn (now (s .args .corners))) (rowIn (now (s .args .planes))) (s .args .t) (s .args .k) (p .1 .1)
+              (d .before .plane-at .ensures) (p .1 .0 .2) (d .dot .ok) (d .dot .ensures) (c .if1 .left),
+        ),
+      ),
+    )
 
 returns-2 : tie.Need-returns-2
 returns-2 c = search needs

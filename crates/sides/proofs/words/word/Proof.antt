@@ -5,7 +5,7 @@ use Prim.Native.Nat.{_≤_, _-_}
 use native.Mathlib.Omega.{arith}
 use Rattle.laws.specs.Mask.{digit, maskOf, mask-more}
 use Rattle.scene.specs.Arrays.{rowIn, faceIn}
-use Rattle.pierce.specs.Faces.{maskBy}
+use Rattle.face_masks.specs.Faces.{maskBy}
 use Rattle.sides.specs.Sides.{above}
 use Rattle.sides.proofs.words.word.Statement.{statement}
 use Rattle.sides.proofs.words.word.Tie as tie

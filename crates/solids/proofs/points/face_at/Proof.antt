@@ -1,7 +1,6 @@
 -- Corner by corner.
 use native.Mathlib.Omega.{arith}
 use Rattle.solids.specs.Told.{corners-told}
-use Rattle.solids.specs.Solid.{cornersFrom}
 use borrow.Author.Needs.{needs}
 use Rattle.solids.proofs.points.face_at.Statement.{statement}
 use Rattle.solids.proofs.points.face_at.Tie as tie
@@ -25,7 +24,15 @@ corner-at-requires-3 : tie.Need-corner-at-requires-3
 corner-at-requires-3 c κs = search needs
 
 returns : tie.Need-returns
-returns c = (corners-told _ _ (c .before .before .before .before .before .pass .ensures .0) (c .before .before .before .before .pass2 .ensures .0) (c .before .before .before .pass3 .ensures .0) (c .before .before .corner-at .ensures .0) (c .before .corner-at2 .ensures .0) (c .corner-at3 .ensures .0), omega arith, omega arith, omega arith)
+returns c =
+    let p = c .before .before in
+    let r = p .before in (
+      corners-told _ _ (r .before .before .pass .ensures .0) (r .before .pass2 .ensures .0) (r .pass3 .ensures .0)
+          (p .corner-at .ensures .0) (c .before .corner-at2 .ensures .0) (c .corner-at3 .ensures .0),
+      omega arith,
+      omega arith,
+      omega arith,
+    )
 
 pub face-at-spec : {M : Type 1} → statement M
 face-at-spec =

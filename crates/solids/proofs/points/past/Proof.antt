@@ -1,12 +1,10 @@
 -- One item a turn.
 use Rattle.solids.specs.Told.{past-next}
 use Prim.Native.Nat.{_-_, _≤_}
-use mathlib.Core.Path.{_≡_, refl, sym, ap, _∙_}
+use mathlib.Core.Path.{_≡_, refl, ap, _∙_}
 use lib.ListN.{length}
 use native.Mathlib.Nat.{le-antisymm}
-use native.Mathlib.Numerals.{add-one}
 use native.Mathlib.Omega.{arith}
-use Rattle.items.specs.Items.{endOf}
 use Rattle.solids.specs.Solid.{past}
 use borrow.Author.Needs.{needs}
 use Rattle.solids.proofs.points.past.Statement.{statement}

@@ -1,43 +1,55 @@
 -- Number by number.
-use Rattle.solids.specs.Told.{row-told}
-use Rattle.solids.specs.Solid.{rowFrom}
+use native.Mathlib.Omega.{arith}
+use Rattle.solids.specs.Told.{number-told, row-told}
 use borrow.Author.Needs.{needs}
 use Rattle.solids.proofs.points.vertex_at.Statement.{statement}
 use Rattle.solids.proofs.points.vertex_at.Tie as tie
 
-pass-requires : tie.Need-pass-requires
-pass-requires c κs = search needs
+next-requires : tie.Need-next-requires
+next-requires c κs = search needs
 
-pass-requires-2 : tie.Need-pass-requires-2
-pass-requires-2 c κs = search needs
+next-requires-2 : tie.Need-next-requires-2
+next-requires-2 c κs = search needs
 
-pass-requires-3 : tie.Need-pass-requires-3
-pass-requires-3 c κs = search needs
+next-requires-3 : tie.Need-next-requires-3
+next-requires-3 c κs = search needs
 
-number-at-requires : tie.Need-number-at-requires
-number-at-requires c κs = search needs
+told-requires : tie.Need-told-requires
+told-requires c κs = search needs
 
-number-at-requires-2 : tie.Need-number-at-requires-2
-number-at-requires-2 c κs = search needs
+told-requires-2 : tie.Need-told-requires-2
+told-requires-2 c κs = search needs
 
-number-at-requires-3 : tie.Need-number-at-requires-3
-number-at-requires-3 c κs = search needs
+told-requires-3 : tie.Need-told-requires-3
+told-requires-3 c κs = search needs
 
 weight-at-requires : tie.Need-weight-at-requires
 weight-at-requires c κs = search needs
 
 returns : tie.Need-returns
-returns c = row-told _ _ _ (c .before .before .before .before .before .before .pass .ensures .0) (c .before .before .before .before .before .pass2 .ensures .0) (c .before .before .before .before .pass3 .ensures .0) (record { x = c .before .before .before .number-at .result; y = c .before .before .number-at2 .result; z = c .before .number-at3 .result; w = c .weight-at .result }) (c .before .before .before .number-at .ensures .0) (c .before .before .number-at2 .ensures .0) (c .before .number-at3 .ensures .0) (c .weight-at .ensures)
+returns c =
+    let tz = c .before in
+    let ty = tz .before in
+    let tx = ty .before in
+    let z = tx .before in
+    let y = z .before in
+    let x = y .before in
+    row-told _ _ _ (x .next .ensures .1) (y .next2 .ensures .1) (z .next3 .ensures .1)
+    (record { x = tx .told .result; y = ty .told2 .result; z = tz .told3 .result; w = c .weight-at .result })
+    (number-told _ _ (x .next .ensures .0) (x .next .ensures .1) 32767 (omega arith) (tx .told .ensures .0) (tx .told .ensures .1))
+    (number-told _ _ (y .next2 .ensures .0) (y .next2 .ensures .1) 32767 (omega arith) (ty .told2 .ensures .0) (ty .told2 .ensures .1))
+    (number-told _ _ (z .next3 .ensures .0) (z .next3 .ensures .1) 32767 (omega arith) (tz .told3 .ensures .0) (tz .told3 .ensures .1))
+    (c .weight-at .ensures)
 
 pub vertex-at-spec : {M : Type 1} → statement M
 vertex-at-spec =
     tie.close
     (tie.spec
-    pass-requires
-    pass-requires-2
-    pass-requires-3
-    number-at-requires
-    number-at-requires-2
-    number-at-requires-3
+    next-requires
+    next-requires-2
+    next-requires-3
+    told-requires
+    told-requires-2
+    told-requires-3
     weight-at-requires
     returns)

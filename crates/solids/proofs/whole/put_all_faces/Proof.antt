@@ -1,6 +1,4 @@
 -- Part by part.
-use native.Mathlib.Omega.{arith}
-use mathlib.Core.Path.{refl}
 use Rattle.solids.specs.Bytes.{faces-grown}
 use borrow.Author.Needs.{needs}
 use Rattle.solids.proofs.whole.put_all_faces.Statement.{statement}
@@ -31,7 +29,7 @@ same-length : tie.Need-same-length
 same-length c = search needs
 
 returns : tie.Need-returns
-returns c = search (faces-grown, refl)
+returns c = search faces-grown
 
 pub put-all-faces-spec : {M : Type 1} → statement M
 put-all-faces-spec =

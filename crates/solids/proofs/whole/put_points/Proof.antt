@@ -1,6 +1,4 @@
 -- Part by part.
-use native.Mathlib.Omega.{arith}
-use mathlib.Core.Path.{refl}
 use Rattle.solids.specs.Bytes.{points-grown}
 use borrow.Author.Needs.{needs}
 use Rattle.solids.proofs.whole.put_points.Statement.{statement}
@@ -28,7 +26,7 @@ same-length : tie.Need-same-length
 same-length c = search needs
 
 returns : tie.Need-returns
-returns c = search (points-grown, refl)
+returns c = search points-grown
 
 pub put-points-spec : {M : Type 1} → statement M
 put-points-spec =

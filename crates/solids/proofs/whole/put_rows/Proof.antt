@@ -1,34 +1,28 @@
 -- One vertex a turn.
-use Rattle.solids.specs.Bytes.{rows-first, rows-all}
 use Prim.Native.Nat.{_+_, _*_, _-_, _≤_}
-use mathlib.Core.Path.{_≡_, refl, sym, ap, _∙_}
+use mathlib.Core.Path.{_≡_, refl}
 use native.Mathlib.Omega.{arith}
 use lib.ListN.{length}
 use Rattle.items.specs.Items.{after}
 use Rattle.solids.specs.Grown.{Grown}
 use Rattle.solids.specs.Told.{group-next}
-use Rattle.solids.specs.Bytes.{rowBytes, rows-none, rows-more}
+use Rattle.solids.specs.Bytes.{rowBytes, rows-none, rows-first, rows-more, rows-all}
 use borrow.Author.Needs.{needs}
 use Rattle.solids.proofs.whole.put_rows.Statement.{statement}
 use Rattle.solids.proofs.whole.put_rows.Tie as tie
 
 abbrev Inv-loop : tie.InvT-loop
-Inv-loop out₀ k text n per at₀ i₀ out at i = (i ≤ n) × Grown k (rowBytes text i) out₀ out × (at ≡ after text (4 + i * per)) × (at ≤ length text) × (length out ≡ length out₀)
+Inv-loop out₀ k text n per at₀ i₀ out at i =
+    (i ≤ n) × Grown k (rowBytes text i) out₀ out × (at ≡ after text (4 + i * per)) × (at ≤ length text) × (length out ≡ length out₀)
 
 abbrev μ-loop : tie.MeasureT-loop
 μ-loop out₀ k text n per at₀ i₀ out at i = n - i
 
-vertices-requires : tie.Need-vertices-requires Inv-loop μ-loop
-vertices-requires c κs = search needs
-
-numbers-of-requires : tie.Need-numbers-of-requires Inv-loop μ-loop
-numbers-of-requires c κs = search needs
-
-after-requires : tie.Need-after-requires Inv-loop μ-loop
-after-requires c κs = search needs
-
 loop-holds : tie.Need-loop-holds Inv-loop μ-loop
-loop-holds c = (omega arith, rows-none (c .before .before .before .before .before .args .text .now) (c .before .before .before .before .before .args .k) _, rows-first _ (c .before .numbers-of .result) (c .after .ensures .0), c .after .ensures .1, refl)
+loop-holds c =
+    let a = c .before .before .args in
+    let p = c .before .before .pre .0 in
+    (omega arith, rows-none (a .text .now) (a .k) _, rows-first _ (a .h .per) (p .at), p .within, refl)
 
 mul-put-point : tie.Need-mul-put-point Inv-loop μ-loop
 mul-put-point c = search needs
@@ -52,13 +46,13 @@ loop-less : tie.Need-loop-less Inv-loop μ-loop
 loop-less c = search needs
 
 loop-again : tie.Need-loop-again Inv-loop μ-loop
-loop-again c = (omega arith, rows-more (c .before .before .before .before .before .before .before .before .before .before .before .before .before .args .text .now) (c .before .before .before .before .before .before .before .before .before .before .before .before .before .args .k) _ (c .before .before .before .before .before .before .before .loop .inv .1) refl (c .before .before .before .before .before .before .before .before .before .numbers-of .ensures) (c .before .before .before .before .before .before .before .loop .inv .2) (c .before .before .before .before .vertex-at .ensures) (c .before .before .before .put-point .ensures), group-next (c .before .before .before .before .before .before .before .before .before .before .before .before .before .args .text .now) 4 (c .before .before .before .before .before .before .before .before .before .numbers-of .result) (c .before .before .before .before .before .before .before .loop .i) (c .before .before .before .before .before .before .before .loop .inv .2) (c .past .ensures .0), c .past .ensures .1, c .before .before .before .put-point .kept .0 ∙ c .before .before .before .before .before .before .before .loop .inv .4)
+loop-again c = (omega arith, search rows-more, search group-next, search needs, search needs)
 
 same-length : tie.Need-same-length Inv-loop μ-loop
 same-length c = search needs
 
 returns : tie.Need-returns Inv-loop μ-loop
-returns c = rows-all _ _ (c .before .loop .inv .1) (c .before .loop .inv .0) (c .loop-test .left) (c .before .before .before .before .vertices .ensures)
+returns c = search rows-all
 
 pub put-rows-spec : {M : Type 1} → statement M
 put-rows-spec =
@@ -66,9 +60,6 @@ put-rows-spec =
     (tie.spec
     Inv-loop
     μ-loop
-    vertices-requires
-    numbers-of-requires
-    after-requires
     loop-holds
     mul-put-point
     add-put-point

@@ -1,14 +1,8 @@
 -- Part by part.
-use Rattle.solids.specs.Bytes.{scene-made}
-use native.Mathlib.Omega.{arith}
-use mathlib.Core.Path.{refl}
-use Rattle.solids.specs.Bytes.{scene-length}
+use Rattle.solids.specs.Bytes.{scene-length, scene-made}
 use borrow.Author.Needs.{needs}
 use Rattle.solids.proofs.whole.put_scene.Statement.{statement}
 use Rattle.solids.proofs.whole.put_scene.Tie as tie
-
-counts-requires : tie.Need-counts-requires
-counts-requires c κs = search needs
 
 mul-k : tie.Need-mul-k
 mul-k c = search needs
@@ -47,13 +41,12 @@ same-length : tie.Need-same-length
 same-length c = search needs
 
 returns : tie.Need-returns
-returns c = (scene-length _ _ (c .before .before .before .before .before .before .before .before .before .before .before .before .before .before .before .before .args .far) _ (c .before .before .before .before .before .before .before .before .before .before .before .before .counts .ensures) refl, search (scene-made, refl), (let h = c .before .before .before .before .before .before .before .before .before .before .before .before .counts .ensures in omega arith))
+returns c = (search scene-length, search scene-made, search needs)
 
 pub put-scene-spec : {M : Type 1} → statement M
 put-scene-spec =
     tie.close
     (tie.spec
-    counts-requires
     mul-k
     add-k
     mul-k-2

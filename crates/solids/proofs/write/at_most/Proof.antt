@@ -2,7 +2,6 @@
 use mathlib.Core.Path.{sym}
 use native.Mathlib.Omega.{arith}
 use Rattle.items.specs.Laws.{at-most-low, at-most-high}
-use borrow.Author.Needs.{needs}
 use Rattle.solids.proofs.write.at_most.Statement.{statement}
 use Rattle.solids.proofs.write.at_most.Tie as tie
 

@@ -17,7 +17,9 @@ unsigned-requires : tie.Need-unsigned-requires
 unsigned-requires c κs = (let h = told-le (c .before .args .half - 1) (c .before .args .n .size) (c .at-most .ensures) in omega arith, omega arith)
 
 returns : tie.Need-returns
-returns c = (field-of (c .before .before .args .half) (c .before .before .args .n .minus) (c .before .before .args .n .size) (c .before .at-most .ensures) (c .unsigned .ensures .0), c .unsigned .ensures .1)
+returns c =
+    let a = c .before .before .args in
+    (field-of (a .half) (a .n .minus) (a .n .size) (c .before .at-most .ensures) (c .unsigned .ensures .0), c .unsigned .ensures .1)
 
 pub field-spec : {M : Type 1} → statement M
 field-spec = tie.close (tie.spec sub-at-most at-most-requires unsigned-requires returns)

@@ -1,9 +1,8 @@
 -- An edge of an even mask marks nothing; one of an odd mask marks each end at the other.
 use mathlib.Core.Path.{ap, _∙_}
-use native.Mathlib.Omega.{arith}
 use borrow.Author.Tests.{not-true, not-false}
 use denote.Ref.{now}
-use Rattle.pierce.specs.Faces.{isOdd}
+use Rattle.face_masks.specs.Faces.{isOdd}
 use Rattle.table.specs.Table.{entryIn}
 use Rattle.spread.specs.Odds.{marks-none, marks-both}
 use borrow.Author.Needs.{needs}
@@ -19,7 +18,8 @@ is-odd-requires c κs = search needs
 returns : tie.Need-returns
 returns c =
     let s = c .before .before .before .args in
-    marks-none _ _ (entryIn (now (s .ends)) (now (s .masks)) (s .j)) _ (c .before .is-odd .ensures ∙ ap isOdd (c .before .before .mask-at .ensures .0)) (not-true _ (c .if1 .taken))
+    marks-none _ _ (entryIn (now (s .ends)) (now (s .masks)) (s .j)) _
+    (c .before .is-odd .ensures ∙ ap isOdd (c .before .before .mask-at .ensures .0)) (not-true _ (c .if1 .taken))
 
 mul-at : tie.Need-mul-at
 mul-at c = search needs

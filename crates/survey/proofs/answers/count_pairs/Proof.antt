@@ -16,7 +16,13 @@ count-requires-2 c κs = search needs
 add-result : tie.Need-add-result
 add-result c =
     let s = c .before .before in
-    omega (arith, c .before .count .ensures 0 [], table-most 0 [] (now (s .args .amasks)) (s .args .t .a .edges), c .count2 .ensures 0 [], table-most 0 [] (now (s .args .bmasks)) (s .args .t .b .edges))
+    omega (
+      arith,
+      c .before .count .ensures 0 [],
+      table-most 0 [] (now (s .args .amasks)) (s .args .t .a .edges),
+      c .count2 .ensures 0 [],
+      table-most 0 [] (now (s .args .bmasks)) (s .args .t .b .edges),
+    )
 
 returns : tie.Need-returns
 returns c =

@@ -14,8 +14,16 @@ pour-requires c κs = search needs
 pour-requires-2 : tie.Need-pour-requires-2
 pour-requires-2 c κs =
     let p = c .before .before .before in
-    let s = p .before .before .before in
-    (omega arith, omega arith, omega (arith, p .pour .ensures .count, table-most (s .args .a) (now (s .args .aends)) (now (s .args .amasks)) (s .args .t .a .edges)))
+    let s = p .before .before .before in (
+      omega arith,
+      omega arith,
+      omega (
+        arith,
+        p .pour .ensures .count,
+        table-most (s .args .a) (now (s .args .aends)) (now (s .args .amasks))
+            (s .args .t .a .edges),
+      ),
+    )
 
 same-length : tie.Need-same-length
 same-length c = search needs

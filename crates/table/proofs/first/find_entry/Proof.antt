@@ -1,11 +1,11 @@
 -- A mask of 0 has no pair; else the first is that of its lowest one.
-use Prim.Native.Nat.{ℕ, _+_}
-use mathlib.Core.Path.{_≡_, ap, sym, _∙_}
+use Prim.Native.Nat.{_+_}
+use mathlib.Core.Path.{ap, sym, _∙_}
 use native.Mathlib.Omega.{arith}
 use borrow.Author.Tests.{not-true, not-false}
 use denote.Ref.{now}
 use lib.Count.{trailing-le, trailingZeros}
-use Rattle.pierce.specs.Faces.{width, valueOf, some-face, no-face}
+use Rattle.face_masks.specs.Faces.{width, valueOf, some-face, no-face}
 use Rattle.listing.specs.declared.find.Found.the-variants.{Pair}
 use Rattle.table.specs.Table.{entryIn}
 use Rattle.table.specs.Entries.{entry-none, entry-first}
@@ -62,7 +62,8 @@ returns-2 c =
     let s = e .before .before .before in
     let w = entryIn (now (s .args .ends)) (now (s .args .masks)) (s .args .j) in
     let some = some-face _ (e .before .has-face .ensures) (not-false _ (e .if1 .left)) in
-    (λ i. Pair (c .before .before .before .wide .ensures i) (c .before .wide2 .ensures i) (s .args .first + 1 + (c .first-face .ensures ∙ ap (trailingZeros width) (m .ensures .0)) i))
+    (λ i. Pair (c .before .before .before .wide .ensures i) (c .before .wide2 .ensures i)
+    (s .args .first + 1 + (c .first-face .ensures ∙ ap (trailingZeros width) (m .ensures .0)) i))
     ∙ entry-first (s .args .first) w (rw (← m .ensures .0) (m .ensures .1)) (rw (← m .ensures .0) some)
 
 pub find-entry-spec : {M : Type 1} → statement M

@@ -1,8 +1,8 @@
 -- Each turn pours one edge more.
-use Prim.Native.Nat.{_*_, _-_, _≤_}
+use Prim.Native.Nat.{_-_, _≤_}
 use native.Mathlib.Omega.{arith}
 use denote.Ref.{now}
-use Rattle.pierce.specs.Faces.{width}
+use Rattle.face_masks.specs.Faces.{width}
 use Rattle.listing.specs.Pour.{Pours}
 use Rattle.listing.specs.Poured.{pours-start, pours-next, pours-all, reached}
 use Rattle.table.specs.Table.{entryIn, entryHits, tableHits}
@@ -24,7 +24,8 @@ pour-entry-requires : tie.Need-pour-entry-requires Inv-loop μ-loop
 pour-entry-requires c κs =
     let l = c .before .before in
     let s = l .before .before .args in
-    let r = reached (λ i. entryHits (s .first) (entryIn (now (s .ends)) (now (s .masks)) i)) width (l .loop .j) (λ i. entry-most (s .first) (entryIn (now (s .ends)) (now (s .masks)) i)) (l .loop .inv .1) in
+    let r = reached (λ i. entryHits (s .first) (entryIn (now (s .ends)) (now (s .masks)) i)) width (l .loop .j)
+    (λ i. entry-most (s .first) (entryIn (now (s .ends)) (now (s .masks)) i)) (l .loop .inv .1) in
     (omega arith, omega arith, omega (arith, r))
 
 add-j : tie.Need-add-j Inv-loop μ-loop

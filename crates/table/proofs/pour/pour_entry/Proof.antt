@@ -41,8 +41,14 @@ pour-word-requires-2 : tie.Need-pour-word-requires-2
 pour-word-requires-2 c κs =
     let w = c .before .before .before in
     let s = w .before .before .before .before .before .before .args in
-    let m = w .before .before .before .before .mask-at .result in
-    (search needs, omega (arith, w .pour-word .ensures .count, hits-most (getD (now (s .ends)) (2 * s .j) 0) (getD (now (s .ends)) (2 * s .j + 1) 0) (s .first) (m .low) 64))
+    let m = w .before .before .before .before .mask-at .result in (
+      search needs,
+      omega (
+        arith,
+        w .pour-word .ensures .count,
+        hits-most (getD (now (s .ends)) (2 * s .j) 0) (getD (now (s .ends)) (2 * s .j + 1) 0) (s .first) (m .low) 64,
+      ),
+    )
 
 same-length : tie.Need-same-length
 same-length c = search needs
@@ -53,7 +59,8 @@ returns c =
     let w1 = w2 .before .before .before .before in
     let m = w1 .before .before .before .before .mask-at in
     let s = w1 .before .before .before .before .before .before .args in
-    pours-same (entry-words (s .first) (entryIn (now (s .ends)) (now (s .masks)) (s .j)) (m .result) (m .ensures .0) (search needs)) (pours-more (w1 .pour-word .ensures) (w2 .pour-word2 .ensures))
+    pours-same (entry-words (s .first) (entryIn (now (s .ends)) (now (s .masks)) (s .j)) (m .result) (m .ensures .0) (search needs))
+    (pours-more (w1 .pour-word .ensures) (w2 .pour-word2 .ensures))
 
 pub pour-entry-spec : {M : Type 1} → statement M
 pour-entry-spec =

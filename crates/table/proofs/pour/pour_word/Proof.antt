@@ -1,5 +1,5 @@
 -- Each turn pours the face of the lowest bit that is left.
-use Prim.Native.Nat.{_<_, _+_, _-_, _^_, _≤_}
+use Prim.Native.Nat.{_<_, _-_, _^_}
 use native.Mathlib.Nat.{le-refl}
 use native.Mathlib.Omega.{arith}
 use lib.Bits.{and-le-r}
@@ -56,8 +56,11 @@ loop-less c = walk-less (c .before .before .before .before .before .before .loop
 
 loop-again : tie.Need-loop-again Inv-loop μ-loop
 loop-again c =
-    let l = c .before .before .before .before .before .before in
-    (omega (arith, and-le-r (l .loop .left) (l .loop .left - 1)), rest-turn _ _ _ (l .loop .left) (omega arith) (l .loop .inv .0) (c .before .before .before .narrow .ensures) (l .loop .inv .1) (c .before .before .put .ensures) (c .before .before .put .kept .0))
+    let l = c .before .before .before .before .before .before in (
+      omega (arith, and-le-r (l .loop .left) (l .loop .left - 1)),
+      rest-turn _ _ _ (l .loop .left) (omega arith) (l .loop .inv .0) (c .before .before .before .narrow .ensures) (l .loop .inv .1)
+          (c .before .before .put .ensures) (c .before .before .put .kept .0),
+    )
 
 same-length : tie.Need-same-length Inv-loop μ-loop
 same-length c = c .before .loop .inv .1 .long

@@ -1,11 +1,12 @@
 -- No more faces are counted than were looked at.
-use Prim.Native.Nat.{_≤_, _<_, _-_}
+use Prim.Native.Nat.{_≤_, _-_}
+use Rattle.why.specs.Bounds.{OneByte}
 use borrow.Author.Needs.{needs}
 use Rattle.why.proofs.faces.faces_with.Statement.{statement}
 use Rattle.why.proofs.faces.faces_with.Tie as tie
 
 abbrev Inv-loop : tie.InvT-loop
-Inv-loop s k v w low end n₀ f₀ n f = (n ≤ f) × (low < 256)
+Inv-loop s k v w low end n₀ f₀ n f = (n ≤ f) × OneByte low
 
 abbrev μ-loop : tie.MeasureT-loop
 μ-loop s k v w low end n₀ f₀ n f = end - f

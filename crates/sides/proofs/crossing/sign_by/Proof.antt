@@ -1,0 +1,25 @@
+-- c0 tells the sign, and where it is zero the tie does.
+use borrow.Author.Needs.{needs}
+use denote.Ref.{now}
+use mathlib.Core.Path.{sym, _∙_}
+use Rattle.scene.specs.Arrays.{rowIn}
+use Rattle.sides.specs.Told.{sign-first, zero-bits}
+use Rattle.sides.proofs.crossing.sign_by.Statement.{statement}
+use Rattle.sides.proofs.crossing.sign_by.Tie as tie
+
+returns : tie.Need-returns
+returns c =
+    let s = c .before in
+    let a = s .args in
+    sign-first (rowIn (now (a .rows))) (a .a) (a .b) (a .c) (a .d) (s .fits .t0 .sfits) (s .pre .1 .1) (c .if1 .taken)
+
+tied-at-requires : tie.Need-tied-at-requires
+tied-at-requires c κs =
+    let s = c .before in
+    (s .pre .0, (s .pre .1 .0, sym (s .pre .1 .1) ∙ zero-bits (s .fits .t0 .sfits) (c .if1 .left)))
+
+returns-2 : tie.Need-returns-2
+returns-2 c = search needs
+
+pub sign-by-spec : {M : Type 1} → statement M
+sign-by-spec = tie.close (tie.spec returns tied-at-requires returns-2)
