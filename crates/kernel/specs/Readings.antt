@@ -27,7 +27,7 @@ use Rattle.kernel.specs.Both.{counts-are, cross-is, none-cross, a-in-b, 
 use Rattle.kernel.specs.Facts.{Gathered, factsIn}
 use Rattle.kernel.specs.Listings.{lacksRoom, PouredIf, poured-none, poured-some, poured-held}
 use Rattle.kernel.specs.Ready.{sound}
-use Rattle.kernel.specs.Surveys.{SurveyIs, SoughtIs}
+use Rattle.kernel.specs.Surveys.{SurveyIs, Settles}
 use Rattle.kernel.specs.declared.counts.Counts.{Counts}
 use Rattle.kernel.specs.declared.verdict.Verdict.{Verdict}
 use Rattle.kernel.specs.declared.verdict.Verdict.the-variants.{Cross, AInB, BInA, Apart}
@@ -94,7 +94,7 @@ module _ (s : List ℕ) (ok : judged s ≡ Accepted) {ends-a masks-a ends-b mask
         {d₁ : List ℕ} {r : ℕ} → Pours both from 0 d d₁ r → PouredIf (listingIn v) from all d d₁ r
     some-read h from all d e f p = poured-some (listingIn v) from all d (pairs-are h) e f (pours-same listed p)
 
-    pub sought-read : {o : Found} → o ≡ firstOf both → SoughtIs v (record { first = o; a = t .a .inside; b = t .b .inside })
+    pub sought-read : {o : Found} → o ≡ firstOf both → Settles v (record { first = o; a = t .a .inside; b = t .b .inside })
     sought-read e = record { first = e ∙ ap firstOf listed; a-inside = λ n. x .of-a .inside; b-inside = λ n. x .of-b .inside }
 
   pub none-read : {n : ℕ} → Pairs n → (from : ℕ) (all : Bool) (d : List ℕ) {c : Bool} → c ≡ lacksRoom all n (length d) → c ≡ true →
@@ -103,7 +103,7 @@ module _ (s : List ℕ) (ok : judged s ≡ Accepted) {ends-a masks-a ends-b mask
 
 -- ---- the verdict, by the first pair and the words
 
-module _ (s : List ℕ) (ok : judged s ≡ Accepted) {t : Sought} (h : SoughtIs (viewOf s) t) where
+module _ (s : List ℕ) (ok : judged s ≡ Accepted) {t : Sought} (h : Settles (viewOf s) t) where
   pub cross-told : {u w f : ℕ} → t .first ≡ Pair u w f → Cross u w f ≡ verdictIn (viewOf s)
   cross-told = cross-is (viewOf s) (h .first)
 

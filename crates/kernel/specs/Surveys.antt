@@ -1,6 +1,6 @@
 -- An accepted scene, decoded into arrays, gives all that its survey asks for: each solid is closed and apart from the other. What is surveyed is then the
 -- scene's own. Assumes nothing.
-use mathlib.Core.Path.{_≡_, _∙_}
+use mathlib.Core.Path.{_≡_, ap, _∙_}
 use mathlib.Core.List.{List}
 use Prim.Native.Nat.{ℕ}
 use native.Mathlib.Omega.{arith}
@@ -16,12 +16,13 @@ use Rattle.rules.specs.Given.{counts, each-of-a, each-of-b, edges-of-a, edges-o
 use Rattle.pierce.specs.Parity.{solid-by-edges}
 use Rattle.listing.specs.Hits.{seenIn, insideCount}
 use Rattle.listing.specs.First.{firstOf}
+use Rattle.listing.specs.declared.find.Found.{Found}
 use Rattle.listing.specs.declared.find.Found.the-variants.{Nothing}
 use Rattle.spread.specs.Ready.{Ready}
 use Rattle.spread.specs.Walk.{insideWord}
 use Rattle.survey.specs.Survey.{Surveyed}
 use Rattle.survey.specs.Inside.{inside-ones}
-use Rattle.survey.specs.Seek.{IsSought}
+use Rattle.survey.specs.Seek.{IsSought, unlessPair}
 use Rattle.survey.specs.declared.seek.Sought.{Sought}
 use Rattle.survey.specs.declared.Part.{Part}
 use Rattle.survey.specs.declared.Survey.{Survey}
@@ -87,11 +88,22 @@ inside-is d k e t h = found d k e insideCount (h ∙ inside-ones _ _ (t .inside)
 
 pub record SoughtIs (v : View) (t : Sought) : Type 0 where
   pub first : t .first ≡ firstOf (listingIn v)
-  pub a-inside : t .first ≡ Nothing → t .a ≡ insideWord (seen v) (solid v 1)
-  pub b-inside : t .first ≡ Nothing → t .b ≡ insideWord (seen v) (solid v 2)
+  pub a-inside : t .a ≡ unlessPair (t .first) (insideWord (seen v) (solid v 1))
+  pub b-inside : t .b ≡ unlessPair (t .first) (insideWord (seen v) (solid v 2))
 
 pub sought-is : {s : List ℕ} {n : ℕ} {rows : List ℤ} {corners : List ℕ} (d : Decoded s n rows corners) {a b : Solid} →
     a ≡ solid (viewOf s) 1 → b ≡ solid (viewOf s) 2 →
     {t : Sought} → IsSought (seenIn n rows corners) a b t → SoughtIs (viewOf s) t
 unfolding listingIn
 sought-is d ea eb h = let g = rw (seen-is d, ea, eb) at h in record { first = g .first; a-inside = g .a-inside; b-inside = g .b-inside }
+
+-- what a verdict needs of it: where there is a pair the words are not read, and those of a survey will do
+pub record Settles (v : View) (t : Sought) : Type 0 where
+  pub first : t .first ≡ firstOf (listingIn v)
+  pub a-inside : t .first ≡ Nothing → t .a ≡ insideWord (seen v) (solid v 1)
+  pub b-inside : t .first ≡ Nothing → t .b ≡ insideWord (seen v) (solid v 2)
+
+pub sought-settles : {v : View} {t : Sought} → SoughtIs v t → Settles v t
+sought-settles {v} h =
+    let words : (k : ℕ) → Found → ℕ = λ k x. unlessPair x (insideWord (seen v) (solid v k)) in
+    record { first = h .first; a-inside = λ n. h .a-inside ∙ ap (words 1) n; b-inside = λ n. h .b-inside ∙ ap (words 2) n }

@@ -6,7 +6,7 @@ ghost use Rattle.scene.specs.View.{viewOf};
 ghost use Rattle.survey.specs.Survey.{Sized};
 ghost use Rattle.kernel.specs.Answers.{verdictIn, listingIn};
 ghost use Rattle.kernel.specs.Listings.{lacksRoom, PouredIf};
-ghost use Rattle.kernel.specs.Surveys.{SurveyIs, SoughtIs};
+ghost use Rattle.kernel.specs.Surveys.{SurveyIs, SoughtIs, Settles};
 use crate::verdict::Verdict;
 use engine::Engine;
 use listing::find::Found;
@@ -72,7 +72,7 @@ pub fn sought_of(engine: Engine, s: &[u8]) -> Sought
 // By the first pair, and where there is none by the words of enclosed vertices.
 pub fn verdict_by(s: &[u8], t: Sought) -> Verdict
     requires { ⌜ judged (now s) ≡ Accepted ⌝ }
-    requires { ⌜ SoughtIs (viewOf (now s)) t ⌝ }
+    requires { ⌜ Settles (viewOf (now s)) t ⌝ }
     ensures { λ r. ⌜ r ≡ verdictIn (viewOf (now (s .entry))) ⌝ }
 {
     let x = t.first;

@@ -14,10 +14,19 @@ use Rattle.survey.specs.First.{hitsTo, hits-all}
 use Rattle.survey.specs.Laws.{first-left, first-right}
 use Rattle.survey.specs.declared.seek.Sought.{Sought}
 
+-- a word is told where there is no pair, and is 0 where there is one
+abbrev pub unlessPair : Found → ℕ → ℕ
+unlessPair Nothing w = w
+unlessPair (Pair u v f) w = 0
+
 pub record IsSought (s : Seen) (a b : Solid) (r : Sought) : Type 0 where
   pub first : r .first ≡ firstOf (solidHits s a ++ solidHits s b)
-  pub a-inside : r .first ≡ Nothing → r .a ≡ insideWord s a
-  pub b-inside : r .first ≡ Nothing → r .b ≡ insideWord s b
+  pub a-inside : r .a ≡ unlessPair (r .first) (insideWord s a)
+  pub b-inside : r .b ≡ unlessPair (r .first) (insideWord s b)
+
+-- what is answered of a pair
+abbrev pub crossedBy : (u v f : ℕ) → Sought
+crossedBy u v f = record { first = Pair u v f; a = 0; b = 0 }
 
 pub none-first : (l : List Hit) {o : Found} → o ≡ firstOf l → o ≡ Nothing → [] ≡ l
 none-first l p q = empty-next {l = []} l refl p q
@@ -29,16 +38,12 @@ module _ (s : Seen) (k : Solid) where
   pub first-all : Sound s k → {o : Found} → o ≡ firstOf (hitsTo s k (k .verts)) → o ≡ firstOf (solidHits s k)
   first-all sound e = e ∙ ap firstOf (hits-all s k sound)
 
-some-pair : {A : Type 0} {o : Found} {u v f : ℕ} → o ≡ Pair u v f → o ≡ Nothing → A
-some-pair p q = let z : _≡_ {A = ℕ} 0 1 = cc in absurd (omega arith)
+module _ (s : Seen) (a b : Solid) {r : Sought} {x : Found} {u v f : ℕ} (pair : x ≡ Pair u v f) (is-r : r ≡ crossedBy u v f) where
+  sought-pair : Pair u v f ≡ firstOf (solidHits s a ++ solidHits s b) → IsSought s a b r
+  sought-pair e = rw is-r (record { first = e; a-inside = refl; b-inside = refl })
 
-module _ (s : Seen) (a b : Solid) {r : Sought} {x : Found} {u v f : ℕ} (pair : x ≡ Pair u v f) (is-r : r .first ≡ Pair u v f) where
   pub sought-in-a : x ≡ firstOf (solidHits s a) → IsSought s a b r
-  sought-in-a e = record {
-    first = is-r ∙ first-left (solidHits s a) (solidHits s b) e pair;
-    a-inside = λ n. some-pair is-r n;
-    b-inside = λ n. some-pair is-r n;
-  }
+  sought-in-a e = sought-pair (first-left (solidHits s a) (solidHits s b) e pair)
 
   -- found among A's first m vertices
   pub sought-early : Sound s a → (m : ℕ) → m ≤ a .verts → x ≡ firstOf (hitsTo s a m) → IsSought s a b r
@@ -47,16 +52,12 @@ module _ (s : Seen) (a b : Solid) {r : Sought} {x : Found} {u v f : ℕ} (pair :
       sought-in-a (pair ∙ first-left (hitsTo s a m) _ e pair ∙ ap firstOf (sym (upTo-join _ m (a .verts - m)) ∙ ap (hitsTo s a) d ∙ hits-all s a sound))
 
   pub sought-in-b : {y : Found} → y ≡ firstOf (solidHits s a) → y ≡ Nothing → x ≡ firstOf (solidHits s b) → IsSought s a b r
-  sought-in-b of-a none-a e = record {
-    first = is-r ∙ first-right (solidHits s a) (solidHits s b) of-a none-a (sym pair ∙ e);
-    a-inside = λ n. some-pair is-r n;
-    b-inside = λ n. some-pair is-r n;
-  }
+  sought-in-b of-a none-a e = sought-pair (first-right (solidHits s a) (solidHits s b) of-a none-a (sym pair ∙ e))
 
 pub sought-none : (s : Seen) (a b : Solid) {x y : Found} {p q : ℕ} → x ≡ firstOf (solidHits s a) → x ≡ Nothing → y ≡ firstOf (solidHits s b) → y ≡ Nothing →
     p ≡ insideWord s a → q ≡ insideWord s b → IsSought s a b (record { first = Nothing; a = p; b = q })
 sought-none s a b of-a none-a of-b none-b e f = record {
   first = first-right (solidHits s a) (solidHits s b) of-a none-a (sym none-b ∙ of-b);
-  a-inside = λ n. e;
-  b-inside = λ n. f;
+  a-inside = e;
+  b-inside = f;
 }

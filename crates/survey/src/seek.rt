@@ -11,7 +11,7 @@ ghost use Rattle.scene.specs.Limits.{limits, mostPoints};
 ghost use Rattle.spread.specs.Ready.{Ready};
 ghost use Rattle.spread.specs.Walk.{insideWord};
 ghost use Rattle.survey.specs.First.{hitsTo};
-ghost use Rattle.survey.specs.Seek.{IsSought};
+ghost use Rattle.survey.specs.Seek.{IsSought, crossedBy};
 ghost use Rattle.survey.specs.Told.{Made};
 use crate::first::first_of;
 use crate::told::make_planes;
@@ -38,7 +38,7 @@ pub struct Sought {
 }
 
 fn crossed(u: usize, v: usize, f: usize) -> Sought
-    ensures { λ r. ⌜ r .first ≡ Found.Pair u v f ⌝ }
+    ensures { λ r. ⌜ r ≡ crossedBy u v f ⌝ }
 {
     Sought {
         first: Found::Pair(u, v, f),

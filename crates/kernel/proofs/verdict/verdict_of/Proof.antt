@@ -2,6 +2,7 @@
 use Rattle.kernel.specs.declared.verdict.Verdict.the-variants.{Refused}
 use Rattle.kernel.specs.Laws.{accepted-so, refused-so, answered-so}
 use Rattle.kernel.specs.Answers.{verdictOf}
+use Rattle.kernel.specs.Surveys.{sought-settles}
 use borrow.Author.Needs.{needs}
 use Rattle.kernel.proofs.verdict.verdict_of.Statement.{statement}
 use Rattle.kernel.proofs.verdict.verdict_of.Tie as tie
@@ -23,7 +24,7 @@ sought-of-requires : tie.Need-sought-of-requires
 sought-of-requires c κs = search accepted-so
 
 verdict-by-requires : tie.Need-verdict-by-requires
-verdict-by-requires c κs = (search accepted-so, search needs)
+verdict-by-requires c κs = (search accepted-so, search sought-settles)
 
 returns-2 : tie.Need-returns-2
 unfolding verdictOf
