@@ -1,18 +1,31 @@
 -- The demands speak of the code. For each public function of the judge, of a record shown and of the questions: what its contract states, of the very relation
 -- between arguments, answer and lent places that the function is proved to meet, is the definition that `Answers`, `Exact`, `Parity` and `Once`
 -- are about. A contract that says less does not give it. The arguments are in the function's own order; κs are its lifetimes. Assumes nothing.
-use mathlib.Core.Path.{_≡_, ap}
+use mathlib.Core.Path.{_≡_, refl, ap, _∙_}
+use mathlib.Core.List.{List}
+use Prim.Native.Nat.{ℕ}
 use lib.ListN.{length}
 use denote.Ref.{now}
+use Rattle.scene.specs.Records.{vertsA, vertsB}
 use Rattle.scene.specs.View.{viewOf}
+use Rattle.scene.specs.declared.Refusal.{Refusal}
 use Rattle.judge.specs.Judge.{judged}
+use Rattle.judge.specs.declared.Judged.{Judged}
+use Rattle.judge.specs.declared.Judged.the-variants as judgement
 use Rattle.judge.proofs.judge.Reads as judge
 use Rattle.record.specs.Shown.{refusal, shown}
 use Rattle.record.proofs.record.Reads as record-shown
 use Rattle.record.proofs.record_refusal.Reads as record-refusal
 use Rattle.kernel.specs.Answers.{answered, isPoint, signOf, piercesOf, saidMask, maskedOf, enclosedOf, countedOf}
-use Rattle.kernel.specs.Answers.{insideOf, verdictOf, listingIn, listedIn, IsListed, IsPart}
+use Rattle.kernel.specs.Answers.{insideOf, verdictIn, verdictOf, countsIn, listingIn, listedIn, heldIn, IsListed, IsPart}
+use Rattle.kernel.specs.Facts.{factsIn}
+use Rattle.kernel.specs.Laws.{answered-so}
+use Rattle.kernel.specs.declared.counts.Counted.the-variants as counted
+use Rattle.kernel.specs.declared.facts.Facts.{Facts}
+use Rattle.kernel.specs.declared.facts.Surveyed.the-variants as surveyed
+use Rattle.kernel.specs.declared.lists.Listed.{Listed}
 use Rattle.kernel.specs.declared.lists.Listed.the-variants.{Refused, Count}
+use Rattle.kernel.specs.declared.verdict.Verdict.the-variants as verdicts
 use Rattle.kernel.proofs.points.is_point.Reads as is-point
 use Rattle.kernel.proofs.points.sign.Reads as sign
 use Rattle.kernel.proofs.points.pierces.Reads as pierces
@@ -23,6 +36,8 @@ use Rattle.kernel.proofs.inside.inside.Reads as inside
 use Rattle.kernel.proofs.verdict.verdict_of.Reads as verdict
 use Rattle.kernel.proofs.lists.listing.Reads as listing
 use Rattle.kernel.proofs.lists.listing_part.Reads as listing-part
+use Rattle.kernel.proofs.facts.survey.Reads as survey
+use Rattle.demands.specs.Surveys.{IsWord, word-a, word-b}
 use Rattle.demands.specs.Said.{judgedSays, signSays, answerSays, facesSay, maskSays, countsSay, insideSays, listedSays, verdictSays}
 
 pub judge-is : (κs a r e : _) → judge.Post κs a r e → r ≡ judged (now (a .0))
@@ -67,6 +82,42 @@ listing-is κs a r e x = x
 
 pub listing-part-is : (κs a r e : _) → listing-part.Post κs a r e → IsPart (now (a .1 .0)) (a .1 .1 .0) (now (a .1 .1 .1 .0)) (now (e .1 .1 .1 .0)) r
 listing-part-is κs a r e x = x
+
+-- everything at once, of an accepted scene: what each question alone answers and leaves
+pub record AtOnce (s d d′ : List ℕ) (f : Facts) : Type 0 where
+  pub verdict : f .verdict ≡ verdictOf s
+  pub counts : counted.Counts (f .counts) ≡ countedOf s
+  pub a-inside : IsWord s 0 (vertsA s) (f .«a_inside»)
+  pub b-inside : IsWord s (vertsA s) (vertsB s) (f .«b_inside»)
+  pub listed : (l : Listed) × IsListed s d d′ l
+
+pub survey-refused : (κs a r e : _) → survey.Post κs a r e → (q : Refusal) → judged (now (a .1 .0)) ≡ judgement.Refused q →
+    (r ≡ surveyed.Refused q) × (now (e .1 .1 .0) ≡ now (a .1 .1 .0))
+unfolding answered
+survey-refused κs a r e x q f =
+    let v = viewOf (now (a .1 .0)) in
+    let d = now (a .1 .1 .0) in (
+      x .answer ∙ ap (λ (j : Judged). answered surveyed.Refused j (surveyed.Facts (factsIn v))) f,
+      x .held ∙ ap (λ (j : Judged). answered (λ _. d) j (heldIn v d)) f,
+    )
+
+pub survey-told : (κs a r e : _) → survey.Post κs a r e → judged (now (a .1 .0)) ≡ judgement.Accepted →
+    (f : Facts) × (r ≡ surveyed.Facts f) × AtOnce (now (a .1 .0)) (now (a .1 .1 .0)) (now (e .1 .1 .0)) f
+unfolding factsIn verdictOf countedOf answered
+survey-told κs a r e x ok =
+    let s = now (a .1 .0) in
+    let v = viewOf s in
+    let d = now (a .1 .1 .0) in (
+      factsIn v,
+      x .answer ∙ ap (λ (j : Judged). answered surveyed.Refused j (surveyed.Facts (factsIn v))) ok,
+      record {
+        verdict = answered-so verdicts.Refused (verdictIn v) refl ok refl;
+        counts = answered-so counted.Refused (counted.Counts (countsIn v)) refl ok refl;
+        a-inside = word-a s refl;
+        b-inside = word-b s refl;
+        listed = (answered Refused (judged s) (listedIn v d), record { answer = refl; held = x .held });
+      },
+    )
 
 -- ---- the same by the number and the values of what each answer enum says
 

@@ -1,13 +1,14 @@
 -- No second answer. For each function that another crate can call, and of the very relation that its contract names: what is asked has no second answer,
 -- nor second contents of a lent place. Bytes that are shown are said by what they hold, an array is as long as its type says, and the words of a
--- mask are below 2 ^ 64 as theirs says. `limits_agree` answers nothing. Assumes nothing.
+-- mask are below 2 ^ 64 as theirs says. The tables lent to a survey are determined up to the edges that it counts. `limits_agree` answers nothing.
+-- Assumes nothing.
 use mathlib.Core.Path.{_≡_}
 use mathlib.Core.Bool.{Bool}
 use mathlib.Core.List.{List}
-use Prim.Native.Nat.{ℕ, _^_, _<_}
+use Prim.Native.Nat.{ℕ, _*_, _^_, _<_}
 use lib.Count.{ones}
 use lib.IntN.{ℤ}
-use lib.ListN.{length}
+use lib.ListN.{length, getD}
 use Rattle.laws.specs.Unique.{Once}
 use Rattle.laws.specs.Mask.{testBit}
 use Rattle.scene.specs.Limits.{within}
@@ -33,8 +34,14 @@ use Rattle.face_masks.specs.Faces.{valueOf, isOdd, hasFace, firstFace}
 use Rattle.pierce.specs.Against.{maskAgainst, enclosed}
 use Rattle.face_masks.specs.declared.Mask.{Mask}
 use Rattle.plain.specs.Five.{fiveSigns}
+use Rattle.survey.specs.declared.Part.{Part}
+use Rattle.survey.specs.declared.seek.Sought.{Sought}
 use Rattle.kernel.specs.declared.inside.Enclosing.{Enclosing}
 use Rattle.kernel.specs.Answers.{isPoint, signOf, piercesOf, saidMask, maskedOf, enclosedOf, countedOf, verdictOf, IsListed, IsPart, insideOf}
+use Rattle.kernel.specs.Answers.{verdictIn, listingIn}
+use Rattle.kernel.specs.Facts.{IsSurvey}
+use Rattle.kernel.specs.Listings.{PouredIf}
+use Rattle.kernel.specs.Surveys.{SurveyIs, SoughtIs}
 use Rattle.kernel.specs.declared.points.Signed.{Signed}
 use Rattle.kernel.specs.declared.points.Answer.{Answer}
 use Rattle.kernel.specs.declared.masks.Masked.{Masked}
@@ -42,6 +49,7 @@ use Rattle.kernel.specs.declared.masks.Masked.the-variants.{Refused, Faces}
 use Rattle.kernel.specs.declared.counts.Counted.{Counted}
 use Rattle.kernel.specs.declared.verdict.Verdict.{Verdict}
 use Rattle.kernel.specs.declared.lists.Listed.{Listed}
+use Rattle.kernel.specs.declared.facts.Surveyed.{Surveyed}
 
 -- the same, among answers that are lists of one length
 abbrev pub OnceOfLength : {A B : Type 0} → (A → List B → Type 0) → Type 0
@@ -57,6 +65,24 @@ Words m = (m .low < 2 ^ 64) × (m .high < 2 ^ 64)
 abbrev pub WordsSaid : Masked → Type 0
 WordsSaid (Refused r) = Unit {0}
 WordsSaid (Faces m n) = Words m
+
+-- what a survey leaves of one solid: its part of the answer, and the table of its edges
+pub record Table : Type 0 where
+  pub part : Part
+  pub ends : List ℕ
+  pub masks : List ℕ
+
+abbrev pub WordsHeld : Table → Type 0
+WordsHeld x = (i : ℕ) → getD (x .masks) i 0 < 2 ^ 64
+
+abbrev pub Left : List ℕ → (a b : Table) → Type 0
+Left s a b = SurveyIs (viewOf s) (a .ends) (a .masks) (b .ends) (b .masks) (record { a = a .part; b = b .part })
+
+-- the same part, and the same places up to its edges, two to each
+pub record Alike (x y : Table) : Type 0 where
+  pub part : x .part ≡ y .part
+  pub ends : (i : ℕ) → i < 2 * x .part .edges → getD (x .ends) i 0 ≡ getD (y .ends) i 0
+  pub masks : (i : ℕ) → i < 2 * x .part .edges → getD (x .masks) i 0 ≡ getD (y .masks) i 0
 
 pub record SceneOnce : Type 0 where
   pub number : Once (λ (r : Refusal) (n : ℕ). n ≡ numberOf r)
@@ -114,6 +140,17 @@ pub record KernelOnce : Type 0 where
   pub listing : (s : List ℕ) → Once (λ (out : List ℕ) (left : List ℕ × Listed). IsListed s out (left .0) (left .1))
   pub listing-part : (s : List ℕ) (from : ℕ) → Once (λ (out : List ℕ) (left : List ℕ × Listed). IsPart s from out (left .0) (left .1))
 
+-- `kernel::surveys` and `kernel::facts`: what is surveyed once, and what is read off it
+pub record SurveysOnce : Type 0 where
+  pub survey-of : (s : List ℕ) (a b c d : Table) → WordsHeld a → WordsHeld b → WordsHeld c → WordsHeld d → Left s a b → Left s c d →
+      Alike a c × Alike b d
+  pub sought-of : Once (λ (s : List ℕ) (r : Sought). SoughtIs (viewOf s) r)
+  pub verdict-by : Once (λ (s : List ℕ) (r : Verdict). r ≡ verdictIn (viewOf s))
+  pub verdict-read : Once (λ (s : List ℕ) (r : Verdict). r ≡ verdictIn (viewOf s))
+  pub pour-read : (s : List ℕ) (from : ℕ) (all : Bool) →
+      Once (λ (out : List ℕ) (left : List ℕ × ℕ). PouredIf (listingIn (viewOf s)) from all out (left .0) (left .1))
+  pub survey : (s : List ℕ) → Once (λ (out : List ℕ) (left : List ℕ × Surveyed). IsSurvey s out (left .0) (left .1))
+
 pub record NoSecondAnswer : Type 0 where
   pub of-scene : SceneOnce
   pub of-judge : JudgeOnce
@@ -122,3 +159,4 @@ pub record NoSecondAnswer : Type 0 where
   pub of-edges : EdgesOnce
   pub of-pierce : PierceOnce
   pub of-kernel : KernelOnce
+  pub of-surveys : SurveysOnce

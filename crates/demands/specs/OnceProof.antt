@@ -1,7 +1,7 @@
--- No second answer: an equation with a definition has none, a mask is its number, and the arrays of a scene are read at every place.
--- Assumes nothing.
-use mathlib.Core.Path.{_≡_, sym, ap, _∙_}
-use mathlib.Core.List.{List}
+-- No second answer: an equation with a definition has none, a mask is its number, the arrays of a scene are read at every place, and a table of
+-- edges is up to their count. Assumes nothing.
+use mathlib.Core.Path.{_≡_, refl, sym, ap, _∙_}
+use mathlib.Core.List.{List, [], _∷_}
 use Prim.Native.Nat.{ℕ, zero, suc, _+_, _*_, _/_, _%_, _^_, _<_}
 use native.Mathlib.Omega.{arith}
 use lib.IntN.{ℤ, pos}
@@ -10,14 +10,26 @@ use lib.Pow.{low, high}
 use lib.Seq.{ext-getD}
 use Rattle.laws.specs.Unique.{once}
 use Rattle.scene.specs.Arrays.{rowIn, faceIn}
+use Rattle.scene.specs.View.{View, solid}
 use Rattle.scene.specs.declared.Row.{Row}
 use Rattle.scene.specs.declared.Face.{Face}
 use Rattle.face_masks.specs.Faces.{valueOf}
 use Rattle.face_masks.specs.declared.Mask.{Mask}
-use Rattle.kernel.specs.Answers.{saidMask}
+use Rattle.scene.specs.declared.Solid.{Solid}
+use Rattle.listing.specs.Hits.{Seen, upTo}
+use Rattle.listing.specs.Laws.{upTo-first}
+use Rattle.listing.specs.declared.find.Found.{Found}
+use Rattle.table.specs.Table.{Entry, entryIn, entriesIn}
+use Rattle.spread.specs.Walk.{insideWord}
+use Rattle.survey.specs.Survey.{Surveyed}
+use Rattle.survey.specs.Seek.{unlessPair}
+use Rattle.survey.specs.declared.seek.Sought.{Sought}
+use Rattle.kernel.specs.Answers.{saidMask, seen}
+use Rattle.kernel.specs.Surveys.{SoughtIs}
 use Rattle.kernel.specs.declared.masks.Masked.{Masked}
 use Rattle.kernel.specs.declared.masks.Masked.the-variants.{Refused, Faces}
-use Rattle.demands.specs.Once.{Words, WordsSaid, SceneOnce, JudgeOnce, RecordOnce, OrientOnce, EdgesOnce, PierceOnce, KernelOnce, NoSecondAnswer}
+use Rattle.demands.specs.Once.{Words, WordsSaid, SceneOnce, JudgeOnce, RecordOnce, OrientOnce, EdgesOnce, PierceOnce, KernelOnce}
+use Rattle.demands.specs.Once.{Table, WordsHeld, Alike, SurveysOnce, NoSecondAnswer}
 
 -- ---- a mask is its number
 
@@ -58,6 +70,64 @@ same-faces a b l e = ext-getD 0 a b l (λ i h. at i (i / 3) (i % 3) (omega arith
     at i q (suc zero) h k = rw h (ap (λ (f : ℕ → Face). f q .q) e)
     at i q (suc (suc zero)) h k = rw h (ap (λ (f : ℕ → Face). f q .r) e)
     at i q (suc (suc (suc m))) h k = absurd (omega arith)
+
+-- ---- what is sought, and a table of edges
+
+same-sought : (v : View) (b c : Sought) → SoughtIs v b → SoughtIs v c → b ≡ c
+same-sought v b c p q =
+    let first : b .first ≡ c .first = p .first ∙ sym (q .first) in
+    λ i. record {
+      first = first i;
+      a = (p .a-inside ∙ ap (word 1) first ∙ sym (q .a-inside)) i;
+      b = (p .b-inside ∙ ap (word 2) first ∙ sym (q .b-inside)) i;
+    }
+  where
+    word : ℕ → Found → ℕ
+    word k x = unlessPair x (insideWord (seen v) (solid v k))
+
+-- equal runs of single entries have as many of them, and the same in each place
+same-run : {A : Type 0} (f g : ℕ → A) (n m : ℕ) → upTo (λ j. f j ∷ []) n ≡ upTo (λ j. g j ∷ []) m → (n ≡ m) × ((j : ℕ) → j < n → f j ≡ g j)
+unfolding upTo
+same-run f g zero zero e = (refl, λ j h. absurd (omega arith))
+same-run f g zero (suc m) e = let h = ap length (e ∙ upTo-first (λ j. g j ∷ []) m) in absurd (omega (arith, h))
+same-run f g (suc n) zero e = let h = ap length (sym e ∙ upTo-first (λ j. f j ∷ []) n) in absurd (omega (arith, h))
+same-run {A} f g (suc n) (suc m) e =
+    let h : f 0 ∷ upTo (λ j. f (suc j) ∷ []) n ≡ g 0 ∷ upTo (λ j. g (suc j) ∷ []) m =
+    sym (upTo-first (λ j. f j ∷ []) n) ∙ e ∙ upTo-first (λ j. g j ∷ []) m in
+    let first : f 0 ≡ g 0 = cc in
+    let rest = same-run (λ j. f (suc j)) (λ j. g (suc j)) n m (cc) in
+    (ap suc (rest .0), at first (rest .1))
+  where
+    at : f 0 ≡ g 0 → ((j : ℕ) → j < n → f (suc j) ≡ g (suc j)) → (j : ℕ) → j < suc n → f j ≡ g j
+    at first rest zero b = first
+    at first rest (suc j) b = rest j (omega arith)
+
+module _ {s : Seen} {k : Solid} (x y : Table) (in-x : WordsHeld x) (in-y : WordsHeld y)
+    (p : Surveyed s k (x .ends) (x .masks) (x .part)) (q : Surveyed s k (y .ends) (y .masks) (y .part)) where
+  run : (x .part .edges ≡ y .part .edges) ×
+      ((j : ℕ) → j < x .part .edges → entryIn (x .ends) (x .masks) j ≡ entryIn (y .ends) (y .masks) j)
+  unfolding entriesIn
+  run = same-run (entryIn (x .ends) (x .masks)) (entryIn (y .ends) (y .masks)) (x .part .edges) (y .part .edges) (p .edges ∙ sym (q .edges))
+
+  -- by the two places of each edge
+  both : (l m : List ℕ) →
+      ((j : ℕ) → j < x .part .edges → (getD l (2 * j) 0 ≡ getD m (2 * j) 0) × (getD l (2 * j + 1) 0 ≡ getD m (2 * j + 1) 0)) →
+      (i : ℕ) → i < 2 * x .part .edges → getD l i 0 ≡ getD m i 0
+  both l m h i b = at (i / 2) (i % 2) (omega arith) (omega arith)
+    where
+      at : (j r : ℕ) → i ≡ 2 * j + r → r < 2 → getD l i 0 ≡ getD m i 0
+      at j zero e c = let d : i ≡ 2 * j = omega arith in rw d (h j (omega arith) .0)
+      at j (suc zero) e c = rw e (h j (omega arith) .1)
+      at j (suc (suc r)) e c = absurd (omega arith)
+
+  alike : Alike x y
+  alike =
+      let mask : Entry → ℕ = λ e. e .mask in
+      record {
+        part = λ i. record { edges = run .0 i; inside = (p .inside ∙ sym (q .inside)) i };
+        ends = both (x .ends) (y .ends) (λ j h. (ap (λ (e : Entry). e .low) (run .1 j h), ap (λ (e : Entry). e .high) (run .1 j h)));
+        masks = both (x .masks) (y .masks) (λ j h. same-parts 64 _ _ _ _ (in-x (2 * j)) (in-y (2 * j)) (ap mask (run .1 j h)));
+      }
 
 -- ---- by crate
 
@@ -122,6 +192,17 @@ of-kernel =
       listing-part = λ s from out b c p q i. ((p .held ∙ sym (q .held)) i, (p .answer ∙ sym (q .answer)) i);
     }
 
+of-surveys : SurveysOnce
+of-surveys =
+    record {
+      survey-of = λ s a b c d wa wb wc wd p q. (alike a c wa wc (p .of-a) (q .of-a), alike b d wb wd (p .of-b) (q .of-b));
+      sought-of = λ s. same-sought _;
+      verdict-by = once _;
+      verdict-read = once _;
+      pour-read = λ s from all out b c p q i. ((p .held ∙ sym (q .held)) i, (p .count ∙ sym (q .count)) i);
+      survey = λ s out b c p q i. ((p .held ∙ sym (q .held)) i, (p .answer ∙ sym (q .answer)) i);
+    }
+
 pub no-second-answer : NoSecondAnswer
 no-second-answer =
     record {
@@ -132,4 +213,5 @@ no-second-answer =
       of-edges = of-edges;
       of-pierce = of-pierce;
       of-kernel = of-kernel;
+      of-surveys = of-surveys;
     }

@@ -1,0 +1,105 @@
+-- The demands speak of the code (`Contracts`), of the functions too that survey an accepted scene once and read answers off its tables: what
+-- each one's own contract states, and that it is what the demands are about. The arguments are in the function's own order; κs are its
+-- lifetimes. Assumes nothing.
+use mathlib.Core.Path.{_≡_, refl, sym, ap, _∙_}
+use mathlib.Core.Bool.{Bool, true, cond}
+use mathlib.Core.List.{List}
+use mathlib.Core.Logic.{_↔_}
+use Prim.Native.Nat.{ℕ, _+_, _^_, _<_}
+use native.Mathlib.Omega.{arith}
+use lib.ListN.{length}
+use denote.Ref.{now}
+use Rattle.laws.specs.Mask.{maskOf, testBit, mask-lt, mask-test}
+use Rattle.scene.specs.Records.{vertsA, vertsB}
+use Rattle.scene.specs.View.{View, viewOf, solid, solidA, solidB}
+use Rattle.judge.specs.Judge.{judged}
+use Rattle.judge.specs.declared.Judged.the-variants.{Accepted}
+use Rattle.listing.specs.Hits.{Hit, isInside}
+use Rattle.listing.specs.Pour.{partIn}
+use Rattle.listing.specs.Poured.{poured-part}
+use Rattle.spread.specs.Walk.{insideWord}
+use Rattle.survey.specs.Survey.{pairsOf}
+use Rattle.survey.specs.Laws.{surveyed-pairs}
+use Rattle.survey.specs.declared.Survey.{Survey}
+use Rattle.kernel.specs.Answers.{seen, isEnclosed, verdictIn, verdictOf, listingIn}
+use Rattle.kernel.specs.Laws.{answered-so}
+use Rattle.kernel.specs.Listings.{lacksRoom}
+use Rattle.kernel.specs.Ready.{sound}
+use Rattle.kernel.specs.Surveys.{SurveyIs, SoughtIs}
+use Rattle.kernel.specs.declared.verdict.Verdict.the-variants.{Refused}
+use Rattle.kernel.proofs.surveys.survey_of.Reads as survey-of
+use Rattle.kernel.proofs.surveys.sought_of.Reads as sought-of
+use Rattle.kernel.proofs.surveys.verdict_by.Reads as verdict-by
+use Rattle.kernel.proofs.surveys.verdict_read.Reads as verdict-read
+use Rattle.kernel.proofs.surveys.pour_read.Reads as pour-read
+use Rattle.demands.specs.Words.{Enclosed}
+use Rattle.demands.specs.ExactVerdict.{inside-a, inside-b}
+
+-- ---- the survey, and what is sought for a verdict
+
+-- the tables are the four arguments behind the bytes
+pub survey-of-is : (κs a r e : _) → survey-of.Post κs a r e →
+    SurveyIs (viewOf (now (a .1 .0))) (now (e .1 .1 .0)) (now (e .1 .1 .1 .0)) (now (e .1 .1 .1 .1 .0)) (now (e .1 .1 .1 .1 .1 .0)) r
+survey-of-is κs a r e x = x
+
+pub sought-of-is : (κs a r e : _) → sought-of.Post κs a r e → SoughtIs (viewOf (now (a .1 .0))) r
+sought-of-is κs a r e x = x
+
+-- the word w of the n vertices above low has a bit for each, set exactly when the other solid encloses it
+pub record IsWord (s : List ℕ) (low n w : ℕ) : Type 0 where
+  pub small : w < 2 ^ n
+  pub bits : (j : ℕ) → j < n → (testBit w j ≡ true) ↔ Enclosed s (low + 1 + j)
+
+module _ (s : List ℕ) where
+  abbrev v : View
+  v = viewOf s
+
+  by-bit : {low n : ℕ} (g : ℕ → Bool) → ((j : ℕ) → j < n → g j ≡ isEnclosed v (low + 1 + j)) → IsWord s low n (maskOf g n)
+  by-bit {low} {n} g h =
+      record {
+        small = mask-lt g n;
+        bits = λ j b. let e = mask-test g n j b ∙ h j b in (λ t. sym e ∙ t, λ t. e ∙ t);
+      }
+
+  pub word-a : {w : ℕ} → w ≡ insideWord (seen v) (solid v 1) → IsWord s 0 (vertsA s) w
+  unfolding insideWord solid
+  word-a e = rw e (by-bit (λ m. isInside (seen v) (solidA v) (0 + 1 + m)) (λ j b. inside-a s (0 + 1 + j) (omega arith)))
+
+  pub word-b : {w : ℕ} → w ≡ insideWord (seen v) (solid v 2) → IsWord s (vertsA s) (vertsB s) w
+  unfolding insideWord solid
+  word-b e = rw e (by-bit (λ m. isInside (seen v) (solidB v) (vertsA s + 1 + m)) (λ j b. inside-b s (vertsA s + 1 + j) (omega arith)))
+
+  -- so of a survey the words are the enclosed vertices, and the pairs of its tables are the listing
+  module _ {ends-a masks-a ends-b masks-b : List ℕ} {t : Survey} (x : SurveyIs v ends-a masks-a ends-b masks-b t) where
+    pub survey-words : IsWord s 0 (vertsA s) (t .a .inside) × IsWord s (vertsA s) (vertsB s) (t .b .inside)
+    survey-words = (word-a (x .of-a .inside), word-b (x .of-b .inside))
+
+    pub survey-pairs : judged s ≡ Accepted → pairsOf t (solid v 1 .other) (solid v 2 .other) ends-a masks-a ends-b masks-b ≡ listingIn v
+    unfolding listingIn
+    survey-pairs ok =
+        surveyed-pairs (seen v) (solid v 1) (solid v 2) t ends-a masks-a ends-b masks-b (sound s ok 1) (sound s ok 2) (x .of-a) (x .of-b)
+
+-- ---- what is read off
+
+pub verdict-by-is : (κs a r e : _) → verdict-by.Post κs a r e → judged (now (a .0)) ≡ Accepted → r ≡ verdictOf (now (a .0))
+unfolding verdictOf
+verdict-by-is κs a r e x ok = answered-so Refused (verdictIn (viewOf (now (a .0)))) refl ok x
+
+pub verdict-read-is : (κs a r e : _) → verdict-read.Post κs a r e → judged (now (a .1 .0)) ≡ Accepted → r ≡ verdictOf (now (a .1 .0))
+unfolding verdictOf
+verdict-read-is κs a r e x ok = answered-so Refused (verdictIn (viewOf (now (a .1 .0)))) refl ok x
+
+-- the part of the hits l from one of them on; where all are asked for and have no room, the list d as it was
+pub record IsPoured (l : List Hit) (from : ℕ) (all : Bool) (d d′ : List ℕ) (r : ℕ) : Type 0 where
+  pub count : r ≡ length l
+  pub held : d′ ≡ cond (lacksRoom all (length l) (length d)) d (partIn l from d)
+
+-- the pair to start from, whether all are asked for, and the lent list are the last arguments
+pub pour-read-is : (κs a r e : _) → pour-read.Post κs a r e →
+    IsPoured (listingIn (viewOf (now (a .1 .0)))) (a .1 .1 .1 .1 .1 .1 .0) (a .1 .1 .1 .1 .1 .1 .1 .0)
+    (now (a .1 .1 .1 .1 .1 .1 .1 .1 .0)) (now (e .1 .1 .1 .1 .1 .1 .1 .1 .0)) r
+pour-read-is κs a r e x =
+    let d = now (a .1 .1 .1 .1 .1 .1 .1 .1 .0) in
+    let l = listingIn (viewOf (now (a .1 .0))) in
+    let short = lacksRoom (a .1 .1 .1 .1 .1 .1 .1 .0) (length l) (length d) in
+    record { count = x .count; held = x .held ∙ ap (cond short d) (poured-part l d (a .1 .1 .1 .1 .1 .1 .0)) }
