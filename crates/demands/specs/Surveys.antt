@@ -1,5 +1,5 @@
--- The demands speak of the code (`Contracts`), of the functions too that survey an accepted scene once and read answers off its tables: what
--- each one's own contract states, and that it is what the demands are about. The arguments are in the function's own order; κs are its
+-- The demands speak of the code (`Contracts`), of the functions too that survey a scene once and read answers off its tables: what each
+-- one's own contract states, and that this is what the demands are about. The arguments are in the function's own order; κs are its
 -- lifetimes. Assumes nothing.
 use mathlib.Core.Path.{_≡_, refl, sym, ap, _∙_}
 use mathlib.Core.Bool.{Bool, true, cond}
@@ -17,25 +17,30 @@ use Rattle.judge.specs.declared.Judged.the-variants.{Accepted}
 use Rattle.listing.specs.Hits.{Hit, isInside}
 use Rattle.listing.specs.Pour.{partIn}
 use Rattle.listing.specs.Poured.{poured-part}
+use Rattle.listing.specs.declared.find.Found.the-variants.{Nothing}
 use Rattle.spread.specs.Walk.{insideWord}
 use Rattle.survey.specs.Survey.{pairsOf}
 use Rattle.survey.specs.Laws.{surveyed-pairs}
 use Rattle.survey.specs.declared.Survey.{Survey}
+use Rattle.survey.specs.declared.seek.Sought.{Sought}
 use Rattle.kernel.specs.Answers.{seen, isEnclosed, verdictIn, verdictOf, listingIn}
+use Rattle.kernel.specs.Facts.{IsSurvey}
 use Rattle.kernel.specs.Laws.{answered-so}
-use Rattle.kernel.specs.Listings.{lacksRoom}
+use Rattle.kernel.specs.Listings.{lacksRoom, PouredIf}
 use Rattle.kernel.specs.Ready.{sound}
-use Rattle.kernel.specs.Surveys.{SurveyIs, SoughtIs}
+use Rattle.kernel.specs.Surveys.{SurveyIs, SoughtIs, sought-settles}
+use Rattle.kernel.specs.declared.verdict.Verdict.{Verdict}
 use Rattle.kernel.specs.declared.verdict.Verdict.the-variants.{Refused}
 use Rattle.kernel.proofs.surveys.survey_of.Reads as survey-of
 use Rattle.kernel.proofs.surveys.sought_of.Reads as sought-of
 use Rattle.kernel.proofs.surveys.verdict_by.Reads as verdict-by
 use Rattle.kernel.proofs.surveys.verdict_read.Reads as verdict-read
 use Rattle.kernel.proofs.surveys.pour_read.Reads as pour-read
+use Rattle.kernel.proofs.facts.survey.Reads as survey
 use Rattle.demands.specs.Words.{Enclosed}
 use Rattle.demands.specs.ExactVerdict.{inside-a, inside-b}
 
--- ---- the survey, and what is sought for a verdict
+-- ---- by contract
 
 -- the tables are the four arguments behind the bytes
 pub survey-of-is : (κs a r e : _) → survey-of.Post κs a r e →
@@ -44,6 +49,23 @@ survey-of-is κs a r e x = x
 
 pub sought-of-is : (κs a r e : _) → sought-of.Post κs a r e → SoughtIs (viewOf (now (a .1 .0))) r
 sought-of-is κs a r e x = x
+
+pub verdict-by-is : (κs a r e : _) → verdict-by.Post κs a r e → r ≡ verdictIn (viewOf (now (a .0)))
+verdict-by-is κs a r e x = x
+
+pub verdict-read-is : (κs a r e : _) → verdict-read.Post κs a r e → r ≡ verdictIn (viewOf (now (a .1 .0)))
+verdict-read-is κs a r e x = x
+
+-- the pair to start from, whether all are asked for, and the lent list are the last arguments
+pub pour-read-is : (κs a r e : _) → pour-read.Post κs a r e →
+    PouredIf (listingIn (viewOf (now (a .1 .0)))) (a .1 .1 .1 .1 .1 .1 .0) (a .1 .1 .1 .1 .1 .1 .1 .0)
+    (now (a .1 .1 .1 .1 .1 .1 .1 .1 .0)) (now (e .1 .1 .1 .1 .1 .1 .1 .1 .0)) r
+pour-read-is κs a r e x = x
+
+pub survey-is : (κs a r e : _) → survey.Post κs a r e → IsSurvey (now (a .1 .0)) (now (a .1 .1 .0)) (now (e .1 .1 .0)) r
+survey-is κs a r e x = x
+
+-- ---- in the words of the demands
 
 -- the word w of the n vertices above low has a bit for each, set exactly when the other solid encloses it
 pub record IsWord (s : List ℕ) (low n w : ℕ) : Type 0 where
@@ -69,37 +91,26 @@ module _ (s : List ℕ) where
   unfolding insideWord solid
   word-b e = rw e (by-bit (λ m. isInside (seen v) (solidB v) (vertsA s + 1 + m)) (λ j b. inside-b s (vertsA s + 1 + j) (omega arith)))
 
-  -- so of a survey the words are the enclosed vertices, and the pairs of its tables are the listing
   module _ {ends-a masks-a ends-b masks-b : List ℕ} {t : Survey} (x : SurveyIs v ends-a masks-a ends-b masks-b t) where
     pub survey-words : IsWord s 0 (vertsA s) (t .a .inside) × IsWord s (vertsA s) (vertsB s) (t .b .inside)
     survey-words = (word-a (x .of-a .inside), word-b (x .of-b .inside))
 
+    -- the pairs of the tables are the listing
     pub survey-pairs : judged s ≡ Accepted → pairsOf t (solid v 1 .other) (solid v 2 .other) ends-a masks-a ends-b masks-b ≡ listingIn v
     unfolding listingIn
     survey-pairs ok =
         surveyed-pairs (seen v) (solid v 1) (solid v 2) t ends-a masks-a ends-b masks-b (sound s ok 1) (sound s ok 2) (x .of-a) (x .of-b)
 
--- ---- what is read off
+  module _ {t : Sought} (x : SoughtIs v t) (none : t .first ≡ Nothing) where
+    pub sought-words : IsWord s 0 (vertsA s) (t .a) × IsWord s (vertsA s) (vertsB s) (t .b)
+    sought-words = let h = sought-settles x in (word-a (h .a-inside none), word-b (h .b-inside none))
 
-pub verdict-by-is : (κs a r e : _) → verdict-by.Post κs a r e → judged (now (a .0)) ≡ Accepted → r ≡ verdictOf (now (a .0))
-unfolding verdictOf
-verdict-by-is κs a r e x ok = answered-so Refused (verdictIn (viewOf (now (a .0)))) refl ok x
+  -- of an accepted scene the verdict is the question's
+  pub verdict-asked : judged s ≡ Accepted → {r : Verdict} → r ≡ verdictIn v → r ≡ verdictOf s
+  unfolding verdictOf
+  verdict-asked ok e = answered-so Refused (verdictIn v) refl ok e
 
-pub verdict-read-is : (κs a r e : _) → verdict-read.Post κs a r e → judged (now (a .1 .0)) ≡ Accepted → r ≡ verdictOf (now (a .1 .0))
-unfolding verdictOf
-verdict-read-is κs a r e x ok = answered-so Refused (verdictIn (viewOf (now (a .1 .0)))) refl ok x
-
--- the part of the hits l from one of them on; where all are asked for and have no room, the list d as it was
-pub record IsPoured (l : List Hit) (from : ℕ) (all : Bool) (d d′ : List ℕ) (r : ℕ) : Type 0 where
-  pub count : r ≡ length l
-  pub held : d′ ≡ cond (lacksRoom all (length l) (length d)) d (partIn l from d)
-
--- the pair to start from, whether all are asked for, and the lent list are the last arguments
-pub pour-read-is : (κs a r e : _) → pour-read.Post κs a r e →
-    IsPoured (listingIn (viewOf (now (a .1 .0)))) (a .1 .1 .1 .1 .1 .1 .0) (a .1 .1 .1 .1 .1 .1 .1 .0)
-    (now (a .1 .1 .1 .1 .1 .1 .1 .1 .0)) (now (e .1 .1 .1 .1 .1 .1 .1 .1 .0)) r
-pour-read-is κs a r e x =
-    let d = now (a .1 .1 .1 .1 .1 .1 .1 .1 .0) in
-    let l = listingIn (viewOf (now (a .1 .0))) in
-    let short = lacksRoom (a .1 .1 .1 .1 .1 .1 .1 .0) (length l) (length d) in
-    record { count = x .count; held = x .held ∙ ap (cond short d) (poured-part l d (a .1 .1 .1 .1 .1 .1 .0)) }
+-- what is left of the list d: the part of the hits l; where all are asked for and have no room, as it was
+pub poured-is : {l : List Hit} {from : ℕ} {all : Bool} {d d′ : List ℕ} {r : ℕ} → PouredIf l from all d d′ r →
+    d′ ≡ cond (lacksRoom all (length l) (length d)) d (partIn l from d)
+poured-is {l} {from} {all} {d} x = x .held ∙ ap (cond (lacksRoom all (length l) (length d)) d) (poured-part l d from)
