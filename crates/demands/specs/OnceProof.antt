@@ -1,5 +1,5 @@
--- No second answer: an equation with a definition has none, a mask is its number, the arrays of a scene are read at every place, and a table
--- of edges is up to their count. Assumes nothing.
+-- No second answer: an equation with a definition has none, a mask is its number, the arrays of a scene are read at every place, and those
+-- of edges at every place up to their count. Assumes nothing.
 use mathlib.Core.Path.{_≡_, refl, sym, ap, _∙_}
 use mathlib.Core.List.{List, [], _∷_}
 use Prim.Native.Nat.{ℕ, zero, suc, _+_, _*_, _/_, _%_, _^_, _<_}
