@@ -72,9 +72,11 @@ pub record Table : Type 0 where
   pub ends : List ℕ
   pub masks : List ℕ
 
+-- its masks have words of 64 bits
 abbrev pub WordsHeld : Table → Type 0
 WordsHeld x = (i : ℕ) → getD (x .masks) i 0 < 2 ^ 64
 
+-- these are left of A and of B by a survey of the scene s
 abbrev pub Left : List ℕ → (a b : Table) → Type 0
 Left s a b = SurveyIs (viewOf s) (a .ends) (a .masks) (b .ends) (b .masks) (record { a = a .part; b = b .part })
 

@@ -91,7 +91,7 @@ unfolding upTo
 same-run f g zero zero e = (refl, λ j h. absurd (omega arith))
 same-run f g zero (suc m) e = let h = ap length (e ∙ upTo-first (λ j. g j ∷ []) m) in absurd (omega (arith, h))
 same-run f g (suc n) zero e = let h = ap length (sym e ∙ upTo-first (λ j. f j ∷ []) n) in absurd (omega (arith, h))
-same-run {A} f g (suc n) (suc m) e =
+same-run f g (suc n) (suc m) e =
     let h : f 0 ∷ upTo (λ j. f (suc j) ∷ []) n ≡ g 0 ∷ upTo (λ j. g (suc j) ∷ []) m =
     sym (upTo-first (λ j. f j ∷ []) n) ∙ e ∙ upTo-first (λ j. g j ∷ []) m in
     let first : f 0 ≡ g 0 = cc in
