@@ -169,7 +169,16 @@ decides {r} {t} rest ok e h = ap (ltZ (pos 0)) (called ok e) ∙ lead-at t rest 
 pub passes-on : {r t : ℤ} (rest : Sign) → mag r < 2 ^ 63 → r ≡ t → ofZ w64 r ≡ 0 → sign t or rest ≡ rest
 passes-on {r} {t} rest ok e z = rw (sym (called ok e), z)
 
--- so the tie says that of four points whose c0 is zero
+-- so c0 says that of four points, unless it is zero
+pub sign-first : (row : ℕ → Row) (i j k m : ℕ) {t : ℤ} → mag t < 2 ^ 63 →
+    t ≡ c0 (pointAt row i) (pointAt row j) (pointAt row k) (pointAt row m) → (ofZ w64 t ≡ 0 → ⊥) → ltZ (pos 0) (reread t) ≡ positiveAt row i j k m
+unfolding positiveAt orientation
+sign-first row i j k m ok e h = decides _ ok e h
+
+pub zero-bits : {d : ℤ} → mag d < 2 ^ 63 → ofZ w64 d ≡ 0 → d ≡ pos 0
+zero-bits ok z = sym (called ok refl) ∙ ap (toZ w64) z
+
+-- and then the tie says it
 pub tie-tells : (row : ℕ → Row) (a b c d : ℕ) → c0 (pointAt row a) (pointAt row b) (pointAt row c) (pointAt row d) ≡ pos 0 → {r : Bool} →
     r ≡ isPlus (tied (pointAt row a) (pointAt row b) (pointAt row c) (pointAt row d)) → r ≡ positiveAt row a b c d
 unfolding positiveAt orientation

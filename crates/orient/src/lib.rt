@@ -7,7 +7,7 @@ ghost use Rattle.scene.specs.Limits.{limits, mostPoints};
 ghost use Rattle.scene.specs.Arrays.{rowIn, AllWithin};
 ghost use Rattle.orient.specs.Determinant.{det4};
 ghost use Rattle.orient.specs.Minors.{crossOf, threeOf, joinOf, meetOf};
-ghost use Rattle.orient.specs.Terms.{factor, c0, c1, c2, c3, termsOf, termsAt, isPlus, tied, positive, pointAt, positiveAt};
+ghost use Rattle.orient.specs.Terms.{factor, c0, c1, c2, c3, termsOf, termsAt, isPlus, tied, pointAt, positiveAt};
 ghost use Rattle.orient.specs.Slide.{Tells};
 ghost use Rattle.orient.specs.Weighted.{Asked};
 ghost use Rattle.orient.specs.Columns.{rowOf, partOf};
@@ -51,12 +51,26 @@ pub fn positive_at(rows: &Rows, a: usize, b: usize, c: usize, d: usize) -> bool
     requires points { ⌜ Asked (rowIn (now rows)) a b c d ⌝ }
     ensures { λ r. ⌜ r ≡ positiveAt (rowIn (now (rows .entry))) a b c d ⌝ }
 {
-    positive(
+    let t0 = term0(
         point_at(rows, a),
         point_at(rows, b),
         point_at(rows, c),
         point_at(rows, d),
-    )
+    );
+    sign_by(rows, t0, a, b, c, d)
+}
+
+// The same where c0 is known to be t0. Nothing of the shift is computed where that is not zero.
+pub fn sign_by(rows: &Rows, t0: i64, a: usize, b: usize, c: usize, d: usize) -> bool
+    requires sizes { ⌜ AllWithin limits (rowIn (now rows)) × (a ≤ mostPoints limits) × (b ≤ mostPoints limits) × (c ≤ mostPoints limits) × (d ≤ mostPoints limits) ⌝ }
+    requires points { ⌜ Asked (rowIn (now rows)) a b c d ⌝ }
+    requires first { ⌜ t0 ≡ c0 (pointAt (rowIn (now rows)) a) (pointAt (rowIn (now rows)) b) (pointAt (rowIn (now rows)) c) (pointAt (rowIn (now rows)) d) ⌝ }
+    ensures { λ r. ⌜ r ≡ positiveAt (rowIn (now (rows .entry))) a b c d ⌝ }
+{
+    if t0 != 0 {
+        return 0 < t0;
+    }
+    tied_at(rows, a, b, c, d)
 }
 
 // The same where c0 is known to be zero.
@@ -114,19 +128,7 @@ fn terms_of(a: Point, b: Point, c: Point, d: Point) -> Terms
     }
 }
 
-// Whether the sign is plus. Nothing of the shift is computed where c0 is not zero.
-fn positive(a: Point, b: Point, c: Point, d: Point) -> bool
-    requires { ⌜ AreWithin limits a b c d × Tells a b c d ⌝ }
-    ensures { λ r. ⌜ r ≡ positive a b c d ⌝ }
-{
-    let t0 = term0(a, b, c, d);
-    if t0 != 0 {
-        return 0 < t0;
-    }
-    tie(a, b, c, d)
-}
-
-// The same where c0 is zero: the first of c1, c2 and c3 that is not zero says it.
+// The sign where c0 is zero: the first of c1, c2 and c3 that is not zero says it.
 fn tie(a: Point, b: Point, c: Point, d: Point) -> bool
     requires { ⌜ AreWithin limits a b c d × Tells a b c d ⌝ }
     ensures { λ r. ⌜ r ≡ isPlus (tied a b c d) ⌝ }

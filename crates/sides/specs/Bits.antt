@@ -1,12 +1,12 @@
 -- What the code reads back of the numbers that it holds as bits, on the way to a plane and to a plane at a row. Assumes nothing.
-use mathlib.Core.Path.{_≡_, sym, subst, _∙_}
+use mathlib.Core.Path.{_≡_, sym, ap, subst, _∙_}
 use Prim.Native.Nat.{ℕ, _^_, _≤_, _<_}
 use native.Mathlib.Nat.{lt-of-le-of-lt}
 use lib.Dec.{lit<}
-use lib.IntN.{ℤ, _+ℤ_}
+use lib.IntN.{ℤ, pos, _+ℤ_}
 use lib.Signed.{mag}
 use mir.Syntax.{w64}
-use mir.Val.{SFits}
+use mir.Val.{SFits, toZ, ofZ}
 use Rattle.laws.specs.Size.{exactly, _⊗_, _⊖_, _⊕_, reread, Held, formed, called}
 use Rattle.scene.specs.declared.Row.{Row}
 use Rattle.orient.specs.Bits.{read, RowFits, crossed}
@@ -37,6 +37,11 @@ pub record LineFits (l : Line) : Type 0 where
   pub yz : SFits w64 (l .yz)
   pub yw : SFits w64 (l .yw)
   pub zw : SFits w64 (l .zw)
+
+-- a row of weight 1, written anew with that number
+pub unit-row : {r : Row} → RowFits r → ofZ w64 (r .w) ≡ 1 →
+    _≡_ {A = Row} (record { x = reread (r .x); y = reread (r .y); z = reread (r .z); w = pos 1 }) r
+unit-row f e = λ i. record { x = read (f .x) i; y = read (f .y) i; z = read (f .z) i; w = (sym (ap (toZ w64) e) ∙ read (f .w)) i }
 
 -- the two halves of `dot`, and their sum
 module _ {p t : Row} (f : RowFits p) (g : RowFits t) (h : dotSize p t ≤ mostFormed) where

@@ -1,31 +1,22 @@
 -- A sign told by a plane at a point: where that is not zero it is the sign of the four points. Assumes nothing.
-use mathlib.Core.Path.{_≡_, refl, sym, ap, subst, _∙_}
+use mathlib.Core.Path.{_≡_, sym, subst, _∙_}
 use Prim.Native.Nat.{ℕ, _^_, _<_, _≤_}
 use lib.IntN.{ℤ, pos}
 use lib.Signed.{mag, ltZ}
 use mir.Syntax.{w64}
-use mir.Val.{toZ, ofZ}
-use Rattle.laws.specs.Size.{reread, called}
+use mir.Val.{ofZ}
+use Rattle.laws.specs.Size.{reread}
 use Rattle.scene.specs.Limits.{limits}
 use Rattle.scene.specs.Arrays.{AllWithin}
 use Rattle.scene.specs.declared.Row.{Row}
 use Rattle.scene.specs.declared.Face.{Face}
-use Rattle.orient.specs.Bits.{decides}
+use Rattle.orient.specs.Bits.{sign-first, zero-bits}
 use Rattle.orient.specs.Formed.{mostFormed}
-use Rattle.orient.specs.Terms.{c0, orientation, pointAt, positiveAt}
+use Rattle.orient.specs.Terms.{c0, pointAt, positiveAt}
 use Rattle.sides.specs.Planes.{joinOf, spanOf, planeOf, planeFor, dotOf, plane-term}
 use Rattle.sides.specs.Sides.{above, Ready}
 use Rattle.sides.specs.Sizes.{SpanWithin, dotSize, span-formed, dot-formed}
 use Rattle.sides.specs.declared.planes.Line.{Line}
-
--- c0 of four points is the number t: its sign is theirs, unless it is zero
-pub sign-first : (row : ℕ → Row) (i j k m : ℕ) {t : ℤ} → mag t < 2 ^ 63 → t ≡ c0 (pointAt row i) (pointAt row j) (pointAt row k) (pointAt row m) →
-    (ofZ w64 t ≡ 0 → ⊥) → ltZ (pos 0) (reread t) ≡ positiveAt row i j k m
-unfolding positiveAt orientation
-sign-first row i j k m ok e h = decides _ ok e h
-
-pub zero-bits : {d : ℤ} → mag d < 2 ^ 63 → ofZ w64 d ≡ 0 → d ≡ pos 0
-zero-bits ok z = sym (called ok refl) ∙ ap (toZ w64) z
 
 -- the plane of points i, j and k, spanned by the line l of the first two and the row y of the third
 module _ (row : ℕ → Row) (i j k : ℕ) {l : Line} {y : Row} (p : l ≡ joinOf (row i) (row j)) (q : y ≡ row k) where

@@ -3,15 +3,14 @@ ghost use mathlib.Core.Path.{_≡_};
 ghost use Prim.Native.Nat.{_≤_};
 ghost use Rattle.scene.specs.Limits.{limits, mostPoints};
 ghost use Rattle.scene.specs.Arrays.{rowIn, AllWithin, FaceWithin};
-ghost use Rattle.orient.specs.Terms.{c0, pointAt, positiveAt};
-ghost use Rattle.orient.specs.Weighted.{Asked};
+ghost use Rattle.orient.specs.Terms.{positiveAt};
 ghost use Rattle.sides.specs.Planes.{joinOf};
 ghost use Rattle.sides.specs.Crossing.{crosses, Faced};
 use crate::planes::Line;
 use crate::planes::dot;
 use crate::planes::row_at;
 use crate::planes::span;
-use orient::tied_at;
+use orient::sign_by;
 use scene::Face;
 use scene::Rows;
 
@@ -32,17 +31,4 @@ pub fn crosses(rows: &Rows, l: Line, u: usize, v: usize, f: Face) -> bool
     }
     let pr = sign_by(rows, dot(span(l, p), r), u, v, f.p, f.r);
     qr != pr
-}
-
-// The sign of four points whose c0 is t0; where that is zero the shift tells it.
-fn sign_by(rows: &Rows, t0: i64, a: usize, b: usize, c: usize, d: usize) -> bool
-    requires sizes { ⌜ AllWithin limits (rowIn (now rows)) × (a ≤ mostPoints limits) × (b ≤ mostPoints limits) × (c ≤ mostPoints limits) × (d ≤ mostPoints limits) ⌝ }
-    requires points { ⌜ Asked (rowIn (now rows)) a b c d ⌝ }
-    requires first { ⌜ t0 ≡ c0 (pointAt (rowIn (now rows)) a) (pointAt (rowIn (now rows)) b) (pointAt (rowIn (now rows)) c) (pointAt (rowIn (now rows)) d) ⌝ }
-    ensures { λ r. ⌜ r ≡ positiveAt (rowIn (now (rows .entry))) a b c d ⌝ }
-{
-    if t0 != 0 {
-        return 0 < t0;
-    }
-    tied_at(rows, a, b, c, d)
 }

@@ -94,7 +94,8 @@ pub fn sides(
     }
 }
 
-// The same for so few faces that one word holds it.
+// The same for so few faces that one word holds it. Nearly every point has weight 1: handed on as a
+// number that the compiler knows, it spares each face a product.
 fn word(
     rows: &Rows,
     corners: &Corners,
@@ -109,6 +110,34 @@ fn word(
     ensures { λ r. ⌜ r ≡ maskBy (above (rowIn (now (rows .entry))) t) (faceIn (now (corners .entry))) first count ⌝ }
 {
     let r = row_at(rows, t);
+    if r.w == 1 {
+        let unit = Row {
+            x: r.x,
+            y: r.y,
+            z: r.z,
+            w: 1,
+        };
+        return word_at(rows, corners, planes, first, count, t, unit);
+    }
+    word_at(rows, corners, planes, first, count, t, r)
+}
+
+// The same by the row of point t.
+fn word_at(
+    rows: &Rows,
+    corners: &Corners,
+    planes: &Planes,
+    first: usize,
+    count: usize,
+    t: usize,
+    r: Row,
+) -> u64
+    requires rows { ⌜ AllWithin limits (rowIn (now rows)) × FacesWithin limits (faceIn (now corners)) ⌝ }
+    requires point { ⌜ (t ≤ mostPoints limits) × (r ≡ rowIn (now rows) t) ⌝ }
+    requires faces { ⌜ (first + count ≤ 2 * limits .mostFaces) × (count ≤ 64) ⌝ }
+    requires ready { ⌜ ReadyAll (rowIn (now rows)) (faceIn (now corners)) (rowIn (now planes)) t first count ⌝ }
+    ensures { λ o. ⌜ o ≡ maskBy (above (rowIn (now (rows .entry))) t) (faceIn (now (corners .entry))) first count ⌝ }
+{
     let mut word: u64 = 0;
     let mut k: usize = 0;
     while k < count {

@@ -1,10 +1,9 @@
--- `orient::positive_at` meets its contract: the points are the rows of the array with their numbers, within the limits, and of four different points
--- the slide tells the last sign. Assumes nothing.
+-- `orient::positive_at` meets its contract: the points are the rows of the array with their numbers, within the limits, and c0 is
+-- theirs. Assumes nothing.
 use borrow.Author.Needs.{needs}
+use Rattle.laws.specs.Size.{called}
 use Rattle.scene.specs.Limits.{limits}
-use Rattle.orient.specs.Terms.{positiveAt}
 use Rattle.orient.specs.Sizes.{points-within}
-use Rattle.orient.specs.Weighted.{slide-tells}
 use Rattle.orient.proofs.positive_at.Statement.{statement}
 use Rattle.orient.proofs.positive_at.Tie as tie
 
@@ -20,18 +19,25 @@ point-at-requires-3 c κs = search needs
 point-at-requires-4 : tie.Need-point-at-requires-4
 point-at-requires-4 c κs = search needs
 
-positive-requires : tie.Need-positive-requires
-positive-requires c κs =
+term0-requires : tie.Need-term0-requires
+term0-requires c κs =
     let d3 = c .before in
     let d2 = d3 .before in
     let d1 = d2 .before in
-    let pre = d1 .before .pre in
     rw (d1 .point-at .ensures, d2 .point-at2 .ensures, d3 .point-at3 .ensures, c .point-at4 .ensures)
-    (points-within limits _ _ _ _ _ (pre .0), slide-tells _ _ _ _ _ (pre .1))
+    (points-within limits _ _ _ _ _ (d1 .before .pre .0))
+
+sign-by-requires : tie.Need-sign-by-requires
+sign-by-requires c κs =
+    let d4 = c .before in
+    let d3 = d4 .before in
+    let d2 = d3 .before in
+    let d1 = d2 .before in
+    let e = rw (d1 .point-at .ensures, d2 .point-at2 .ensures, d3 .point-at3 .ensures, d4 .point-at4 .ensures) at (c .term0 .ensures) in
+    (d1 .before .pre .0, (d1 .before .pre .1, called (c .term0 .ok) e))
 
 returns : tie.Need-returns
-unfolding positiveAt
-returns c = cc
+returns c = search needs
 
 pub positive-at-spec : {M : Type 1} → statement M
 positive-at-spec =
@@ -41,5 +47,6 @@ positive-at-spec =
     point-at-requires-2
     point-at-requires-3
     point-at-requires-4
-    positive-requires
+    term0-requires
+    sign-by-requires
     returns)

@@ -1,11 +1,11 @@
--- c0 tells the sign, and where it is zero the tie does.
+-- `orient::sign_by` meets its contract: c0 tells the sign, and where it is zero the tie does. Assumes nothing.
 use borrow.Author.Needs.{needs}
 use denote.Ref.{now}
 use mathlib.Core.Path.{sym, _∙_}
 use Rattle.scene.specs.Arrays.{rowIn}
-use Rattle.sides.specs.Told.{sign-first, zero-bits}
-use Rattle.sides.proofs.crossing.sign_by.Statement.{statement}
-use Rattle.sides.proofs.crossing.sign_by.Tie as tie
+use Rattle.orient.specs.Bits.{sign-first, zero-bits}
+use Rattle.orient.proofs.sign_by.Statement.{statement}
+use Rattle.orient.proofs.sign_by.Tie as tie
 
 returns : tie.Need-returns
 returns c =
