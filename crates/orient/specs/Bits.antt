@@ -15,13 +15,13 @@ use Rattle.laws.specs.Size.{exactly, _⊗_, _⊖_, _⊕_, reread, reads, Held, 
 use Rattle.laws.specs.Sign.{Sign, sign, _or_}
 use Rattle.scene.specs.Limits.{limits, mostPoints}
 use Rattle.scene.specs.declared.Row.{Row}
-use Rattle.orient.specs.Terms.{factor, c0, isPlus, tied, orientation, pointAt, positiveAt}
+use Rattle.orient.specs.Terms.{factor, isPlus, tied, orientation, pointAt, c0At, positiveAt}
 use Rattle.orient.specs.Minors.{crossOf, threeOf, meetOf}
 use Rattle.orient.specs.Laws.{factor-weight}
 use Rattle.orient.specs.Columns.{partOf}
 use Rattle.orient.specs.Formed.{mostFormed, timesSize, sumSize, crossSize, threeSize, meetSize}
 use Rattle.orient.specs.Sizes.{Within, AreWithin, partSize, part-size, part-fits, factor-size}
-use Rattle.orient.specs.declared.Line.{Line}
+use Rattle.orient.specs.declared.minors.Line.{Line}
 use Rattle.orient.specs.declared.Point.{Point}
 
 room : {k : ℕ} → k ≤ mostFormed → k < 2 ^ 63
@@ -170,8 +170,8 @@ pub passes-on : {r t : ℤ} (rest : Sign) → mag r < 2 ^ 63 → r ≡ t → ofZ
 passes-on {r} {t} rest ok e z = rw (sym (called ok e), z)
 
 -- so c0 says that of four points, unless it is zero
-pub sign-first : (row : ℕ → Row) (i j k m : ℕ) {t : ℤ} → mag t < 2 ^ 63 →
-    t ≡ c0 (pointAt row i) (pointAt row j) (pointAt row k) (pointAt row m) → (ofZ w64 t ≡ 0 → ⊥) → ltZ (pos 0) (reread t) ≡ positiveAt row i j k m
+pub sign-first : (row : ℕ → Row) (i j k m : ℕ) {t : ℤ} → mag t < 2 ^ 63 → t ≡ c0At row i j k m →
+    (ofZ w64 t ≡ 0 → ⊥) → ltZ (pos 0) (reread t) ≡ positiveAt row i j k m
 unfolding positiveAt orientation
 sign-first row i j k m ok e h = decides _ ok e h
 
@@ -179,7 +179,7 @@ pub zero-bits : {d : ℤ} → mag d < 2 ^ 63 → ofZ w64 d ≡ 0 → d ≡ pos 0
 zero-bits ok z = sym (called ok refl) ∙ ap (toZ w64) z
 
 -- and then the tie says it
-pub tie-tells : (row : ℕ → Row) (a b c d : ℕ) → c0 (pointAt row a) (pointAt row b) (pointAt row c) (pointAt row d) ≡ pos 0 → {r : Bool} →
+pub tie-tells : (row : ℕ → Row) (a b c d : ℕ) → c0At row a b c d ≡ pos 0 → {r : Bool} →
     r ≡ isPlus (tied (pointAt row a) (pointAt row b) (pointAt row c) (pointAt row d)) → r ≡ positiveAt row a b c d
 unfolding positiveAt orientation
 tie-tells row a b c d z e = e ∙ sym (rw z)

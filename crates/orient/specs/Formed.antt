@@ -9,7 +9,7 @@ use Rattle.laws.specs.Size.{Small, _⊗_, _⊖_, _⊕_}
 use Rattle.scene.specs.declared.Row.{Row}
 use Rattle.orient.specs.Determinant.{det4}
 use Rattle.orient.specs.Minors.{joinOf, minors-are}
-use Rattle.orient.specs.declared.Line.{Line}
+use Rattle.orient.specs.declared.minors.Line.{Line}
 
 -- no number that is formed for a scene is larger
 abbrev pub mostFormed : ℕ

@@ -8,7 +8,7 @@ use Rattle.laws.specs.Ring.Expr.{_⊕_, _⊖_, _⊗_}
 use Rattle.scene.specs.declared.Row.{Row}
 use Rattle.orient.specs.Determinant.{Entries, det4}
 use Rattle.orient.specs.Variables.{row, rows, det}
-use Rattle.orient.specs.declared.Line.{Line}
+use Rattle.orient.specs.declared.minors.Line.{Line}
 
 module _ {R : Type 0} (_plus_ _minus_ _times_ : R → R → R) where
   infixl 6 _plus_ _minus_

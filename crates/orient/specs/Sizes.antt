@@ -26,6 +26,10 @@ pub record Within (l : Limits) (p : Point) : Type 0 where
 abbrev pub AreWithin : Limits → (a b c d : Point) → Type 0
 AreWithin l a b c d = Within l a × Within l b × Within l c × Within l d
 
+-- the rows, and four numbers by which points are asked for
+abbrev pub NumbersWithin : Limits → (ℕ → Row) → (a b c d : ℕ) → Type 0
+NumbersWithin l row a b c d = AllWithin l row × (a ≤ mostPoints l) × (b ≤ mostPoints l) × (c ≤ mostPoints l) × (d ≤ mostPoints l)
+
 -- the factor may be 1 where the weight is 0
 pub factor-size : {m : ℕ} {w : ℤ} → 1 ≤ m → Small m w → Small m (factor w)
 factor-size {w = pos zero} one h = record { size = one }
@@ -194,8 +198,7 @@ part-formed sx sy sz v = det-below (part-fits sx sy sz) (part-within limits (lit
 point-within : (l : Limits) (row : ℕ → Row) (i : ℕ) → RowWithin l (row i) → i ≤ mostPoints l → Within l (pointAt row i)
 point-within l row i h k = omega arith
 
-pub points-within : (l : Limits) (row : ℕ → Row) (a b c d : ℕ) →
-    AllWithin l row × (a ≤ mostPoints l) × (b ≤ mostPoints l) × (c ≤ mostPoints l) × (d ≤ mostPoints l) →
+pub points-within : (l : Limits) (row : ℕ → Row) (a b c d : ℕ) → NumbersWithin l row a b c d →
     AreWithin l (pointAt row a) (pointAt row b) (pointAt row c) (pointAt row d)
 points-within l row a b c d h = (
   point-within l row a (h .0 a) (h .1),

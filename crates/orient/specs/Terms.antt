@@ -112,6 +112,9 @@ positive a b c d = isPlus (orientation a b c d)
 abbrev pub pointAt : (ℕ → Row) → ℕ → Point
 pointAt row i = let r = row i in record { x = r .x; y = r .y; z = r .z; w = r .w; n = pos i }
 
+abbrev pub c0At : (ℕ → Row) → (a b c d : ℕ) → ℤ
+c0At row a b c d = c0 (pointAt row a) (pointAt row b) (pointAt row c) (pointAt row d)
+
 unfoldable pub positiveAt : (ℕ → Row) → (a b c d : ℕ) → Bool
 positiveAt row a b c d = positive (pointAt row a) (pointAt row b) (pointAt row c) (pointAt row d)
 

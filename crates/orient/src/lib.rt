@@ -2,20 +2,21 @@
 ghost use mathlib.Core.Path.{_≡_};
 ghost use mathlib.Core.Bool.{true, false, cond};
 ghost use Prim.Native.Nat.{_≤_};
-ghost use lib.IntN.{pos, _+ℤ_, _*ℤ_};
+ghost use lib.IntN.{pos};
 ghost use Rattle.scene.specs.Limits.{limits, mostPoints};
-ghost use Rattle.scene.specs.Arrays.{rowIn, AllWithin};
-ghost use Rattle.orient.specs.Determinant.{det4};
-ghost use Rattle.orient.specs.Minors.{crossOf, threeOf, joinOf, meetOf};
-ghost use Rattle.orient.specs.Terms.{factor, c0, c1, c2, c3, termsOf, termsAt, isPlus, tied, pointAt, positiveAt};
+ghost use Rattle.scene.specs.Arrays.{rowIn};
+ghost use Rattle.orient.specs.Terms.{factor, c0, c1, c2, c3, termsOf, termsAt, isPlus, tied, pointAt, c0At, positiveAt};
 ghost use Rattle.orient.specs.Slide.{Tells};
 ghost use Rattle.orient.specs.Weighted.{Asked};
 ghost use Rattle.orient.specs.Columns.{rowOf, partOf};
-ghost use Rattle.orient.specs.Formed.{mostFormed, timesSize, sumSize, crossSize, threeSize, meetSize, JoinWithin, DetWithin};
-ghost use Rattle.orient.specs.Sizes.{Within, AreWithin};
+ghost use Rattle.orient.specs.Sizes.{Within, AreWithin, NumbersWithin};
+use crate::minors::det;
+use crate::minors::sum;
+use crate::minors::times;
 use scene::Row;
 use scene::Rows;
 
+mod minors;
 mod slide;
 
 // The four terms.
@@ -35,19 +36,9 @@ struct Point {
     n: i64,
 }
 
-// The six 2×2 minors of two rows.
-struct Line {
-    xy: i64,
-    xz: i64,
-    xw: i64,
-    yz: i64,
-    yw: i64,
-    zw: i64,
-}
-
 // Whether the sign of points a, b, c, d, in this order, is plus.
 pub fn positive_at(rows: &Rows, a: usize, b: usize, c: usize, d: usize) -> bool
-    requires sizes { ⌜ AllWithin limits (rowIn (now rows)) × (a ≤ mostPoints limits) × (b ≤ mostPoints limits) × (c ≤ mostPoints limits) × (d ≤ mostPoints limits) ⌝ }
+    requires sizes { ⌜ NumbersWithin limits (rowIn (now rows)) a b c d ⌝ }
     requires points { ⌜ Asked (rowIn (now rows)) a b c d ⌝ }
     ensures { λ r. ⌜ r ≡ positiveAt (rowIn (now (rows .entry))) a b c d ⌝ }
 {
@@ -62,9 +53,9 @@ pub fn positive_at(rows: &Rows, a: usize, b: usize, c: usize, d: usize) -> bool
 
 // The same where c0 is known to be t0. Nothing of the shift is computed where that is not zero.
 pub fn sign_by(rows: &Rows, t0: i64, a: usize, b: usize, c: usize, d: usize) -> bool
-    requires sizes { ⌜ AllWithin limits (rowIn (now rows)) × (a ≤ mostPoints limits) × (b ≤ mostPoints limits) × (c ≤ mostPoints limits) × (d ≤ mostPoints limits) ⌝ }
+    requires sizes { ⌜ NumbersWithin limits (rowIn (now rows)) a b c d ⌝ }
     requires points { ⌜ Asked (rowIn (now rows)) a b c d ⌝ }
-    requires first { ⌜ t0 ≡ c0 (pointAt (rowIn (now rows)) a) (pointAt (rowIn (now rows)) b) (pointAt (rowIn (now rows)) c) (pointAt (rowIn (now rows)) d) ⌝ }
+    requires first { ⌜ t0 ≡ c0At (rowIn (now rows)) a b c d ⌝ }
     ensures { λ r. ⌜ r ≡ positiveAt (rowIn (now (rows .entry))) a b c d ⌝ }
 {
     if t0 != 0 {
@@ -75,9 +66,9 @@ pub fn sign_by(rows: &Rows, t0: i64, a: usize, b: usize, c: usize, d: usize) -> 
 
 // The same where c0 is known to be zero.
 pub fn tied_at(rows: &Rows, a: usize, b: usize, c: usize, d: usize) -> bool
-    requires sizes { ⌜ AllWithin limits (rowIn (now rows)) × (a ≤ mostPoints limits) × (b ≤ mostPoints limits) × (c ≤ mostPoints limits) × (d ≤ mostPoints limits) ⌝ }
+    requires sizes { ⌜ NumbersWithin limits (rowIn (now rows)) a b c d ⌝ }
     requires points { ⌜ Asked (rowIn (now rows)) a b c d ⌝ }
-    requires tied { ⌜ c0 (pointAt (rowIn (now rows)) a) (pointAt (rowIn (now rows)) b) (pointAt (rowIn (now rows)) c) (pointAt (rowIn (now rows)) d) ≡ pos 0 ⌝ }
+    requires tied { ⌜ c0At (rowIn (now rows)) a b c d ≡ pos 0 ⌝ }
     ensures { λ r. ⌜ r ≡ positiveAt (rowIn (now (rows .entry))) a b c d ⌝ }
 {
     tie(
@@ -90,7 +81,7 @@ pub fn tied_at(rows: &Rows, a: usize, b: usize, c: usize, d: usize) -> bool
 
 // Their four terms.
 pub fn terms_at(rows: &Rows, a: usize, b: usize, c: usize, d: usize) -> Terms
-    requires { ⌜ AllWithin limits (rowIn (now rows)) × (a ≤ mostPoints limits) × (b ≤ mostPoints limits) × (c ≤ mostPoints limits) × (d ≤ mostPoints limits) ⌝ }
+    requires { ⌜ NumbersWithin limits (rowIn (now rows)) a b c d ⌝ }
     ensures { λ r. ⌜ r ≡ termsAt (rowIn (now (rows .entry))) a b c d ⌝ }
 {
     terms_of(
@@ -236,73 +227,4 @@ fn pick(marked: bool, a: i64, b: i64) -> i64
     ensures { λ r. ⌜ r ≡ cond marked a b ⌝ }
 {
     if marked { a } else { b }
-}
-
-// The determinant of four rows, from the minors of the first two and of the last two.
-fn det(a: Row, b: Row, c: Row, d: Row) -> i64
-    requires { ⌜ DetWithin mostFormed a b c d ⌝ }
-    ensures { λ r. ⌜ r ≡ det4 a b c d ⌝ }
-{
-    meet(join(a, b), join(c, d))
-}
-
-fn join(a: Row, b: Row) -> Line
-    requires { ⌜ JoinWithin mostFormed a b ⌝ }
-    ensures { λ r. ⌜ r ≡ joinOf a b ⌝ }
-{
-    let ax = a.x;
-    let ay = a.y;
-    let az = a.z;
-    let aw = a.w;
-    let bx = b.x;
-    let by = b.y;
-    let bz = b.z;
-    let bw = b.w;
-    Line {
-        xy: cross(ax, ay, bx, by),
-        xz: cross(ax, az, bx, bz),
-        xw: cross(ax, aw, bx, bw),
-        yz: cross(ay, az, by, bz),
-        yw: cross(ay, aw, by, bw),
-        zw: cross(az, aw, bz, bw),
-    }
-}
-
-fn meet(l: Line, m: Line) -> i64
-    requires { ⌜ meetSize l m ≤ mostFormed ⌝ }
-    ensures { λ r. ⌜ r ≡ meetOf l m ⌝ }
-{
-    three(l.xy, m.zw, l.xz, m.yw, l.xw, m.yz) + three(l.yz, m.xw, l.yw, m.xz, l.zw, m.xy)
-}
-
-// One minor.
-fn cross(a: i64, b: i64, c: i64, d: i64) -> i64
-    requires { ⌜ crossSize a b c d ≤ mostFormed ⌝ }
-    ensures { λ r. ⌜ r ≡ crossOf a b c d ⌝ }
-{
-    a * d - b * c
-}
-
-// Three products, the middle one with a minus.
-fn three(a: i64, b: i64, c: i64, d: i64, e: i64, f: i64) -> i64
-    requires { ⌜ threeSize a b c d e f ≤ mostFormed ⌝ }
-    ensures { λ r. ⌜ r ≡ threeOf a b c d e f ⌝ }
-{
-    a * b - c * d + e * f
-}
-
-// Two numbers multiplied.
-fn times(a: i64, b: i64) -> i64
-    requires { ⌜ timesSize a b ≤ mostFormed ⌝ }
-    ensures { λ r. ⌜ r ≡ a *ℤ b ⌝ }
-{
-    a * b
-}
-
-// Three numbers added.
-fn sum(a: i64, b: i64, c: i64) -> i64
-    requires { ⌜ sumSize a b c ≤ mostFormed ⌝ }
-    ensures { λ r. ⌜ r ≡ a +ℤ b +ℤ c ⌝ }
-{
-    a + b + c
 }

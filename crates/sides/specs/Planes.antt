@@ -11,7 +11,7 @@ use Rattle.scene.specs.declared.Face.{Face}
 use Rattle.orient.specs.Determinant.{Entries, det4}
 use Rattle.orient.specs.Columns.{partOf, c0-parts}
 use Rattle.orient.specs.Minors.{crossOf, threeOf}
-use Rattle.orient.specs.Terms.{c0, pointAt}
+use Rattle.orient.specs.Terms.{pointAt, c0At}
 use Rattle.orient.specs.Variables.{row, rows, det}
 use Rattle.sides.specs.declared.planes.Line.{Line}
 
@@ -77,7 +77,7 @@ plane-dot a b c d =
 
 -- so it is the first term of four points
 pub plane-term : (row : ℕ → Row) (i j k m : ℕ) →
-    dotOf (planeOf (row i) (row j) (row k)) (row m) ≡ c0 (pointAt row i) (pointAt row j) (pointAt row k) (pointAt row m)
+    dotOf (planeOf (row i) (row j) (row k)) (row m) ≡ c0At row i j k m
 unfolding partOf
 plane-term row i j k m = plane-dot (row i) (row j) (row k) (row m) ∙ sym (c0-parts (pointAt row i) (pointAt row j) (pointAt row k)
     (pointAt row m))

@@ -12,7 +12,7 @@ use Rattle.scene.specs.declared.Row.{Row}
 use Rattle.scene.specs.declared.Face.{Face}
 use Rattle.orient.specs.Bits.{sign-first, zero-bits}
 use Rattle.orient.specs.Formed.{mostFormed}
-use Rattle.orient.specs.Terms.{c0, pointAt, positiveAt}
+use Rattle.orient.specs.Terms.{c0At, positiveAt}
 use Rattle.sides.specs.Planes.{joinOf, spanOf, planeOf, planeFor, dotOf, plane-term}
 use Rattle.sides.specs.Sides.{above, Ready}
 use Rattle.sides.specs.Sizes.{SpanWithin, dotSize, span-formed, dot-formed}
@@ -34,7 +34,7 @@ module _ (row : ℕ → Row) (i j k m : ℕ) {x y : Row} (p : x ≡ planeOf (row
   pub dot-asked : AllWithin limits row → dotSize x y ≤ mostFormed
   dot-asked h = subst (λ (s : ℕ). s ≤ mostFormed) (λ o. dotSize (sym p o) (sym q o)) (dot-formed (h i) (h j) (h k) (h m))
 
-  pub dot-term : {d : ℤ} → d ≡ dotOf x y → d ≡ c0 (pointAt row i) (pointAt row j) (pointAt row k) (pointAt row m)
+  pub dot-term : {d : ℤ} → d ≡ dotOf x y → d ≡ c0At row i j k m
   dot-term e = e ∙ (λ o. dotOf (p o) (q o)) ∙ plane-term row i j k m
 
   pub sign-told : {d : ℤ} → mag d < 2 ^ 63 → d ≡ dotOf x y → (ofZ w64 d ≡ 0 → ⊥) → ltZ (pos 0) (reread d) ≡ positiveAt row i j k m
@@ -42,7 +42,7 @@ module _ (row : ℕ → Row) (i j k m : ℕ) {x y : Row} (p : x ≡ planeOf (row
 
 -- the face's plane has the point
 abbrev pub InPlane : (ℕ → Row) → Face → ℕ → Type 0
-InPlane row f t = c0 (pointAt row (f .p)) (pointAt row (f .q)) (pointAt row (f .r)) (pointAt row t) ≡ pos 0
+InPlane row f t = c0At row (f .p) (f .q) (f .r) t ≡ pos 0
 
 -- the same for a face whose plane is in the table, and a point
 module _ (row : ℕ → Row) (face : ℕ → Face) (plane : ℕ → Row) (t k : ℕ) {x y : Row} (ready : Ready row face plane t k) (p : x ≡ plane k)

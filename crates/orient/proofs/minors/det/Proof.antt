@@ -1,10 +1,10 @@
--- `orient::det` meets its contract: the minors give the expansion along the first row. Assumes nothing.
+-- `orient::minors::det` meets its contract: the minors give the expansion along the first row. Assumes nothing.
 use borrow.Author.Needs.{needs}
 use mathlib.Core.Path.{_∙_}
 use Rattle.laws.specs.Size.{called}
 use Rattle.orient.specs.Minors.{meetOf, minors-are}
-use Rattle.orient.proofs.det.Statement.{statement}
-use Rattle.orient.proofs.det.Tie as tie
+use Rattle.orient.proofs.minors.det.Statement.{statement}
+use Rattle.orient.proofs.minors.det.Tie as tie
 
 join-requires : tie.Need-join-requires
 join-requires c κs = search needs

@@ -1,8 +1,8 @@
--- `orient::join` meets its contract: each minor asks for no more than the rows promise. Assumes nothing.
+-- `orient::minors::join` meets its contract: each minor asks for no more than the rows promise. Assumes nothing.
 use borrow.Author.Needs.{needs}
 use Rattle.orient.specs.Bits.{RowFits, cross-ask, crossed}
-use Rattle.orient.proofs.join.Statement.{statement}
-use Rattle.orient.proofs.join.Tie as tie
+use Rattle.orient.proofs.minors.join.Statement.{statement}
+use Rattle.orient.proofs.minors.join.Tie as tie
 
 a-fits : (c : tie.Start) → RowFits (c .args .a)
 a-fits c = search needs

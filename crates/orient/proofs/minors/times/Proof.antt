@@ -1,8 +1,8 @@
--- `orient::times` meets its contract: the product has the size that is allowed. Assumes nothing.
+-- `orient::minors::times` meets its contract: the product has the size that is allowed. Assumes nothing.
 use native.Mathlib.Omega.{arith}
 use Rattle.laws.specs.Size.{fit, kept, var, times}
-use Rattle.orient.proofs.times.Statement.{statement}
-use Rattle.orient.proofs.times.Tie as tie
+use Rattle.orient.proofs.minors.times.Statement.{statement}
+use Rattle.orient.proofs.minors.times.Tie as tie
 
 mul-result : tie.Need-mul-result
 mul-result c = fit (times (var (c .fits .a)) (var (c .fits .b)) (omega arith))

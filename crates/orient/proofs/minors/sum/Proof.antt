@@ -1,8 +1,8 @@
--- `orient::sum` meets its contract: both sums are at most the sizes together. Assumes nothing.
+-- `orient::minors::sum` meets its contract: both sums are at most the sizes together. Assumes nothing.
 use native.Mathlib.Omega.{arith}
 use Rattle.laws.specs.Size.{fit, kept, var, plus}
-use Rattle.orient.proofs.sum.Statement.{statement}
-use Rattle.orient.proofs.sum.Tie as tie
+use Rattle.orient.proofs.minors.sum.Statement.{statement}
+use Rattle.orient.proofs.minors.sum.Tie as tie
 
 add-result : tie.Need-add-result
 add-result c = fit (plus (var (c .fits .a)) (var (c .fits .b)) (omega arith))

@@ -1,8 +1,8 @@
--- `orient::three` meets its contract: each number formed on the way is at most the sum of the products' sizes. Assumes nothing.
+-- `orient::minors::three` meets its contract: each number formed on the way is at most the sum of the products' sizes. Assumes nothing.
 use native.Mathlib.Omega.{arith}
 use Rattle.laws.specs.Size.{fit, kept, var, times, less, plus}
-use Rattle.orient.proofs.three.Statement.{statement}
-use Rattle.orient.proofs.three.Tie as tie
+use Rattle.orient.proofs.minors.three.Statement.{statement}
+use Rattle.orient.proofs.minors.three.Tie as tie
 
 mul-result : tie.Need-mul-result
 mul-result c = fit (times (var (c .fits .a)) (var (c .fits .b)) (omega arith))

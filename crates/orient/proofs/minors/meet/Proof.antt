@@ -1,9 +1,9 @@
--- `orient::meet` meets its contract: the six products are formed three by three. Assumes nothing.
+-- `orient::minors::meet` meets its contract: the six products are formed three by three. Assumes nothing.
 use borrow.Author.Needs.{needs}
 use Rattle.laws.specs.Size.{fit, kept}
 use Rattle.orient.specs.Bits.{LineFits, ask-one, ask-two, met}
-use Rattle.orient.proofs.meet.Statement.{statement}
-use Rattle.orient.proofs.meet.Tie as tie
+use Rattle.orient.proofs.minors.meet.Statement.{statement}
+use Rattle.orient.proofs.minors.meet.Tie as tie
 
 l-fits : (c : tie.Start) → LineFits (c .args .l)
 l-fits c = search needs

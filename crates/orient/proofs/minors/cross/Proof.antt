@@ -1,8 +1,8 @@
--- `orient::cross` meets its contract: each product and their difference are at most the sum of the products' sizes. Assumes nothing.
+-- `orient::minors::cross` meets its contract: each product and their difference are at most the sum of the products' sizes. Assumes nothing.
 use native.Mathlib.Omega.{arith}
 use Rattle.laws.specs.Size.{fit, kept, var, times, less}
-use Rattle.orient.proofs.cross.Statement.{statement}
-use Rattle.orient.proofs.cross.Tie as tie
+use Rattle.orient.proofs.minors.cross.Statement.{statement}
+use Rattle.orient.proofs.minors.cross.Tie as tie
 
 mul-result : tie.Need-mul-result
 mul-result c = fit (times (var (c .fits .a)) (var (c .fits .d)) (omega arith))
