@@ -24,7 +24,7 @@ use Rattle.orient.specs.Sizes.{Within, AreWithin, partSize, part-size, p
 use Rattle.orient.specs.declared.minors.Line.{Line}
 use Rattle.orient.specs.declared.Point.{Point}
 
-room : {k : ℕ} → k ≤ mostFormed → k < 2 ^ 63
+pub room : {k : ℕ} → k ≤ mostFormed → k < 2 ^ 63
 room h = lt-of-le-of-lt h (lit< tt)
 
 pub read : {z : ℤ} → SFits w64 z → reread z ≡ z
@@ -47,6 +47,20 @@ module _ {a b c d : ℤ} (p : SFits w64 a) (q : SFits w64 b) (s : SFits w64 c) (
 
   pub crossed : {r : ℤ} → mag r < 2 ^ 63 → r ≡ crossOf (reread a) (reread b) (reread c) (reread d) → reread r ≡ crossOf a b c d
   crossed ok e = called ok (e ∙ four-read crossOf)
+
+-- ---- a row and three minors, handed on to `three`
+
+module _ {p q r : Row} (f : RowFits p) (g : RowFits q) (h : RowFits r) where
+  pub triple-read : {x y z : ℤ} {X : Type 0} (F : ℤ → ℤ → ℤ → ℤ → ℤ → ℤ → X) →
+      mag x < 2 ^ 63 → x ≡ crossOf (reread (q .y)) (reread (q .z)) (reread (r .y)) (reread (r .z)) →
+      mag y < 2 ^ 63 → y ≡ crossOf (reread (q .x)) (reread (q .z)) (reread (r .x)) (reread (r .z)) →
+      mag z < 2 ^ 63 → z ≡ crossOf (reread (q .x)) (reread (q .y)) (reread (r .x)) (reread (r .y)) →
+      F (reread (p .x)) (reread x) (reread (p .y)) (reread y) (reread (p .z)) (reread z)
+      ≡ F (p .x) (crossOf (q .y) (q .z) (r .y) (r .z)) (p .y) (crossOf (q .x) (q .z) (r .x) (r .z)) (p .z)
+      (crossOf (q .x) (q .y) (r .x) (r .y))
+  triple-read F xo xe yo ye zo ze i =
+      F (read (f .x) i) (crossed (g .y) (g .z) (h .y) (h .z) xo xe i) (read (f .y) i) (crossed (g .x) (g .z) (h .x) (h .z) yo ye i)
+      (read (f .z) i) (crossed (g .x) (g .y) (h .x) (h .y) zo ze i)
 
 -- ---- the fields of two lines, six at a time to `three`
 

@@ -8,7 +8,7 @@ use lib.IntN.{ℤ, natAbs}
 use Rattle.laws.specs.Size.{Small, _⊗_, _⊖_, _⊕_}
 use Rattle.scene.specs.declared.Row.{Row}
 use Rattle.orient.specs.Determinant.{det4}
-use Rattle.orient.specs.Minors.{joinOf, minors-are}
+use Rattle.orient.specs.Minors.{crossOf, joinOf, minors-are}
 use Rattle.orient.specs.declared.minors.Line.{Line}
 
 -- no number that is formed for a scene is larger
@@ -46,6 +46,28 @@ pub record DetWithin (k : ℕ) (a b c d : Row) : Type 0 where
   pub last : JoinWithin k c d
   pub whole : meetSize (joinOf a b) (joinOf c d) ≤ k
 
+-- and on the way to the determinant of three rows without their weights
+pub record TripleWithin (k : ℕ) (p q r : Row) : Type 0 where
+  pub x : crossSize (q .y) (q .z) (r .y) (r .z) ≤ k
+  pub y : crossSize (q .x) (q .z) (r .x) (r .z) ≤ k
+  pub z : crossSize (q .x) (q .y) (r .x) (r .y) ≤ k
+  pub whole : threeSize (p .x) (crossOf (q .y) (q .z) (r .y) (r .z)) (p .y) (crossOf (q .x) (q .z) (r .x) (r .z)) (p .z)
+      (crossOf (q .x) (q .y) (r .x) (r .y)) ≤ k
+
+-- and on the way from one row to another
+pub record LessWithin (k : ℕ) (a b : Row) : Type 0 where
+  pub x : natAbs (a .x) + natAbs (b .x) ≤ k
+  pub y : natAbs (a .y) + natAbs (b .y) ≤ k
+  pub z : natAbs (a .z) + natAbs (b .z) ≤ k
+
+pub cross-size : {A B C D : ℕ} {a b c d : ℤ} → Small A a → Small B b → Small C c → Small D d → crossSize a b c d ≤ A * D + B * C
+cross-size p q r s = add-le-add (mul-le-mul (p .size) (s .size)) (mul-le-mul (q .size) (r .size))
+
+pub three-size : {A B C D E F : ℕ} {a b c d e f : ℤ} → Small A a → Small B b → Small C c → Small D d → Small E e → Small F f →
+    threeSize a b c d e f ≤ A * B + C * D + E * F
+three-size p q r s t u = add-le-add (add-le-add (mul-le-mul (p .size) (q .size)) (mul-le-mul (r .size) (s .size)))
+    (mul-le-mul (t .size) (u .size))
+
 -- ---- a determinant
 
 -- a row whose entries are at most X, Y, Z, W
@@ -65,9 +87,6 @@ pub record Some (X Y Z W : ℕ) : Type 0 where
 two-of-four : (A B C D : ℕ) → 1 ≤ C → 1 ≤ D → A * B + B * A ≤ 24 * (A * B * C * D)
 two-of-four A B C D c d =
     let h : A * B * 1 ≤ A * B * (C * D) = mul-le-mul-left (A * B) (mul-le-mul c d) in omega arith
-
-cross-size : {A B : ℕ} {a b c d : ℤ} → Small A a → Small B b → Small A c → Small B d → crossSize a b c d ≤ A * B + B * A
-cross-size p q r s = add-le-add (mul-le-mul (p .size) (s .size)) (mul-le-mul (q .size) (r .size))
 
 record LineSize (X Y Z W : ℕ) (l : Line) : Type 0 where
   xy : Small (X * Y + Y * X) (l .xy)
@@ -113,9 +132,7 @@ module _ (X Y Z W : ℕ) where
 
   meet-within : {l m : Line} → LineSize X Y Z W l → LineSize X Y Z W m → meetSize l m ≤ products
   meet-within p q =
-      add-le-add
-      (add-le-add (add-le-add (mul-le-mul (p .xy .size) (q .zw .size)) (mul-le-mul (p .xz .size) (q .yw .size))) (mul-le-mul (p .xw .size) (q .yz .size)))
-      (add-le-add (add-le-add (mul-le-mul (p .yz .size) (q .xw .size)) (mul-le-mul (p .yw .size) (q .xz .size))) (mul-le-mul (p .zw .size) (q .xy .size)))
+      add-le-add (three-size (p .xy) (q .zw) (p .xz) (q .yw) (p .xw) (q .yz)) (three-size (p .yz) (q .xw) (p .yw) (q .xz) (p .zw) (q .xy))
 
   module _ {a b c d : Row} (p : RowSize X Y Z W a) (q : RowSize X Y Z W b) (r : RowSize X Y Z W c) (s : RowSize X Y Z W d) where
     pub det-within : Some X Y Z W → DetWithin detSize a b c d

@@ -3,9 +3,11 @@ pub mod Terms
 pub mod Variables
 pub mod Minors
 pub mod Columns
+pub mod Ones
 pub mod Formed
 pub mod Sizes
 pub mod Bits
+pub mod OnesSizes
 pub mod Laws
 pub mod Whole
 pub mod Signs

@@ -2,11 +2,11 @@
 -- Assumes nothing.
 use mathlib.Core.Path.{_≡_}
 use mathlib.Core.List.{[], _∷_}
-use lib.IntN.{ℤ, _+ℤ_, _-ℤ_, _*ℤ_}
+use lib.IntN.{ℤ, pos, _+ℤ_, _-ℤ_, _*ℤ_}
 use Rattle.laws.specs.Ring.{ring}
 use Rattle.laws.specs.Ring.Expr.{_⊕_, _⊖_, _⊗_}
 use Rattle.scene.specs.declared.Row.{Row}
-use Rattle.orient.specs.Determinant.{Entries, det4}
+use Rattle.orient.specs.Determinant.{Entries, entries, det4}
 use Rattle.orient.specs.Variables.{row, rows, det}
 use Rattle.orient.specs.declared.minors.Line.{Line}
 
@@ -30,6 +30,14 @@ module _ {R : Type 0} (_plus_ _minus_ _times_ : R → R → R) where
       (cross-of (a .y) (a .w) (b .y) (b .w)) (cross-of (c .x) (c .z) (d .x) (d .z))
       (cross-of (a .z) (a .w) (b .z) (b .w)) (cross-of (c .x) (c .y) (d .x) (d .y))
 
+  -- of three rows, their weights left out
+  abbrev pub triple-of : Entries R → Entries R → Entries R → R
+  triple-of p q r =
+      three-of
+      (p .x) (cross-of (q .y) (q .z) (r .y) (r .z))
+      (p .y) (cross-of (q .x) (q .z) (r .x) (r .z))
+      (p .z) (cross-of (q .x) (q .y) (r .x) (r .y))
+
 abbrev pub crossOf : ℤ → ℤ → ℤ → ℤ → ℤ
 crossOf = cross-of _+ℤ_ _-ℤ_ _*ℤ_
 
@@ -51,6 +59,14 @@ joinOf a b =
 -- the minors of the first two rows with those of the last two
 abbrev pub meetOf : Line → Line → ℤ
 meetOf l m = threeOf (l .xy) (m .zw) (l .xz) (m .yw) (l .xw) (m .yz) +ℤ threeOf (l .yz) (m .xw) (l .yw) (m .xz) (l .zw) (m .xy)
+
+-- of three rows, their weights left out
+abbrev pub tripleOf : Row → Row → Row → ℤ
+tripleOf p q r = triple-of _+ℤ_ _-ℤ_ _*ℤ_ (entries p) (entries q) (entries r)
+
+-- the row a seen from b, a direction
+abbrev pub lessOf : Row → Row → Row
+lessOf a b = record { x = a .x -ℤ b .x; y = a .y -ℤ b .y; z = a .z -ℤ b .z; w = pos 0 }
 
 pub minors-are : (a b c d : Row) → meetOf (joinOf a b) (joinOf c d) ≡ det4 a b c d
 unfolding det4

@@ -86,13 +86,13 @@ module _ (l : Limits) where
   n = mostPoints l
 
   -- of a column, with the shift for the coordinate where it is marked
-  abbrev X : Bool → ℕ
+  abbrev pub X : Bool → ℕ
   X s = cond s (W * n) C
 
-  abbrev Y : Bool → ℕ
+  abbrev pub Y : Bool → ℕ
   Y s = cond s (W * n * n) C
 
-  abbrev Z : Bool → ℕ
+  abbrev pub Z : Bool → ℕ
   Z s = cond s (W * n * n * n) C
 
   abbrev pub partSize : Bool → Bool → Bool → ℕ
@@ -122,7 +122,7 @@ module _ (l : Limits) where
   of-size3 : partSize true true true ≡ size3
   of-size3 = powers3 C W n
 
-  row-size : {p : Point} (sx sy sz : Bool) → 1 ≤ W → Within l p → RowSize (X sx) (Y sy) (Z sz) W (rowOf p sx sy sz)
+  pub row-size : {p : Point} (sx sy sz : Bool) → 1 ≤ W → Within l p → RowSize (X sx) (Y sy) (Z sz) W (rowOf p sx sy sz)
   row-size sx sy sz hw v =
       let k = factor-size hw (v .w) in
       record {

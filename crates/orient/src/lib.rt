@@ -17,6 +17,7 @@ use scene::Row;
 use scene::Rows;
 
 mod minors;
+mod ones;
 mod slide;
 
 // The four terms.
@@ -143,11 +144,14 @@ fn term0(a: Point, b: Point, c: Point, d: Point) -> i64
     det(row(a), row(b), row(c), row(d))
 }
 
-// c1: the shift stands for one coordinate, each in turn.
+// c1: the shift stands for one coordinate, each in turn. Points of weight 1, nearly all, have a shorter way.
 fn term1(a: Point, b: Point, c: Point, d: Point) -> i64
     requires { ⌜ AreWithin limits a b c d ⌝ }
     ensures { λ r. ⌜ r ≡ c1 a b c d ⌝ }
 {
+    if ones::are_ones(a, b, c, d) {
+        return ones::term1(a, b, c, d);
+    }
     sum(
         part(a, b, c, d, true, false, false),
         part(a, b, c, d, false, true, false),
@@ -160,6 +164,9 @@ fn term2(a: Point, b: Point, c: Point, d: Point) -> i64
     requires { ⌜ AreWithin limits a b c d ⌝ }
     ensures { λ r. ⌜ r ≡ c2 a b c d ⌝ }
 {
+    if ones::are_ones(a, b, c, d) {
+        return ones::term2(a, b, c, d);
+    }
     sum(
         part(a, b, c, d, true, true, false),
         part(a, b, c, d, true, false, true),

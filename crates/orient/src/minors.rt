@@ -1,10 +1,11 @@
-// The determinant of four rows, from 2×2 minors, and the products and sums that numbers of a scene are made of: none is larger than `mostFormed`.
+// Determinants from 2×2 minors, and the products and sums that they are made of: no number that is formed is larger than `mostFormed`.
 ghost use mathlib.Core.Path.{_≡_};
 ghost use Prim.Native.Nat.{_≤_};
 ghost use lib.IntN.{_+ℤ_, _*ℤ_};
 ghost use Rattle.orient.specs.Determinant.{det4};
-ghost use Rattle.orient.specs.Minors.{crossOf, threeOf, joinOf, meetOf};
-ghost use Rattle.orient.specs.Formed.{mostFormed, timesSize, sumSize, crossSize, threeSize, meetSize, JoinWithin, DetWithin};
+ghost use Rattle.orient.specs.Minors.{crossOf, threeOf, tripleOf, lessOf, joinOf, meetOf};
+ghost use Rattle.orient.specs.Formed.{mostFormed, timesSize, sumSize, crossSize, threeSize, meetSize};
+ghost use Rattle.orient.specs.Formed.{JoinWithin, DetWithin, TripleWithin, LessWithin};
 use scene::Row;
 
 // The six 2×2 minors of two rows.
@@ -54,6 +55,17 @@ fn meet(l: Line, m: Line) -> i64
     three(l.xy, m.zw, l.xz, m.yw, l.xw, m.yz) + three(l.yz, m.xw, l.yw, m.xz, l.zw, m.xy)
 }
 
+// The determinant of three rows, their weights left out.
+pub fn triple(p: Row, q: Row, r: Row) -> i64
+    requires { ⌜ TripleWithin mostFormed p q r ⌝ }
+    ensures { λ o. ⌜ o ≡ tripleOf p q r ⌝ }
+{
+    let x = cross(q.y, q.z, r.y, r.z);
+    let y = cross(q.x, q.z, r.x, r.z);
+    let z = cross(q.x, q.y, r.x, r.y);
+    three(p.x, x, p.y, y, p.z, z)
+}
+
 // One minor.
 fn cross(a: i64, b: i64, c: i64, d: i64) -> i64
     requires { ⌜ crossSize a b c d ≤ mostFormed ⌝ }
@@ -68,6 +80,19 @@ fn three(a: i64, b: i64, c: i64, d: i64, e: i64, f: i64) -> i64
     ensures { λ r. ⌜ r ≡ threeOf a b c d e f ⌝ }
 {
     a * b - c * d + e * f
+}
+
+// From one row to another, a direction: its weight is 0.
+pub fn less(a: Row, b: Row) -> Row
+    requires { ⌜ LessWithin mostFormed a b ⌝ }
+    ensures { λ r. ⌜ r ≡ lessOf a b ⌝ }
+{
+    Row {
+        x: a.x - b.x,
+        y: a.y - b.y,
+        z: a.z - b.z,
+        w: 0,
+    }
 }
 
 // Two numbers multiplied.

@@ -1,15 +1,14 @@
 -- How large the numbers are that lines and planes are formed from: with coordinates up to C and weights up to W, a plane's coefficients are
 -- at most 6·C²·W, the fourth 6·C³, and a plane at a point is at most 24·C³·W. Assumes nothing.
 use Prim.Native.Nat.{ℕ, _+_, _*_, _≤_}
-use native.Mathlib.Nat.{le-trans, add-le-add, mul-le-mul}
+use native.Mathlib.Nat.{le-trans, add-le-add}
 use native.Mathlib.Omega.{arith}
 use lib.Dec.{lit≤}
-use lib.IntN.{ℤ}
 use Rattle.laws.specs.Size.{Small, _⊗_, _⊖_, _⊕_, below}
 use Rattle.scene.specs.Limits.{limits}
 use Rattle.scene.specs.Arrays.{RowWithin}
 use Rattle.scene.specs.declared.Row.{Row}
-use Rattle.orient.specs.Formed.{mostFormed, crossSize, threeSize, JoinWithin, RowSize}
+use Rattle.orient.specs.Formed.{mostFormed, crossSize, threeSize, JoinWithin, RowSize, cross-size, three-size}
 use Rattle.sides.specs.Planes.{joinOf, planeOf}
 use Rattle.sides.specs.declared.planes.Line.{Line}
 
@@ -22,14 +21,6 @@ pub record SpanWithin (k : ℕ) (l : Line) (r : Row) : Type 0 where
 
 abbrev pub dotSize : Row → Row → ℕ
 dotSize p t = crossSize (p .w) (p .z) (t .z) (t .w) + crossSize (p .y) (p .x) (t .x) (t .y)
-
-three-size : {A B D E F G : ℕ} {a b c d e f : ℤ} → Small A a → Small B b → Small D c → Small E d → Small F e → Small G f →
-    threeSize a b c d e f ≤ A * B + D * E + F * G
-three-size p q r s t u = add-le-add (add-le-add (mul-le-mul (p .size) (q .size)) (mul-le-mul (r .size) (s .size)))
-    (mul-le-mul (t .size) (u .size))
-
-cross-size : {A B D E : ℕ} {a b c d : ℤ} → Small A a → Small B b → Small D c → Small E d → crossSize a b c d ≤ A * E + B * D
-cross-size p q r s = add-le-add (mul-le-mul (p .size) (s .size)) (mul-le-mul (q .size) (r .size))
 
 module _ (C W : ℕ) where
   record LineSize (l : Line) : Type 0 where

@@ -1,12 +1,23 @@
--- `orient::term2` meets its contract: three determinants are added, and no sum is larger than is allowed. Assumes nothing.
+-- `orient::term2` meets its contract: points of weight 1 have their own way, of others three determinants are added, and no sum is larger than
+-- is allowed. Assumes nothing.
 use borrow.Author.Needs.{needs}
 use mathlib.Core.Path.{sym, _∙_}
 use mathlib.Core.Bool.{true, false}
 use lib.Dec.{lit≤}
+use Rattle.orient.specs.Ones.{ones-are}
 use Rattle.orient.specs.Columns.{c2-parts}
 use Rattle.orient.specs.Bits.{part-held, sum-ask, summed}
 use Rattle.orient.proofs.term2.Statement.{statement}
 use Rattle.orient.proofs.term2.Tie as tie
+
+are-ones-requires : tie.Need-are-ones-requires
+are-ones-requires c κs = search needs
+
+term2-requires : tie.Need-term2-requires
+term2-requires c κs = let o = c .before in (o .before .pre, ones-are _ _ _ _ (sym (o .are-ones .ensures) ∙ c .if1 .taken))
+
+returns : tie.Need-returns
+returns c = search needs
 
 part-requires : tie.Need-part-requires
 part-requires c κs = search needs
@@ -19,14 +30,14 @@ part-requires-3 c κs = search needs
 
 sum-requires : tie.Need-sum-requires
 sum-requires c κs =
-    let v = c .before .before .before .pre in
+    let v = c .before .before .before .before .before .pre in
     sum-ask (part-held true true false v (c .before .before .part .ensures)) (part-held true false true v (c .before .part2 .ensures))
     (part-held false true true v (c .part3 .ensures)) (lit≤ tt)
 
-returns : tie.Need-returns
-returns c =
+returns-2 : tie.Need-returns-2
+returns-2 c =
     let d = c .before in
-    let v = d .before .before .before .pre in
+    let v = d .before .before .before .before .before .pre in
     summed (part-held true true false v (d .before .before .part .ensures)) (part-held true false true v (d .before .part2 .ensures))
     (part-held false true true v (d .part3 .ensures)) (c .sum .ok) (c .sum .ensures)
     ∙ sym (c2-parts _ _ _ _)
@@ -34,4 +45,4 @@ returns c =
 pub term2-spec : {M : Type 1} → statement M
 term2-spec =
     tie.close
-    (tie.spec part-requires part-requires-2 part-requires-3 sum-requires returns)
+    (tie.spec are-ones-requires term2-requires returns part-requires part-requires-2 part-requires-3 sum-requires returns-2)

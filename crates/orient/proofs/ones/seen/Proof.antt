@@ -1,0 +1,24 @@
+-- `orient::ones::seen` meets its contract: it is the one row less the other, within the limits. Assumes nothing.
+use borrow.Author.Needs.{needs}
+use mathlib.Core.Path.{_∙_}
+use Rattle.orient.specs.Minors.{lessOf}
+use Rattle.orient.specs.OnesSizes.{seen-less}
+use Rattle.orient.proofs.ones.seen.Statement.{statement}
+use Rattle.orient.proofs.ones.seen.Tie as tie
+
+shifted-requires : tie.Need-shifted-requires
+shifted-requires c κs = search needs
+
+shifted-requires-2 : tie.Need-shifted-requires-2
+shifted-requires-2 c κs = search needs
+
+less-requires : tie.Need-less-requires
+less-requires c κs =
+    let s = c .before .before in
+    rw (c .before .shifted .ensures, c .shifted2 .ensures) (seen-less (s .pre .0) (s .pre .1) (s .args .s))
+
+returns : tie.Need-returns
+returns c = c .less .ensures ∙ (λ i. lessOf (c .before .before .shifted .ensures i) (c .before .shifted2 .ensures i))
+
+pub seen-spec : {M : Type 1} → statement M
+seen-spec = tie.close (tie.spec shifted-requires shifted-requires-2 less-requires returns)
