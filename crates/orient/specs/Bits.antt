@@ -4,9 +4,9 @@ use mathlib.Core.Bool.{Bool}
 use Prim.Native.Nat.{ℕ, zero, suc, _+_, _*_, _^_, _≤_, _<_}
 use native.Mathlib.Nat.{le-trans, lt-of-le-of-lt, add-le-add, mul-le-mul}
 use native.Mathlib.Omega.{arith}
-use borrow.Author.Tests.{lt-ltb}
+use borrow.Author.Tests.{lt-ltb, le-ltb}
 use lib.Dec.{lit<, lit≤}
-use lib.IntN.{ℤ, pos, negsuc, _+ℤ_, _*ℤ_}
+use lib.IntN.{ℤ, pos, negsuc, negℤ, _+ℤ_, _*ℤ_}
 use lib.Signed.{mag, ltZ}
 use mir.Syntax.{w64}
 use mir.Val.{SFits, toZ, ofZ}
@@ -191,6 +191,19 @@ sign-first row i j k m ok e h = decides _ ok e h
 
 pub zero-bits : {d : ℤ} → mag d < 2 ^ 63 → ofZ w64 d ≡ 0 → d ≡ pos 0
 zero-bits ok z = sym (called ok refl) ∙ ap (toZ w64) z
+
+-- the same of a number that is minus c0
+minus-below : (z : ℤ) → ltZ (negℤ z) (pos 0) ≡ ltZ (pos 0) z
+minus-below (pos zero) = refl
+minus-below (pos (suc n)) = sym (lt-ltb 0 (suc n) (omega arith))
+minus-below (negsuc n) = le-ltb (suc n) 0 (omega arith)
+
+pub sign-turned : (row : ℕ → Row) (i j k m : ℕ) {t : ℤ} → mag t < 2 ^ 63 → t ≡ negℤ (c0At row i j k m) → (ofZ w64 t ≡ 0 → ⊥) →
+    ltZ (reread t) (pos 0) ≡ positiveAt row i j k m
+unfolding positiveAt orientation
+sign-turned row i j k m ok e h =
+    let z = c0At row i j k m in
+    ap (λ (t : ℤ). ltZ t (pos 0)) (called ok e) ∙ minus-below z ∙ lead-at z _ (λ o. h (ap (ofZ w64) (e ∙ ap negℤ o)))
 
 -- and then the tie says it
 pub tie-tells : (row : ℕ → Row) (a b c d : ℕ) → c0At row a b c d ≡ pos 0 → {r : Bool} →

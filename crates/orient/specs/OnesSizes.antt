@@ -57,7 +57,7 @@ module _ {p d : Point} (v : Within limits p) (u : Within limits d) (s : Bool) wh
   abbrev last : RowSize (X limits s) (Y limits s) (Z limits s) (limits .mostWeight) (rowOf d s s s)
   last = row-size limits s s s (lit≤ tt) u
 
-  pub seen-size : RowSize (x2 s) (y2 s) (z2 s) 0 (seenOf p d s)
+  seen-size : RowSize (x2 s) (y2 s) (z2 s) 0 (seenOf p d s)
   seen-size =
       record {
         x = from .x ⊖ last .x;

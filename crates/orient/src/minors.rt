@@ -82,7 +82,7 @@ fn three(a: i64, b: i64, c: i64, d: i64, e: i64, f: i64) -> i64
     a * b - c * d + e * f
 }
 
-// From one row to another, a direction: its weight is 0.
+// The row a seen from b, a direction: its weight is 0.
 pub fn less(a: Row, b: Row) -> Row
     requires { ⌜ LessWithin mostFormed a b ⌝ }
     ensures { λ r. ⌜ r ≡ lessOf a b ⌝ }

@@ -41,12 +41,12 @@ spanOf l r =
 abbrev pub dotOf : Row → Row → ℤ
 dotOf p t = crossOf (p .w) (p .z) (t .z) (t .w) +ℤ crossOf (p .y) (p .x) (t .x) (t .y)
 
--- the plane of three rows, and that of a face's corners
+-- the plane of three rows, and that of a face's corners, turned: below zero at a point above it
 unfoldable pub planeOf : Row → Row → Row → Row
 planeOf a b c = spanOf (joinOf a b) c
 
 unfoldable pub planeFor : (ℕ → Row) → Face → Row
-planeFor row f = planeOf (row (f .p)) (row (f .q)) (row (f .r))
+planeFor row f = planeOf (row (f .q)) (row (f .p)) (row (f .r))
 
 -- ---- the plane of three rows at a fourth is their determinant
 

@@ -1,10 +1,12 @@
 -- The sides of a solid's faces on which a point lies: A(t) of formula (13) for each face, as two words. Assumes nothing.
 use mathlib.Core.Path.{_≡_, sym, ap, ap₂, subst, _∙_}
 use mathlib.Core.Bool.{Bool}
-use Prim.Native.Nat.{ℕ, _+_, _*_, _-_, _^_, _≤_, _<_}
+use Prim.Native.Nat.{ℕ, suc, _+_, _*_, _-_, _^_, _%_, _≤_, _<_}
 use native.Mathlib.Omega.{arith}
 use native.Mathlib.Decide.{decLt}
-use Rattle.laws.specs.Mask.{maskOf, mask-join}
+use lib.Bits.{bitOr, or-shifted}
+use lib.Pow.{shl-exact}
+use Rattle.laws.specs.Mask.{digit, digit-lt, maskOf, mask-lt, mask-low, mask-join}
 use Rattle.scene.specs.Faces.{Vertex, FaceOf}
 use Rattle.scene.specs.declared.Row.{Row}
 use Rattle.scene.specs.declared.Face.{Face}
@@ -84,6 +86,47 @@ module _ (passes : Face → Bool) (face : ℕ → Face) (first count : ℕ) wher
   masks-two h e d =
       let m : 64 ≡ first64 count = omega arith in
       λ i. record { low = (e ∙ ap (maskBy passes face first) m) i; high = d i }
+
+-- ---- from the last face to the first: the word holds the faces behind the first k
+
+module _ (passes : Face → Bool) (face : ℕ → Face) (first count : ℕ) where
+  pub mask-begun : 0 ≡ maskBy passes face (first + count) (count - count)
+  unfolding maskOf
+  mask-begun = let z : 0 ≡ count - count = omega arith in ap (maskBy passes face (first + count)) z
+
+  pub mask-done : {w k : ℕ} → k ≡ 0 → w ≡ maskBy passes face (first + k) (count - k) → w ≡ maskBy passes face first count
+  mask-done {k = k} z e =
+      let f : first + k ≡ first = omega arith in
+      let n : count - k ≡ count = omega arith in
+      e ∙ ap₂ (maskBy passes face) f n
+
+-- one step: w << 1 | b
+module _ (passes : Face → Bool) (face : ℕ → Face) (first count k : ℕ) (some : 0 < k) (upto : k ≤ count) (few : count ≤ 64) where
+  pub mask-under : {w b : ℕ} → w ≡ maskBy passes face (first + k) (count - k) → b ≡ digit (passes (face (first + k))) →
+      bitOr (w * 2 ^ 1 % 2 ^ 64) b ≡ maskBy passes face (first + (k - 1)) (count - (k - 1))
+  mask-under hw hb =
+      ap₂ (λ (x y : ℕ). bitOr (x * 2 ^ 1 % 2 ^ 64) y) (hw ∙ (λ i. maskOf (λ j. passes (face (next j i))) (count - k)))
+      (hb ∙ ap (λ (n : ℕ). digit (passes (face n))) here)
+      ∙ ap (λ (x : ℕ). bitOr x (digit (g 0))) (shl-exact (count - k) 1 64 (mask-lt behind (count - k)) (omega arith))
+      ∙ or-shifted (maskOf behind (count - k)) 1 (digit (g 0)) (digit-lt (g 0))
+      ∙ sum
+      ∙ sym (mask-low (count - k) g)
+      ∙ ap (maskOf g) (omega arith)
+    where
+      g : ℕ → Bool
+      g j = passes (face (first + (k - 1) + 1 + j))
+
+      behind : ℕ → Bool
+      behind j = g (suc j)
+
+      next : (j : ℕ) → first + k + 1 + j ≡ first + (k - 1) + 1 + suc j
+      next j = omega arith
+
+      here : first + k ≡ first + (k - 1) + 1 + 0
+      here = omega arith
+
+      sum : maskOf behind (count - k) * 2 ^ 1 + digit (g 0) ≡ digit (g 0) + 2 * maskOf behind (count - k)
+      sum = omega arith
 
 -- ---- what is asked before a point's sides are told: the planes are made, and each face's corners and the point differ
 

@@ -1,7 +1,7 @@
--- A sign told by a plane at a point: where that is not zero it is the sign of the four points. Assumes nothing.
-use mathlib.Core.Path.{_≡_, sym, subst, _∙_}
+-- A sign told by a plane at a point: where that is not zero it is the sign of the four points, turned as the plane is. Assumes nothing.
+use mathlib.Core.Path.{_≡_, sym, ap, subst, _∙_}
 use Prim.Native.Nat.{ℕ, _^_, _<_, _≤_}
-use lib.IntN.{ℤ, pos}
+use lib.IntN.{ℤ, pos, negℤ}
 use lib.Signed.{mag, ltZ}
 use mir.Syntax.{w64}
 use mir.Val.{ofZ}
@@ -10,9 +10,10 @@ use Rattle.scene.specs.Limits.{limits}
 use Rattle.scene.specs.Arrays.{AllWithin}
 use Rattle.scene.specs.declared.Row.{Row}
 use Rattle.scene.specs.declared.Face.{Face}
-use Rattle.orient.specs.Bits.{sign-first, zero-bits}
+use Rattle.orient.specs.Bits.{sign-turned, zero-bits}
+use Rattle.orient.specs.Laws.{terms12}
 use Rattle.orient.specs.Formed.{mostFormed}
-use Rattle.orient.specs.Terms.{c0At, positiveAt}
+use Rattle.orient.specs.Terms.{pointAt, c0At}
 use Rattle.sides.specs.Planes.{joinOf, spanOf, planeOf, planeFor, dotOf, plane-term}
 use Rattle.sides.specs.Sides.{above, Ready}
 use Rattle.sides.specs.Sizes.{SpanWithin, dotSize, span-formed, dot-formed}
@@ -37,26 +38,29 @@ module _ (row : ℕ → Row) (i j k m : ℕ) {x y : Row} (p : x ≡ planeOf (row
   pub dot-term : {d : ℤ} → d ≡ dotOf x y → d ≡ c0At row i j k m
   dot-term e = e ∙ (λ o. dotOf (p o) (q o)) ∙ plane-term row i j k m
 
-  pub sign-told : {d : ℤ} → mag d < 2 ^ 63 → d ≡ dotOf x y → (ofZ w64 d ≡ 0 → ⊥) → ltZ (pos 0) (reread d) ≡ positiveAt row i j k m
-  sign-told ok e h = sign-first row i j k m ok (dot-term e) h
-
 -- the face's plane has the point
 abbrev pub InPlane : (ℕ → Row) → Face → ℕ → Type 0
 InPlane row f t = c0At row (f .p) (f .q) (f .r) t ≡ pos 0
 
--- the same for a face whose plane is in the table, and a point
+-- the same for a face whose turned plane is in the table, and a point
 module _ (row : ℕ → Row) (face : ℕ → Face) (plane : ℕ → Row) (t k : ℕ) {x y : Row} (ready : Ready row face plane t k) (p : x ≡ plane k)
     (q : y ≡ row t) where
-  corners : x ≡ planeOf (row ((face k) .p)) (row ((face k) .q)) (row ((face k) .r))
+  corners : x ≡ planeOf (row ((face k) .q)) (row ((face k) .p)) (row ((face k) .r))
   unfolding planeFor
   corners = p ∙ ready .made
 
   pub above-asked : AllWithin limits row → dotSize x y ≤ mostFormed
-  above-asked = dot-asked row ((face k) .p) ((face k) .q) ((face k) .r) t corners q
+  above-asked = dot-asked row ((face k) .q) ((face k) .p) ((face k) .r) t corners q
 
-  pub above-told : {d : ℤ} → mag d < 2 ^ 63 → d ≡ dotOf x y → (ofZ w64 d ≡ 0 → ⊥) → ltZ (pos 0) (reread d) ≡ above row t (face k)
+  turned : {d : ℤ} → d ≡ dotOf x y → d ≡ c0At row ((face k) .q) ((face k) .p) ((face k) .r) t
+  turned = dot-term row ((face k) .q) ((face k) .p) ((face k) .r) t corners q
+
+  exchanged : (i j : ℕ) → c0At row i j ((face k) .r) t ≡ negℤ (c0At row j i ((face k) .r) t)
+  exchanged i j = terms12 (pointAt row j) (pointAt row i) (pointAt row ((face k) .r)) (pointAt row t) .e0
+
+  pub above-told : {d : ℤ} → mag d < 2 ^ 63 → d ≡ dotOf x y → (ofZ w64 d ≡ 0 → ⊥) → ltZ (reread d) (pos 0) ≡ above row t (face k)
   unfolding above
-  above-told = sign-told row ((face k) .p) ((face k) .q) ((face k) .r) t corners q
+  above-told ok e = sign-turned row ((face k) .p) ((face k) .q) ((face k) .r) t ok (turned e ∙ exchanged ((face k) .q) ((face k) .p))
 
   pub above-in : {d : ℤ} → mag d < 2 ^ 63 → d ≡ dotOf x y → ofZ w64 d ≡ 0 → InPlane row (face k) t
-  above-in ok e z = sym (dot-term row ((face k) .p) ((face k) .q) ((face k) .r) t corners q e) ∙ zero-bits ok z
+  above-in ok e z = exchanged ((face k) .p) ((face k) .q) ∙ ap negℤ (sym (turned e) ∙ zero-bits ok z)

@@ -43,14 +43,14 @@ pub fn fill(rows: &Rows, corners: &Corners, n: usize, planes: &mut Planes)
     }
 }
 
-// The plane of one face.
+// The plane of one face, turned: below zero at a point above it, so that a sign bit is its digit.
 fn plane(rows: &Rows, f: Face) -> Row
     requires { ⌜ AllWithin limits (rowIn (now rows)) × FaceWithin limits f ⌝ }
     ensures { λ r. ⌜ r ≡ planeFor (rowIn (now (rows .entry))) f ⌝ }
 {
     let p = row_at(rows, f.p);
     let q = row_at(rows, f.q);
-    span(join(p, q), row_at(rows, f.r))
+    span(join(q, p), row_at(rows, f.r))
 }
 
 fn put(planes: &mut Planes, k: usize, p: Row)

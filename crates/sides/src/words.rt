@@ -1,6 +1,8 @@
 // The sides of a solid's faces on which points lie: two words a point, made once a scene.
 ghost use mathlib.Core.Path.{_≡_};
 ghost use Prim.Native.Nat.{_+_, _*_, _≤_};
+ghost use lib.IntN.{pos};
+ghost use lib.Signed.{ltZ};
 ghost use Rattle.laws.specs.Mask.{digit};
 ghost use Rattle.scene.specs.Limits.{limits, mostPoints};
 ghost use Rattle.scene.specs.Arrays.{rowIn, faceIn, AllWithin, FacesWithin};
@@ -122,7 +124,7 @@ fn word(
     word_at(rows, corners, planes, first, count, t, r)
 }
 
-// The same by the row of point t.
+// The same by the row of point t, from the last face to the first: each puts its digit under those of the faces behind it.
 fn word_at(
     rows: &Rows,
     corners: &Corners,
@@ -139,29 +141,33 @@ fn word_at(
     ensures { λ o. ⌜ o ≡ maskBy (above (rowIn (now (rows .entry))) t) (faceIn (now (corners .entry))) first count ⌝ }
 {
     let mut word: u64 = 0;
-    let mut k: usize = 0;
-    while k < count {
-        word = word | bit(is_above(rows, corners, planes, first + 1 + k, t, r)) << k;
-        k += 1;
+    let mut k = count;
+    while 0 < k {
+        word = word << 1 | bit(side(rows, corners, planes, first + k, t, r) < 0);
+        k -= 1;
     }
     word
 }
 
-// Point t, whose row is r, lies above face k: by the face's plane, unless t lies in it.
-fn is_above(rows: &Rows, corners: &Corners, planes: &Planes, k: usize, t: usize, r: Row) -> bool
+// Below zero where point t, whose row is r, lies above face k: the face's plane at t, or where t lies in it -1 or 1 by the shift.
+fn side(rows: &Rows, corners: &Corners, planes: &Planes, k: usize, t: usize, r: Row) -> i64
     requires rows { ⌜ AllWithin limits (rowIn (now rows)) × FacesWithin limits (faceIn (now corners)) ⌝ }
     requires numbers { ⌜ (k ≤ 2 * limits .mostFaces) × (t ≤ mostPoints limits) × (r ≡ rowIn (now rows) t) ⌝ }
     requires ready { ⌜ Ready (rowIn (now rows)) (faceIn (now corners)) (rowIn (now planes)) t k ⌝ }
-    ensures { λ a. ⌜ a ≡ above (rowIn (now (rows .entry))) t (faceIn (now (corners .entry)) k) ⌝ }
+    ensures { λ s. ⌜ ltZ s (pos 0) ≡ above (rowIn (now (rows .entry))) t (faceIn (now (corners .entry)) k) ⌝ }
 {
     let d = dot(plane_at(planes, k), r);
     if d != 0 {
-        return 0 < d;
+        return d;
     }
-    tie_above(rows, corners, k, t)
+    if tie_above(rows, corners, k, t) {
+        -1
+    } else {
+        1
+    }
 }
 
-// The same by the shift.
+// Point t, which lies in the plane of face k, lies above the face by the shift.
 fn tie_above(rows: &Rows, corners: &Corners, k: usize, t: usize) -> bool
     requires rows { ⌜ AllWithin limits (rowIn (now rows)) × FacesWithin limits (faceIn (now corners)) ⌝ }
     requires numbers { ⌜ (k ≤ 2 * limits .mostFaces) × (t ≤ mostPoints limits) ⌝ }

@@ -1,5 +1,5 @@
--- `orient::term2` meets its contract: points of weight 1 have their own way, of others three determinants are added, and no sum is larger than
--- is allowed. Assumes nothing.
+-- `orient::term2` meets its contract: points of weight 1 have their own way; else three determinants are added, and no sum is
+-- larger than is allowed. Assumes nothing.
 use borrow.Author.Needs.{needs}
 use mathlib.Core.Path.{sym, _∙_}
 use mathlib.Core.Bool.{true, false}

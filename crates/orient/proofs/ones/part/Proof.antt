@@ -28,7 +28,8 @@ unfolding seenPart
 returns c =
     let d3 = c .before in
     let d2 = d3 .before in
-    called (c .triple .ok) (c .triple .ensures ∙ (λ i. tripleOf (d2 .before .seen .ensures i) (d2 .seen2 .ensures i) (d3 .seen3 .ensures i)))
+    called (c .triple .ok)
+    (c .triple .ensures ∙ (λ i. tripleOf (d2 .before .seen .ensures i) (d2 .seen2 .ensures i) (d3 .seen3 .ensures i)))
 
 pub part-spec : {M : Type 1} → statement M
 part-spec = tie.close (tie.spec seen-requires seen-requires-2 seen-requires-3 triple-requires returns)

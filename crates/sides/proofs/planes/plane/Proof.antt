@@ -37,7 +37,7 @@ returns c =
     let d2 = d3 .before in
     let d1 = d2 .before in
     c .span .ensures
-    ∙ (λ i. spanOf ((d3 .join .ensures ∙ (λ j. joinOf (d1 .row-at .ensures j) (d2 .row-at2 .ensures j))) i) (d4 .row-at3 .ensures i))
+    ∙ (λ i. spanOf ((d3 .join .ensures ∙ (λ j. joinOf (d2 .row-at2 .ensures j) (d1 .row-at .ensures j))) i) (d4 .row-at3 .ensures i))
 
 pub plane-spec : {M : Type 1} → statement M
 plane-spec =

@@ -1,58 +1,69 @@
--- The loop's invariant: the word is the mask of the first k faces. The measure is what is left of the faces.
+-- The loop's invariant: the word is the mask of the faces behind the first k. The measure is k.
 use borrow.Author.Needs.{needs}
-use mathlib.Core.Path.{_≡_, ap, _∙_}
-use Prim.Native.Nat.{_≤_, _-_}
+use mathlib.Core.Path.{_≡_, ap, subst, _∙_}
+use Prim.Native.Nat.{ℕ, _+_, _-_, _≤_}
 use native.Mathlib.Omega.{arith}
-use Rattle.laws.specs.Mask.{digit, maskOf, mask-more}
+use denote.Ref.{now}
+use Rattle.laws.specs.Mask.{digit}
 use Rattle.scene.specs.Arrays.{rowIn, faceIn}
 use Rattle.face_masks.specs.Faces.{maskBy}
-use Rattle.sides.specs.Sides.{above}
+use Rattle.sides.specs.Sides.{above, Ready, mask-begun, mask-under, mask-done}
+use Rattle.sides.specs.Bits.{below-read}
 use Rattle.sides.proofs.words.word_at.Statement.{statement}
 use Rattle.sides.proofs.words.word_at.Tie as tie
 
 abbrev Inv-loop : tie.InvT-loop
-Inv-loop rows corners planes first count t r word₀ k₀ word k = (k ≤ count) × (word ≡ maskBy (above (rowIn rows) t) (faceIn corners) first k)
+Inv-loop rows corners planes first count t r word₀ k₀ word k = (k ≤ count)
+    × (word ≡ maskBy (above (rowIn rows) t) (faceIn corners) (first + k) (count - k))
 
 abbrev μ-loop : tie.MeasureT-loop
-μ-loop rows corners planes first count t r word₀ k₀ word k = count - k
+μ-loop rows corners planes first count t r word₀ k₀ word k = k
 
 loop-holds : tie.Need-loop-holds Inv-loop μ-loop
-unfolding maskOf
-loop-holds c = search needs
+loop-holds c =
+    let a = c .args in
+    (search needs, mask-begun (above (rowIn (now (a .rows))) (a .t)) (faceIn (now (a .corners))) (a .first) (a .count))
 
-add-is-above : tie.Need-add-is-above Inv-loop μ-loop
-add-is-above c = search needs
+add-side : tie.Need-add-side Inv-loop μ-loop
+add-side c = search needs
 
-add-is-above-2 : tie.Need-add-is-above-2 Inv-loop μ-loop
-add-is-above-2 c = search needs
-
-is-above-requires : tie.Need-is-above-requires Inv-loop μ-loop
-is-above-requires c κs =
+side-requires : tie.Need-side-requires Inv-loop μ-loop
+side-requires c κs =
     let l = c .before in
     let p = l .before .pre in
-    (p .0, ((search needs, p .1 .0 .0, p .1 .0 .1), p .1 .1 .1 (l .loop .k) (search needs)))
+    let a = l .before .args in
+    let k = l .loop .k in
+    let e : a .first + 1 + (k - 1) ≡ a .first + k = omega arith in
+    let here : Ready (rowIn (now (a .rows))) (faceIn (now (a .corners))) (rowIn (now (a .planes))) (a .t) (a .first + k) =
+    subst (λ (i : ℕ). Ready (rowIn (now (a .rows))) (faceIn (now (a .corners))) (rowIn (now (a .planes))) (a .t) i) e
+    (p .1 .1 .1 (k - 1) (omega arith)) in
+    (p .0, ((search needs, p .1 .0 .0, p .1 .0 .1), here))
 
 bit-requires : tie.Need-bit-requires Inv-loop μ-loop
 bit-requires c κs = search needs
 
-shl-word : tie.Need-shl-word Inv-loop μ-loop
-shl-word c = omega arith
-
-add-k : tie.Need-add-k Inv-loop μ-loop
-add-k c = search needs
+sub-k : tie.Need-sub-k Inv-loop μ-loop
+sub-k c = search needs
 
 loop-less : tie.Need-loop-less Inv-loop μ-loop
 loop-less c = search needs
 
 loop-again : tie.Need-loop-again Inv-loop μ-loop
-loop-again c = (
-  omega arith,
-  mask-more _ _ (omega arith) (c .before .before .before .loop .inv .1)
-      (c .bit .ensures ∙ ap digit (c .before .is-above .ensures)),
-)
+loop-again c =
+    let d = c .before in
+    let l = d .before .before in
+    let a = l .before .args in (
+      omega arith,
+      mask-under (above (rowIn (now (a .rows))) (a .t)) (faceIn (now (a .corners))) (a .first) (a .count) (l .loop .k)
+          (omega arith) (omega arith) (omega arith) (l .loop .inv .1)
+          (c .bit .ensures ∙ ap digit (below-read (d .side .result) (d .side .ok) (d .side .ensures))),
+    )
 
 returns : tie.Need-returns Inv-loop μ-loop
-returns c = c .before .loop .inv .1 ∙ ap (maskOf _) (omega arith)
+returns c =
+    let a = c .before .before .args in
+    mask-done (above (rowIn (now (a .rows))) (a .t)) (faceIn (now (a .corners))) (a .first) (a .count) (omega arith)
+    (c .before .loop .inv .1)
 
 pub word-at-spec : {M : Type 1} → statement M
 word-at-spec =
@@ -61,12 +72,10 @@ word-at-spec =
     Inv-loop
     μ-loop
     loop-holds
-    add-is-above
-    add-is-above-2
-    is-above-requires
+    add-side
+    side-requires
     bit-requires
-    shl-word
-    add-k
+    sub-k
     loop-less
     loop-again
     returns)

@@ -1,10 +1,11 @@
--- The plane at the point tells the sign, and where it is zero the tie does.
+-- The turned plane at the point tells the sign, and where it is zero the tie does.
 use borrow.Author.Needs.{needs}
+use mathlib.Core.Path.{sym, _∙_}
 use denote.Ref.{now}
 use Rattle.scene.specs.Arrays.{rowIn, faceIn}
 use Rattle.sides.specs.Told.{above-asked, above-told, above-in}
-use Rattle.sides.proofs.words.is_above.Statement.{statement}
-use Rattle.sides.proofs.words.is_above.Tie as tie
+use Rattle.sides.proofs.words.side.Statement.{statement}
+use Rattle.sides.proofs.words.side.Tie as tie
 
 plane-at-requires : tie.Need-plane-at-requires
 plane-at-requires c κs = search needs
@@ -23,8 +24,7 @@ returns c =
     let s = d .before .before in
     let p = s .pre in
     above-told (rowIn (now (s .args .rows))) (faceIn (now (s .args .corners))) (rowIn (now (s .args .planes))) (s .args .t) (s .args .k)
-    (p .1 .1)
-    (d .before .plane-at .ensures) (p .1 .0 .2) (d .dot .ok) (d .dot .ensures) (c .if1 .taken)
+    (p .1 .1) (d .before .plane-at .ensures) (p .1 .0 .2) (d .dot .ok) (d .dot .ensures) (c .if1 .taken)
 
 tie-above-requires : tie.Need-tie-above-requires
 tie-above-requires c κs =
@@ -43,7 +43,10 @@ tie-above-requires c κs =
     )
 
 returns-2 : tie.Need-returns-2
-returns-2 c = search needs
+returns-2 c = sym (c .if2 .taken) ∙ c .before .tie-above .ensures
 
-pub is-above-spec : {M : Type 1} → statement M
-is-above-spec = tie.close (tie.spec plane-at-requires dot-requires returns tie-above-requires returns-2)
+returns-3 : tie.Need-returns-3
+returns-3 c = sym (c .if2 .left) ∙ c .before .tie-above .ensures
+
+pub side-spec : {M : Type 1} → statement M
+side-spec = tie.close (tie.spec plane-at-requires dot-requires returns tie-above-requires returns-2 returns-3)
