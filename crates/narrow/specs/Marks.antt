@@ -1,6 +1,6 @@
 -- A table of the faces that each point is a corner of, made face by face: bit i of a point's word is set where face i has it. Assumes
 -- nothing.
-use mathlib.Core.Path.{_≡_, refl, sym, ap, ap₂, _∙_}
+use mathlib.Core.Path.{_≡_, refl, sym, ap, ap₂, subst, _∙_}
 use mathlib.Core.Bool.{Bool, true, false, _||_, or-false}
 use mathlib.Core.List.{List}
 use Prim.Native.Nat.{ℕ, zero, suc, _+_, _-_, _*_, _^_, _%_, _≤_, _<_}
@@ -15,7 +15,7 @@ use lib.ListN.{length, getD, set, length-set}
 use lib.Pow.{pow-pos, shl-exact}
 use lib.Seq.{getD-set-same, getD-set-other}
 use Rattle.laws.specs.Mask.{digit, maskOf, mask-lt}
-use Rattle.scene.specs.Faces.{isCorner}
+use Rattle.scene.specs.Faces.{Vertex, FaceOf, isCorner}
 use Rattle.scene.specs.declared.Face.{Face}
 use Rattle.face_masks.specs.Faces.{maskBy}
 use Rattle.sides.specs.Sides.{first64, masksBy}
@@ -102,6 +102,21 @@ marked-other : (at i c b : ℕ) (l : List ℕ) → (b ≡ 2 * c + at → ⊥) �
 unfolding marked
 marked-other at i c b l d = getD-set-other l (2 * c + at) b (bitOr (getD l (2 * c + at) 0) (2 ^ i)) 0 d
 
+-- the place b is not that of a corner's word `at`
+abbrev Missed : (at b : ℕ) → Face → Type 0
+Missed at b f = (b ≡ 2 * f .p + at → ⊥) × (b ≡ 2 * f .q + at → ⊥) × (b ≡ 2 * f .r + at → ⊥)
+
+low-missed : (t : ℕ) (f : Face) → Missed 1 (2 * t) f
+low-missed t f = (λ q. omega (arith, q), λ q. omega (arith, q), λ q. omega (arith, q))
+
+high-missed : (t : ℕ) (f : Face) → Missed 0 (2 * t + 1) f
+high-missed t f = (λ q. omega (arith, q), λ q. omega (arith, q), λ q. omega (arith, q))
+
+-- the point t is no vertex of the face's solid
+out-missed : (at t b low high : ℕ) (f : Face) → b ≡ 2 * t + at → FaceOf low high f → (Vertex low high t → ⊥) → Missed at b f
+out-missed at t b low high f e h out =
+    (λ q. out (omega (arith, h .p, e, q)), λ q. out (omega (arith, h .q, e, q)), λ q. out (omega (arith, h .r, e, q)))
+
 module _ (face : ℕ → Face) (first at : ℕ) where
   pub faces-length : (n : ℕ) (l : List ℕ) → length (facesMarked face first at n l) ≡ length l
   unfolding facesMarked
@@ -135,13 +150,15 @@ module _ (face : ℕ → Face) (first at : ℕ) where
       regroup true b c = refl
       regroup false b c = refl
 
-  pub faces-other : (n b : ℕ) (l : List ℕ) → ((c : ℕ) → b ≡ 2 * c + at → ⊥) → getD (facesMarked face first at n l) b 0 ≡ getD l b 0
+  pub faces-other : (n b : ℕ) (l : List ℕ) → ((j : ℕ) → j < n → Missed at b (face (first + 1 + j))) →
+      getD (facesMarked face first at n l) b 0 ≡ getD l b 0
   unfolding facesMarked
   faces-other zero b l d = refl
   faces-other (suc n) b l d =
       let f = face (first + 1 + n) in
-      marked-other at n (f .r) b _ (d (f .r)) ∙ marked-other at n (f .q) b _ (d (f .q)) ∙ marked-other at n (f .p) b _ (d (f .p))
-      ∙ faces-other n b l d
+      let m = d n (omega arith) in
+      marked-other at n (f .r) b _ (m .2) ∙ marked-other at n (f .q) b _ (m .1) ∙ marked-other at n (f .p) b _ (m .0)
+      ∙ faces-other n b l (λ j h. d j (omega arith))
 
 -- both words of a point, from zeros on
 pub own-at : (face : ℕ → Face) (first count t : ℕ) (l : List ℕ) → 2 * t + 1 < length l → getD l (2 * t) 0 ≡ 0 → getD l (2 * t + 1) 0 ≡ 0 →
@@ -152,9 +169,32 @@ own-at face first count t l r y z =
     let s : length m ≡ length l = faces-length face first 0 (first64 count) l in
     let e : 2 * t + 0 ≡ 2 * t = omega arith in
     let low : getD (ownMarked face first count l) (2 * t) 0 ≡ maskBy (isCorner t) face first (first64 count) =
-    faces-other face (first + 64) 1 (count - 64) (2 * t) m (λ c q. omega (arith, q))
+    faces-other face (first + 64) 1 (count - 64) (2 * t) m (λ j h. low-missed t _)
     ∙ ap (λ (b : ℕ). getD m b 0) (sym e) ∙ faces-at face first 0 (first64 count) t l (omega arith) (ap (λ (b : ℕ). getD l b 0) e ∙ y) in
     let high : getD (ownMarked face first count l) (2 * t + 1) 0 ≡ maskBy (isCorner t) face (first + 64) (count - 64) =
-    faces-at face (first + 64) 1 (count - 64) t m (omega arith) (faces-other face first 0 (first64 count) (2 * t + 1) l
-    (λ c q. omega (arith, q)) ∙ z) in
+    faces-at face (first + 64) 1 (count - 64) t m (omega arith)
+    (faces-other face first 0 (first64 count) (2 * t + 1) l (λ j h. high-missed t _) ∙ z) in
     λ i. record { low = low i; high = high i }
+
+-- a point that is no vertex of the faces' solid keeps its words
+pub own-kept : (face : ℕ → Face) (first count low high t : ℕ) (l : List ℕ) →
+    ((j : ℕ) → j < count → FaceOf low high (face (first + 1 + j))) → (Vertex low high t → ⊥) →
+    maskIn (ownMarked face first count l) t ≡ maskIn l t
+own-kept face first count low high t l of out =
+    let m = facesMarked face first 0 (first64 count) l in
+    let near : getD (ownMarked face first count l) (2 * t) 0 ≡ getD l (2 * t) 0 =
+    faces-other face (first + 64) 1 (count - 64) (2 * t) m (λ j h. low-missed t _)
+    ∙ faces-other face first 0 (first64 count) (2 * t) l
+    (λ j h. out-missed 0 t (2 * t) low high _ (omega arith) (of j (omega arith)) out) in
+    let next : getD (ownMarked face first count l) (2 * t + 1) 0 ≡ getD l (2 * t + 1) 0 =
+    faces-other face (first + 64) 1 (count - 64) (2 * t + 1) m (λ j h. out-missed 1 t (2 * t + 1) low high _ refl (behind j h) out)
+    ∙ faces-other face first 0 (first64 count) (2 * t + 1) l (λ j h. high-missed t _) in
+    λ i. record { low = near i; high = next i }
+  where
+    behind : (j : ℕ) → j < count - 64 → FaceOf low high (face (first + 64 + 1 + j))
+    behind j h =
+        let e : first + 1 + (64 + j) ≡ first + 64 + 1 + j = omega arith in
+        subst (λ (i : ℕ). FaceOf low high (face i)) e (of (64 + j) (omega arith))
+
+pub own-length : (face : ℕ → Face) (first count : ℕ) (l : List ℕ) → length (ownMarked face first count l) ≡ length l
+own-length face first count l = faces-length face (first + 64) 1 (count - 64) _ ∙ faces-length face first 0 (first64 count) l

@@ -19,6 +19,7 @@ use Rattle.listing.specs.Hits.{Seen}
 use Rattle.sides.specs.Planes.{planeFor}
 use Rattle.sides.specs.Sides.{sidesOf, ReadyAll, Planed, ready, ready-ends}
 use Rattle.sides.specs.Tables.{maskIn, wordsFor, ReadyFor, planed, masks-at, masks-kept, masks-length}
+use Rattle.edge_masks.specs.Edges.{AreLinks}
 use Rattle.edge_masks.specs.Sides.{Told}
 use Rattle.spread.specs.Ready.{Ready}
 
@@ -33,6 +34,14 @@ noPlanes = replicate (4 * (2 * limits .mostFaces + 1)) (pos 0)
 -- the table has the planes of the faces that the solid has opposite
 pub record Made (row : ℕ → Row) (face : ℕ → Face) (k : Solid) (planes : List ℤ) : Type 0 where
   pub has : Planed row face (rowIn planes) (k .other) (k .others)
+
+-- what is at hand of the solids a and b before anything is told of b: a's links and words, and the planes of the faces that b has opposite
+pub record Begun (s : Seen) (a b : Solid) (planes : List ℤ) (links words : List ℕ) : Type 0 where
+  pub a-ready : Ready s a
+  pub b-ready : Ready s b
+  pub linked : AreLinks s a links
+  pub told : Told s a words
+  pub made : Made (s .row) (s .face) b planes
 
 -- it was filled up to a face that is not before the last of them
 pub made : (row : ℕ → Row) (face : ℕ → Face) (k : Solid) (m : ℕ) {empty planes : List ℤ} → empty ≡ noPlanes → k .other + k .others ≤ m →

@@ -4,7 +4,7 @@ ghost use Rattle.listing.specs.Hits.{seenIn};
 ghost use Rattle.spread.specs.Ready.{Ready};
 ghost use Rattle.survey.specs.Survey.{Surveyed, Sized};
 use crate::told::make_planes;
-use crate::told::mirrors;
+use crate::told::tell_parts;
 use crate::told::tell_sides;
 use edge_masks::fill_solid;
 use engine::Engine;
@@ -109,41 +109,10 @@ fn survey_part(
     );
     fill_odds(ends, masks, edges, low, verts, &mut odds);
     let inside = enclosed_word(engine, rows, corners, n, k, &links, &odds, words);
-    Part {
-        edges: edges,
-        inside: inside,
-    }
+    Part { edges, inside }
 }
 
-// The same beside the other solid o, whose words are `others`: where each has the other's faces opposite, they narrow the questions.
-fn survey_beside(
-    engine: Engine,
-    rows: &Rows,
-    corners: &Corners,
-    n: usize,
-    k: Solid,
-    o: Solid,
-    words: &sides::words::Words,
-    others: &sides::words::Words,
-    ends: &mut Ends,
-    masks: &mut Masks,
-) -> Part
-    requires solid { ⌜ Ready (seenIn n (now rows) (now corners)) k × Sized (now ends) (now masks) ⌝ }
-    requires beside { ⌜ Ready (seenIn n (now rows) (now corners)) o ⌝ }
-    requires tables { ⌜ Told (seenIn n (now rows) (now corners)) k (now words) × Told (seenIn n (now rows) (now corners)) o (now others) ⌝ }
-    ensures { λ r. ⌜ Surveyed (seenIn n (now (rows .entry)) (now (corners .entry))) k (now (ends .exit)) (now (masks .exit)) r ⌝ }
-{
-    let mut own: sides::words::Words = [0; 2 * (Scene::MOST_POINTS + 1)];
-    let mut cuts: Cuts = [0; 2 * (2 * Scene::MOST_FACES + 1)];
-    if !mirrors(k, o) {
-        return survey_part(engine, rows, corners, n, k, words, &own, &cuts, ends, masks);
-    }
-    narrow::own::fill(corners, k.first, k.count, &mut own);
-    narrow::cuts::fill(corners, others, k.other, k.others, &mut cuts);
-    survey_part(engine, rows, corners, n, k, words, &own, &cuts, ends, masks)
-}
-
-// Of both solids, each into its own table.
+// Of both solids, each into its own table. What narrows the questions is told of A, then of B beside it: their entries do not meet.
 pub fn survey_scene(
     engine: Engine,
     rows: &Rows,
@@ -162,34 +131,16 @@ pub fn survey_scene(
     ensures { λ r. ⌜ Surveyed (seenIn n (now (rows .entry)) (now (corners .entry))) b (now (bends .exit)) (now (bmasks .exit)) (r .b) ⌝ }
 {
     let mut planes: Planes = [0; 4 * (2 * Scene::MOST_FACES + 1)];
-    let mut words: sides::words::Words = [0; 2 * (Scene::MOST_POINTS + 1)];
-    let mut others: sides::words::Words = [0; 2 * (Scene::MOST_POINTS + 1)];
+    let mut wa: sides::words::Words = [0; 2 * (Scene::MOST_POINTS + 1)];
+    let mut wb: sides::words::Words = [0; 2 * (Scene::MOST_POINTS + 1)];
+    let mut own: sides::words::Words = [0; 2 * (Scene::MOST_POINTS + 1)];
+    let mut cuts: Cuts = [0; 2 * (2 * Scene::MOST_FACES + 1)];
     make_planes(rows, corners, a, b, &mut planes);
-    tell_sides(rows, corners, &planes, n, a, &mut words);
-    tell_sides(rows, corners, &planes, n, b, &mut others);
-    let of_a = survey_beside(
-        engine,
-        rows,
-        corners,
-        n,
-        a,
-        b,
-        &words,
-        &others,
-        aends,
-        amasks,
-    );
-    let of_b = survey_beside(
-        engine,
-        rows,
-        corners,
-        n,
-        b,
-        a,
-        &others,
-        &words,
-        bends,
-        bmasks,
-    );
+    tell_sides(rows, corners, &planes, n, a, &mut wa);
+    tell_sides(rows, corners, &planes, n, b, &mut wb);
+    tell_parts(corners, a, b, &wb, &mut own, &mut cuts);
+    let of_a = survey_part(engine, rows, corners, n, a, &wa, &own, &cuts, aends, amasks);
+    tell_parts(corners, b, a, &wa, &mut own, &mut cuts);
+    let of_b = survey_part(engine, rows, corners, n, b, &wb, &own, &cuts, bends, bmasks);
     Survey { a: of_a, b: of_b }
 }

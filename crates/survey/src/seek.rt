@@ -3,19 +3,19 @@ ghost use mathlib.Core.Path.{_≡_};
 ghost use mathlib.Core.List.{[]};
 ghost use Prim.Native.Nat.{_+_, _≤_};
 ghost use Rattle.edge_masks.specs.Edges.{AreLinks};
-ghost use Rattle.edge_masks.specs.Sides.{Told};
+ghost use Rattle.edge_masks.specs.Sides.{Told, Parted};
 ghost use Rattle.listing.specs.First.{firstOf};
 ghost use Rattle.listing.specs.Hits.{seenIn, solidHits};
-ghost use Rattle.scene.specs.Arrays.{rowIn, faceIn};
 ghost use Rattle.scene.specs.Limits.{limits, mostPoints};
 ghost use Rattle.spread.specs.Ready.{Ready};
 ghost use Rattle.spread.specs.Walk.{insideWord};
 ghost use Rattle.survey.specs.First.{hitsTo};
+ghost use Rattle.survey.specs.Parted.{BothBlank};
 ghost use Rattle.survey.specs.Seek.{IsSought, crossedBy};
-ghost use Rattle.survey.specs.Told.{Made};
+ghost use Rattle.survey.specs.Told.{Begun};
 use crate::first::first_of;
 use crate::told::make_planes;
-use crate::told::mirrors;
+use crate::told::tell_parts;
 use crate::told::tell_sides;
 use engine::Engine;
 use links::WORDS;
@@ -67,45 +67,26 @@ fn looked(links: &Words, low: usize, verts: usize) -> usize
     2
 }
 
-// Of the edges behind those from the first `from` vertices, which pierce nothing, beside the other solid o: where each has the other's faces opposite,
-// the words narrow the questions.
-fn first_beside(
+// Of all edges, where those from the first `from` vertices pierce nothing.
+fn first_from(
     engine: Engine,
     rows: &Rows,
     corners: &Corners,
     n: usize,
     k: Solid,
-    o: Solid,
     links: &Words,
     words: &sides::words::Words,
-    others: &sides::words::Words,
+    own: &sides::words::Words,
+    cuts: &Cuts,
     from: usize,
 ) -> Found
-    requires solid { ⌜ Ready (seenIn n (now rows) (now corners)) k × Ready (seenIn n (now rows) (now corners)) o × AreLinks (seenIn n (now rows) (now corners)) k (now links) ⌝ }
-    requires tables { ⌜ Told (seenIn n (now rows) (now corners)) k (now words) × Told (seenIn n (now rows) (now corners)) o (now others) ⌝ }
+    requires solid { ⌜ Ready (seenIn n (now rows) (now corners)) k × AreLinks (seenIn n (now rows) (now corners)) k (now links) ⌝ }
+    requires sides { ⌜ Told (seenIn n (now rows) (now corners)) k (now words)
+        × Parted (seenIn n (now rows) (now corners)) k (now own) (now cuts) ⌝ }
     requires none { ⌜ (from ≤ k .verts) × ([] ≡ hitsTo (seenIn n (now rows) (now corners)) k from) ⌝ }
     ensures { λ r. ⌜ r ≡ firstOf (solidHits (seenIn n (now (rows .entry)) (now (corners .entry))) k) ⌝ }
 {
     let verts = k.verts;
-    let mut own: sides::words::Words = [0; 2 * (Scene::MOST_POINTS + 1)];
-    let mut cuts: Cuts = [0; 2 * (2 * Scene::MOST_FACES + 1)];
-    if !mirrors(k, o) {
-        return first_of(
-            engine,
-            rows,
-            corners,
-            n,
-            k,
-            links,
-            words,
-            &own,
-            &cuts,
-            from,
-            verts,
-        );
-    }
-    narrow::own::fill(corners, k.first, k.count, &mut own);
-    narrow::cuts::fill(corners, others, k.other, k.others, &mut cuts);
     first_of(
         engine,
         rows,
@@ -114,8 +95,8 @@ fn first_beside(
         k,
         links,
         words,
-        &own,
-        &cuts,
+        own,
+        cuts,
         from,
         verts,
     )
@@ -140,7 +121,7 @@ fn inside_still(
     enclosed_word(engine, rows, corners, n, k, links, &odds, words)
 }
 
-// The rest, where the edges from A's first `from` vertices pierce nothing.
+// The rest, where the edges from A's first `from` vertices pierce nothing; own and cuts are empty where A and B look.
 fn seek_rest(
     engine: Engine,
     rows: &Rows,
@@ -151,43 +132,27 @@ fn seek_rest(
     planes: &Planes,
     links: &Words,
     words: &sides::words::Words,
+    own: &mut sides::words::Words,
+    cuts: &mut Cuts,
     from: usize,
 ) -> Sought
-    requires solids { ⌜ Ready (seenIn n (now rows) (now corners)) a × Ready (seenIn n (now rows) (now corners)) b × AreLinks (seenIn n (now rows) (now corners)) a (now links) ⌝ }
-    requires tables { ⌜ Told (seenIn n (now rows) (now corners)) a (now words) × Made (rowIn (now rows)) (faceIn (now corners)) b (now planes) ⌝ }
+    requires begun { ⌜ Begun (seenIn n (now rows) (now corners)) a b (now planes) (now links) (now words) ⌝ }
+    requires empty { ⌜ BothBlank (seenIn n (now rows) (now corners)) a b (now own) (now cuts) ⌝ }
     requires none { ⌜ (from ≤ a .verts) × ([] ≡ hitsTo (seenIn n (now rows) (now corners)) a from) ⌝ }
     ensures { λ r. ⌜ IsSought (seenIn n (now (rows .entry)) (now (corners .entry))) a b r ⌝ }
 {
     let mut others: sides::words::Words = [0; 2 * (Scene::MOST_POINTS + 1)];
     let mut blinks: Words = [0; WORDS];
     tell_sides(rows, corners, planes, n, b, &mut others);
-    if let Found::Pair(u, v, f) = first_beside(
-        engine,
-        rows,
-        corners,
-        n,
-        a,
-        b,
-        links,
-        words,
-        &others,
-        from,
-    ) {
+    tell_parts(corners, a, b, &others, own, cuts);
+    let of_a = first_from(engine, rows, corners, n, a, links, words, own, cuts, from);
+    if let Found::Pair(u, v, f) = of_a {
         return crossed(u, v, f);
     }
     fill_links(corners, b, &mut blinks);
-    if let Found::Pair(u, v, f) = first_beside(
-        engine,
-        rows,
-        corners,
-        n,
-        b,
-        a,
-        &blinks,
-        &others,
-        words,
-        0,
-    ) {
+    tell_parts(corners, b, a, words, own, cuts);
+    let of_b = first_from(engine, rows, corners, n, b, &blinks, &others, own, cuts, 0);
+    if let Found::Pair(u, v, f) = of_b {
         return crossed(u, v, f);
     }
     Sought {
@@ -197,7 +162,46 @@ fn seek_rest(
     }
 }
 
-// The edges from A's first vertices are asked before anything is told of B: where solids cross, one of them often pierces.
+// By A's links and words. The edges from its first vertices are asked before anything is told of B: where solids cross, one of them often
+// pierces.
+fn seek_begun(
+    engine: Engine,
+    rows: &Rows,
+    corners: &Corners,
+    n: usize,
+    a: Solid,
+    b: Solid,
+    planes: &Planes,
+    links: &Words,
+    words: &sides::words::Words,
+) -> Sought
+    requires { ⌜ Begun (seenIn n (now rows) (now corners)) a b (now planes) (now links) (now words) ⌝ }
+    ensures { λ r. ⌜ IsSought (seenIn n (now (rows .entry)) (now (corners .entry))) a b r ⌝ }
+{
+    let mut own: sides::words::Words = [0; 2 * (Scene::MOST_POINTS + 1)];
+    let mut cuts: Cuts = [0; 2 * (2 * Scene::MOST_FACES + 1)];
+    let m = looked(links, a.low, a.verts);
+    let found = first_of(engine, rows, corners, n, a, links, words, &own, &cuts, 0, m);
+    if let Found::Pair(u, v, f) = found {
+        return crossed(u, v, f);
+    }
+    seek_rest(
+        engine,
+        rows,
+        corners,
+        n,
+        a,
+        b,
+        planes,
+        links,
+        words,
+        &mut own,
+        &mut cuts,
+        m,
+    )
+}
+
+// The first pair of both solids; where there is none, what is enclosed.
 pub fn seek(engine: Engine, rows: &Rows, corners: &Corners, n: usize, a: Solid, b: Solid) -> Sought
     requires { ⌜ Ready (seenIn n (now rows) (now corners)) a × Ready (seenIn n (now rows) (now corners)) b ⌝ }
     ensures { λ r. ⌜ IsSought (seenIn n (now (rows .entry)) (now (corners .entry))) a b r ⌝ }
@@ -205,26 +209,8 @@ pub fn seek(engine: Engine, rows: &Rows, corners: &Corners, n: usize, a: Solid, 
     let mut planes: Planes = [0; 4 * (2 * Scene::MOST_FACES + 1)];
     let mut words: sides::words::Words = [0; 2 * (Scene::MOST_POINTS + 1)];
     let mut links: Words = [0; WORDS];
-    let own: sides::words::Words = [0; 2 * (Scene::MOST_POINTS + 1)];
-    let cuts: Cuts = [0; 2 * (2 * Scene::MOST_FACES + 1)];
     make_planes(rows, corners, a, b, &mut planes);
     tell_sides(rows, corners, &planes, n, a, &mut words);
     fill_links(corners, a, &mut links);
-    let m = looked(&links, a.low, a.verts);
-    if let Found::Pair(u, v, f) = first_of(
-        engine,
-        rows,
-        corners,
-        n,
-        a,
-        &links,
-        &words,
-        &own,
-        &cuts,
-        0,
-        m,
-    ) {
-        return crossed(u, v, f);
-    }
-    seek_rest(engine, rows, corners, n, a, b, &planes, &links, &words, m)
+    seek_begun(engine, rows, corners, n, a, b, &planes, &links, &words)
 }

@@ -1,14 +1,16 @@
-// What the masks of a solid's edges are read off: the sides of the other solid's faces on which its vertices and the far point lie.
+// What the masks of a solid's edges are read off: the sides of the other solid's faces on which its vertices and the far point lie, and
+// what narrows the questions.
 ghost use Rattle.edge_masks.specs.Sides.{Told};
 ghost use Rattle.listing.specs.Hits.{seenIn};
 ghost use Rattle.spread.specs.Ready.{Ready};
 ghost use Rattle.survey.specs.Told.{farOf, noPlanes, Made};
-ghost use Rattle.survey.specs.Parted.{mirrors};
+ghost use Rattle.survey.specs.Parted.{mirrors, ownTold, cutsTold};
 ghost use mathlib.Core.Path.{_≡_};
 ghost use Prim.Native.Nat.{_+_, _*_, _≤_};
 ghost use lib.ListN.{length};
 ghost use Rattle.scene.specs.Limits.{limits, mostPoints};
 ghost use Rattle.scene.specs.Arrays.{rowIn, faceIn, AllWithin, FacesWithin};
+use narrow::cuts::Cuts;
 use scene::Corners;
 use scene::Rows;
 use scene::Solid;
@@ -65,8 +67,30 @@ pub fn tell_sides(
 }
 
 // Each of the two has the other's faces opposite.
-pub fn mirrors(k: Solid, o: Solid) -> bool
+fn mirrors(k: Solid, o: Solid) -> bool
     ensures { λ r. ⌜ r ≡ mirrors k o ⌝ }
 {
     (o.other == k.first) & ((o.others == k.count) & ((o.first == k.other) & (o.count == k.others)))
+}
+
+// What narrows the questions about the solid k beside the other one, o, whose words are `others`; told where each has the other's faces
+// opposite.
+pub fn tell_parts(
+    corners: &Corners,
+    k: Solid,
+    o: Solid,
+    others: &Words,
+    own: &mut Words,
+    cuts: &mut Cuts,
+)
+    requires corners { ⌜ FacesWithin limits (faceIn (now corners)) ⌝ }
+    requires faces { ⌜ (k .first + k .count ≤ 2 * limits .mostFaces) × (k .count ≤ limits .mostFaces)
+        × (k .other + k .others ≤ 2 * limits .mostFaces) ⌝ }
+    ensures { λ _. ⌜ now (own .exit) ≡ ownTold (faceIn (now (corners .entry))) k o (now (own .entry)) ⌝ }
+    ensures { λ _. ⌜ now (cuts .exit) ≡ cutsTold (faceIn (now (corners .entry))) k o (now (others .entry)) (now (cuts .entry)) ⌝ }
+{
+    if mirrors(k, o) {
+        narrow::own::fill(corners, k.first, k.count, own);
+        narrow::cuts::fill(corners, others, k.other, k.others, cuts);
+    }
 }

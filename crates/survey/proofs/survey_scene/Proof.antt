@@ -1,4 +1,7 @@
--- Each solid beside the other.
+-- Each solid by its own words, narrowed by the other's; what was told for A leaves the tables empty for B.
+use denote.Ref.{now}
+use Rattle.listing.specs.Hits.{seenIn}
+use Rattle.survey.specs.Parted.{blank-new, parts-asked, parts-told, blank-told}
 use borrow.Author.Needs.{needs}
 use Rattle.survey.proofs.survey_scene.Statement.{statement}
 use Rattle.survey.proofs.survey_scene.Tie as tie
@@ -12,19 +15,44 @@ tell-sides-requires c κs = search needs
 tell-sides-requires-2 : tie.Need-tell-sides-requires-2
 tell-sides-requires-2 c κs = search needs
 
-survey-beside-requires : tie.Need-survey-beside-requires
-survey-beside-requires c κs =
-    let d = c .before .before .before .before in
-    let t = d .before .before .before in
-    let p = t .before .before .before .before .before .pre in
-    ((p .0 .0, p .1 .0), (p .0 .1, (t .tell-sides .ensures, d .tell-sides2 .ensures)))
+tell-parts-requires : tie.Need-tell-parts-requires
+tell-parts-requires c κs =
+    let s = c .before .before .before .before .before .before .before .before .before .before .before in
+    parts-asked _ (s .args .a) (s .pre .0 .0)
 
-survey-beside-requires-2 : tie.Need-survey-beside-requires-2
-survey-beside-requires-2 c κs =
-    let d = c .before .before .before .before .before .before .before .before .before in
+survey-part-requires : tie.Need-survey-part-requires
+survey-part-requires c κs =
+    let p = c .before .before .before .before .before in
+    let d = p .before .before .before .before in
     let t = d .before .before .before in
-    let p = t .before .before .before .before .before .pre in
-    ((p .0 .1, p .1 .1), (p .0 .0, (d .tell-sides2 .ensures, t .tell-sides .ensures)))
+    let s = t .before .before .before .before .before in
+    let v = seenIn (s .args .n) (now (s .args .rows)) (now (s .args .corners)) in
+    let r = s .pre .0 in
+    let e = p .tell-parts .ensures in
+    let z = blank-new v (s .args .a) in
+    let h = parts-told v (s .args .a) (s .args .b) (r .0) (r .1) (d .tell-sides2 .ensures) (e .0) (e .1) z in
+    ((r .0, s .pre .1 .0), (t .tell-sides .ensures, h))
+
+tell-parts-requires-2 : tie.Need-tell-parts-requires-2
+tell-parts-requires-2 c κs =
+    let d = c .before .before .before .before .before .before .before .before .before .before .before .before .before in
+    let s = d .before .before .before .before .before .before .before .before in
+    parts-asked _ (s .args .b) (s .pre .0 .1)
+
+survey-part-requires-2 : tie.Need-survey-part-requires-2
+survey-part-requires-2 c κs =
+    let q = c .before .before .before .before .before in
+    let p = q .before .before .before .before .before .before .before .before .before .before in
+    let d = p .before .before .before .before in
+    let t = d .before .before .before in
+    let s = t .before .before .before .before .before in
+    let v = seenIn (s .args .n) (now (s .args .rows)) (now (s .args .corners)) in
+    let r = s .pre .0 in
+    let e = p .tell-parts .ensures in
+    let f = q .tell-parts2 .ensures in
+    let z = blank-told v (s .args .a) (s .args .b) (r .0) (r .1) (d .tell-sides2 .ensures) (e .0) (e .1) (blank-new v (s .args .b)) in
+    let h = parts-told v (s .args .b) (s .args .a) (r .1) (r .0) (t .tell-sides .ensures) (f .0) (f .1) z in
+    ((r .1, s .pre .1 .1), (d .tell-sides2 .ensures, h))
 
 returns : tie.Need-returns
 returns c = search needs
@@ -36,6 +64,8 @@ survey-scene-spec =
     make-planes-requires
     tell-sides-requires
     tell-sides-requires-2
-    survey-beside-requires
-    survey-beside-requires-2
+    tell-parts-requires
+    survey-part-requires
+    tell-parts-requires-2
+    survey-part-requires-2
     returns)

@@ -1,9 +1,7 @@
 -- The words are told; the tables that narrow the questions stay empty.
-use Prim.Native.Nat.{_+_, _*_}
 use denote.Ref.{now}
 use Rattle.listing.specs.Hits.{seenIn}
-use Rattle.scene.specs.Limits.{limits, mostPoints}
-use Rattle.survey.specs.Parted.{parted-none}
+use Rattle.survey.specs.Parted.{blank-new, parted-none}
 use borrow.Author.Needs.{needs}
 use Rattle.survey.proofs.survey_solid.Statement.{statement}
 use Rattle.survey.proofs.survey_solid.Tie as tie
@@ -19,7 +17,7 @@ survey-part-requires c κs =
     let t = c .before .before .before .before .before in
     let s = t .before .before .before .before .before in
     let v = seenIn (s .args .n) (now (s .args .rows)) (now (s .args .corners)) in
-    (s .pre, (t .tell-sides .ensures, parted-none v (s .args .k) (2 * (mostPoints limits + 1)) (2 * (2 * limits .mostFaces + 1))))
+    (s .pre, (t .tell-sides .ensures, parted-none v (s .args .k) (blank-new v (s .args .k))))
 
 returns : tie.Need-returns
 returns c = search needs

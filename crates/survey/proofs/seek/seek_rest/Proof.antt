@@ -2,6 +2,7 @@
 use native.Mathlib.Omega.{arith}
 use denote.Ref.{now}
 use Rattle.listing.specs.Hits.{seenIn, solidHits}
+use Rattle.survey.specs.Parted.{parts-asked, parts-told, blank-told}
 use Rattle.survey.specs.Seek.{none-first, none-begun, sought-in-a, sought-in-b, sought-none}
 use borrow.Author.Needs.{needs}
 use Rattle.survey.proofs.seek.seek_rest.Statement.{statement}
@@ -10,11 +11,31 @@ use Rattle.survey.proofs.seek.seek_rest.Tie as tie
 tell-sides-requires : tie.Need-tell-sides-requires
 tell-sides-requires c κs = search needs
 
-first-beside-requires : tie.Need-first-beside-requires
-first-beside-requires c κs = search needs
+tell-parts-requires : tie.Need-tell-parts-requires
+tell-parts-requires c κs =
+    let s = c .before .before .before .before .before in
+    parts-asked _ (s .args .a) (s .pre .0 .a-ready)
 
-enum-known-u : tie.Need-enum-known-u
-enum-known-u c = search needs
+first-from-requires : tie.Need-first-from-requires
+first-from-requires c κs =
+    let p = c .before .before in
+    let t = p .before .before .before .before in
+    let s = t .before .before in
+    let v = seenIn (s .args .n) (now (s .args .rows)) (now (s .args .corners)) in
+    let b = s .pre .0 in
+    let e = p .tell-parts .ensures in (
+      (b .a-ready, b .linked),
+      (
+        (
+          b .told,
+          parts-told v (s .args .a) (s .args .b) (b .a-ready) (b .b-ready) (t .tell-sides .ensures) (e .0) (e .1) (s .pre .1 .0 .0),
+        ),
+        s .pre .1 .1,
+      ),
+    )
+
+enum-known-of-a : tie.Need-enum-known-of-a
+enum-known-of-a c = search needs
 
 crossed-requires : tie.Need-crossed-requires
 crossed-requires c κs = search needs
@@ -26,18 +47,39 @@ enum-told : tie.Need-enum-told
 enum-told c = search needs
 
 fill-links-requires : tie.Need-fill-links-requires
-fill-links-requires c κs = search needs
+fill-links-requires c κs =
+    let n = c .before in
+    let s = n .before .before .before .before .before .before .before .before .before .before .before in
+    let o = s .pre .0 .b-ready .within .sound in
+    ((o .corners, o .own), (search needs, o .vertices .0, o .vertices .1))
 
-first-beside-requires-2 : tie.Need-first-beside-requires-2
-first-beside-requires-2 c κs =
+tell-parts-requires-2 : tie.Need-tell-parts-requires-2
+tell-parts-requires-2 c κs =
     let l = c .before .before in
-    let t = l .before .before .before .before .before .before in
-    let s = t .before .before in
-    let p = s .pre in
-    (((p .0 .1, p .0 .0, l .fill-links .ensures .own)), ((t .tell-sides .ensures, p .1 .0 .0), (omega arith, none-begun _ _)))
+    let s = l .before .before .before .before .before .before .before .before .before .before .before .before .before in
+    parts-asked _ (s .args .b) (s .pre .0 .b-ready)
 
-enum-known-u-2 : tie.Need-enum-known-u-2
-enum-known-u-2 c = search needs
+first-from-requires-2 : tie.Need-first-from-requires-2
+first-from-requires-2 c κs =
+    let q = c .before .before .before .before in
+    let l = q .before .before .before in
+    let p = l .before .before .before .before .before .before .before in
+    let t = p .before .before .before .before in
+    let s = t .before .before in
+    let v = seenIn (s .args .n) (now (s .args .rows)) (now (s .args .corners)) in
+    let b = s .pre .0 in
+    let e = p .tell-parts .ensures in
+    let f = q .tell-parts2 .ensures in
+    let z = blank-told v (s .args .a) (s .args .b) (b .a-ready) (b .b-ready) (t .tell-sides .ensures) (e .0) (e .1) (s .pre .1 .0 .1) in (
+      (b .b-ready, l .fill-links .ensures .own),
+      (
+        (t .tell-sides .ensures, parts-told v (s .args .b) (s .args .a) (b .b-ready) (b .a-ready) (b .told) (f .0) (f .1) z),
+        (omega arith, none-begun _ _),
+      ),
+    )
+
+enum-known-of-b : tie.Need-enum-known-of-b
+enum-known-of-b c = search needs
 
 crossed-requires-2 : tie.Need-crossed-requires-2
 crossed-requires-2 c κs = search needs
@@ -50,46 +92,52 @@ enum-told-2 c = search needs
 
 inside-still-requires : tie.Need-inside-still-requires
 inside-still-requires c κs =
-    let s = c .before .before .before .before .before .before .before .before .before .before .before .before .before in
+    let q = c .before .before .before .before .before .before .before in
+    let l = q .before .before .before in
+    let n = l .before .before in
+    let s = n .before .before .before .before .before .before .before .before .before .before .before in
     let v = seenIn (s .args .n) (now (s .args .rows)) (now (s .args .corners)) in (
-      (s .pre .0 .0, s .pre .0 .2),
-      (
-        s .pre .1 .0 .0,
-        none-first (solidHits v (s .args .a))
-            (c .before .before .before .before .before .before .before .before .before .first-beside .ensures) (search needs),
-      ),
+      (s .pre .0 .a-ready, s .pre .0 .linked),
+      (s .pre .0 .told, none-first (solidHits v (s .args .a)) (n .before .before .first-from .ensures) (n .enum-told .given .1)),
     )
 
 inside-still-requires-2 : tie.Need-inside-still-requires-2
 inside-still-requires-2 c κs =
-    let l = c .before .before .before .before .before .before .before .before in
-    let t = l .before .before .before .before .before .before in
+    let n = c .before .before .before in
+    let f = n .before .before in
+    let l = f .before .before .before .before .before .before .before .before in
+    let t = l .before .before .before .before .before .before .before .before .before .before .before in
     let s = t .before .before in
     let v = seenIn (s .args .n) (now (s .args .rows)) (now (s .args .corners)) in (
-      (s .pre .0 .1, l .fill-links .ensures .own),
-      (
-        t .tell-sides .ensures,
-        none-first (solidHits v (s .args .b))
-            (c .before .before .before .before .before .first-beside2 .ensures) (c .before .before .before .enum-told2 .given .1),
-      ),
+      (s .pre .0 .b-ready, l .fill-links .ensures .own),
+      (t .tell-sides .ensures, none-first (solidHits v (s .args .b)) (f .first-from2 .ensures) (n .enum-told2 .given .1)),
     )
 
 returns-3 : tie.Need-returns-3
-returns-3 c = search sought-none
+returns-3 c =
+    let i = c .before .before .before in
+    let n = i .before in
+    let m = n .before .before .before .before .before .before .before .before .before .before .before .before in
+    let s = m .before .before .before .before .before .before .before .before .before .before .before in
+    let v = seenIn (s .args .n) (now (s .args .rows)) (now (s .args .corners)) in
+    sought-none v (s .args .a) (s .args .b) (m .before .before .first-from .ensures) (m .enum-told .given .1)
+    (n .before .before .first-from2 .ensures) (n .enum-told2 .given .1) (i .inside-still .ensures) (c .inside-still2 .ensures)
 
 pub seek-rest-spec : {M : Type 1} → statement M
 seek-rest-spec =
     tie.close
     (tie.spec
     tell-sides-requires
-    first-beside-requires
-    enum-known-u
+    tell-parts-requires
+    first-from-requires
+    enum-known-of-a
     crossed-requires
     returns
     enum-told
     fill-links-requires
-    first-beside-requires-2
-    enum-known-u-2
+    tell-parts-requires-2
+    first-from-requires-2
+    enum-known-of-b
     crossed-requires-2
     returns-2
     enum-told-2
