@@ -5,9 +5,8 @@ ghost use lib.ListN.{length};
 ghost use Rattle.face_masks.specs.Faces.{valueOf};
 ghost use Rattle.scene.specs.Faces.{Vertex};
 ghost use Rattle.listing.specs.Hits.{seenIn, Sound, edgeMask};
-ghost use Rattle.links.specs.Links.{words};
 ghost use Rattle.table.specs.Table.{mostEdges};
-ghost use Rattle.edge_masks.specs.Edges.{vertexEdges, solidEdges, Higher, Within, AreLinks, Filled};
+ghost use Rattle.edge_masks.specs.Edges.{vertexEdges, solidEdges, Within, AreLinks, Filled};
 ghost use Rattle.edge_masks.specs.Sides.{Told, Parted};
 ghost use Rattle.edge_masks.specs.Store.{pairSet};
 use engine::Engine;
@@ -80,28 +79,32 @@ fn put_mask(masks: &mut Masks, j: usize, m: Mask)
     masks[at + 1] = high;
 }
 
-// The edges from u to its higher neighbours, behind the first `at` of the table; how many there are then.
+// The edges from the solid's i-th vertex, from 0, to its higher neighbours, behind the first `at` of the table; how many there are then.
 fn fill_vertex(
     engine: Engine,
     rows: &Rows,
     corners: &Corners,
     n: usize,
     k: Solid,
+    links: &Words,
     words: &sides::words::Words,
     own: &sides::words::Words,
     cuts: &Cuts,
-    u: usize,
-    higher: u64,
+    i: usize,
     at: usize,
     ends: &mut Ends,
     masks: &mut Masks,
 ) -> usize
-    requires solid { ⌜ Sound (seenIn n (now rows) (now corners)) k × Vertex (k .low) (k .low + k .verts) u × Higher (seenIn n (now rows) (now corners)) k u higher ⌝ }
-    requires room { ⌜ (length (now ends) ≡ 2 * mostEdges) × (length (now masks) ≡ 2 * mostEdges) × (at + length (vertexEdges (seenIn n (now rows) (now corners)) k u) ≤ mostEdges) ⌝ }
+    requires solid { ⌜ Sound (seenIn n (now rows) (now corners)) k × AreLinks (seenIn n (now rows) (now corners)) k (now links)
+        × (i < k .verts) ⌝ }
+    requires room { ⌜ (length (now ends) ≡ 2 * mostEdges) × (length (now masks) ≡ 2 * mostEdges)
+        × (at + length (vertexEdges (seenIn n (now rows) (now corners)) k (k .low + 1 + i)) ≤ mostEdges) ⌝ }
     requires sides { ⌜ Told (seenIn n (now rows) (now corners)) k (now words) × Parted (seenIn n (now rows) (now corners)) k (now own) (now cuts) ⌝ }
-    ensures { λ r. ⌜ Filled (vertexEdges (seenIn n (now (rows .entry)) (now (corners .entry))) k u) at (now (ends .entry)) (now (masks .entry)) (now (ends .exit)) (now (masks .exit)) r ⌝ }
+    ensures { λ r. ⌜ Filled (vertexEdges (seenIn n (now (rows .entry)) (now (corners .entry))) k (k .low + 1 + i)) at
+        (now (ends .entry)) (now (masks .entry)) (now (ends .exit)) (now (masks .exit)) r ⌝ }
 {
-    let mut left = higher;
+    let u = k.low + 1 + i;
+    let mut left = links[u] >> (i + 1);
     let mut c = at;
     while left != 0 {
         let v = u + 1 + u64::trailing_zeros(left) as usize;
@@ -131,31 +134,26 @@ pub fn fill_solid(
     requires solid { ⌜ Within (seenIn n (now rows) (now corners)) k × AreLinks (seenIn n (now rows) (now corners)) k (now links) ⌝ }
     requires room { ⌜ (length (now ends) ≡ 2 * mostEdges) × (length (now masks) ≡ 2 * mostEdges) ⌝ }
     requires sides { ⌜ Told (seenIn n (now rows) (now corners)) k (now words) × Parted (seenIn n (now rows) (now corners)) k (now own) (now cuts) ⌝ }
-    ensures { λ r. ⌜ Filled (solidEdges (seenIn n (now (rows .entry)) (now (corners .entry))) k) 0 (now (ends .entry)) (now (masks .entry)) (now (ends .exit)) (now (masks .exit)) r ⌝ }
+    ensures { λ r. ⌜ Filled (solidEdges (seenIn n (now (rows .entry)) (now (corners .entry))) k) 0
+        (now (ends .entry)) (now (masks .entry)) (now (ends .exit)) (now (masks .exit)) r ⌝ }
 {
-    let low = k.low;
-    let verts = k.verts;
     let mut c: usize = 0;
-    let mut i: usize = 0;
-    while i < verts {
-        let u = low + 1 + i;
-        let higher = links[u] >> (i + 1);
+    for i in 0..k.verts {
         c = fill_vertex(
             engine,
             rows,
             corners,
             n,
             k,
+            links,
             words,
             own,
             cuts,
-            u,
-            higher,
+            i,
             c,
             ends,
             masks,
         );
-        i += 1;
     }
     c
 }

@@ -1,32 +1,57 @@
 -- Each turn stores the edge of the lowest bit that is left.
-use Prim.Native.Nat.{_+_, _-_, _^_, _≤_, _<_}
-use native.Mathlib.Nat.{lt-of-le-of-lt}
+use Prim.Native.Nat.{_+_, _-_, _^_, _<_}
+use native.Mathlib.Nat.{lt-of-le-of-lt, lt-of-lt-of-le}
 use native.Mathlib.Omega.{arith}
 use mathlib.Core.Path.{refl}
 use denote.Ref.{now}
 use lib.Bits.{and-le-r}
 use lib.Count.{trailing-le}
+use lib.Pow.{pow-mono}
 use Rattle.laws.specs.Walk.{walk-less}
 use Rattle.links.specs.Bits.{word-first}
 use Rattle.listing.specs.Hits.{seenIn}
 use Rattle.edge_masks.specs.Edges.{bitEdges, vertexEdges}
+use Rattle.edge_masks.specs.Order.{higher}
 use Rattle.edge_masks.specs.Store.{Filling, filling-start, filling-room, filling-turn, filling-end}
 use borrow.Author.Needs.{needs}
 use Rattle.edge_masks.proofs.fill_vertex.Statement.{statement}
 use Rattle.edge_masks.proofs.fill_vertex.Tie as tie
 
 abbrev Inv-loop : tie.InvT-loop
-Inv-loop engine rows corners n k words own cuts u higher at ends₀ masks₀ left₀ c₀ ends masks left c =
-    (left < 2 ^ 64) × (left ≤ higher) × Filling (bitEdges (seenIn n rows corners) k u left) (vertexEdges (seenIn n rows corners) k u)
-    at ends₀ masks₀ ends masks c
+Inv-loop engine rows corners n k links words own cuts i at ends₀ masks₀ u left₀ c₀ ends masks left c =
+    (left < 2 ^ 64) × (left < 2 ^ (k .low + k .verts - u))
+    × Filling (bitEdges (seenIn n rows corners) k u left) (vertexEdges (seenIn n rows corners) k u) at ends₀ masks₀ ends masks c
 
 abbrev μ-loop : tie.MeasureT-loop
-μ-loop engine rows corners n k words own cuts u higher at ends₀ masks₀ left₀ c₀ ends masks left c = left
+μ-loop engine rows corners n k links words own cuts i at ends₀ masks₀ u left₀ c₀ ends masks left c = left
+
+add-u : tie.Need-add-u Inv-loop μ-loop
+add-u c = search needs
+
+add-u-2 : tie.Need-add-u-2 Inv-loop μ-loop
+add-u-2 c = omega (arith, c .before .pre .0 .0 .vertices .1)
+
+mul-left : tie.Need-mul-left Inv-loop μ-loop
+mul-left c = omega (arith, c .before .pre .0 .0 .vertices .1)
+
+element-copy-out-left : tie.Need-element-copy-out-left Inv-loop μ-loop
+element-copy-out-left c = omega (arith, c .before .pre .0 .0 .vertices .1)
+
+add-left : tie.Need-add-left Inv-loop μ-loop
+add-left c = search needs
+
+shr-left : tie.Need-shr-left Inv-loop μ-loop
+shr-left c = omega (arith, c .before .before .pre .0 .0 .vertices .0)
 
 loop-holds : tie.Need-loop-holds Inv-loop μ-loop
 loop-holds c =
-    let s = c .args in
-    (search needs, omega arith, filling-start (seenIn (s .n) (now (s .rows)) (now (s .corners))) (s .k) (s .u) (s .higher) (s .at) _ _ (c .pre .0 .2 .edges))
+    let s = c .before .before .args in
+    let p = c .before .before .pre .0 in
+    let v = seenIn (s .n) (now (s .rows)) (now (s .corners)) in
+    let u = s .k .low + 1 + s .i in
+    let h = higher v (s .k) (p .0) (s .i) (p .2) (p .1 u (omega arith, omega arith)) in
+    let few = pow-mono {i = s .k .low + s .k .verts - u} {j = 64} (omega (arith, p .0 .vertices .0)) in
+    (lt-of-lt-of-le (h .small) few, h .small, filling-start v (s .k) u _ (s .at) _ _ (h .edges))
 
 add-v : tie.Need-add-v Inv-loop μ-loop
 add-v c = search needs
@@ -35,23 +60,25 @@ cast-v : tie.Need-cast-v Inv-loop μ-loop
 cast-v c = omega (arith, trailing-le 64 (c .before .loop .left))
 
 add-v-2 : tie.Need-add-v-2 Inv-loop μ-loop
-add-v-2 c = omega (arith, trailing-le 64 (c .before .loop .left), c .before .before .pre .0 .0 .vertices .1)
+add-v-2 c = omega (arith, trailing-le 64 (c .before .loop .left), c .before .before .before .before .pre .0 .0 .vertices .1)
 
 edge-mask-requires : tie.Need-edge-mask-requires Inv-loop μ-loop
 edge-mask-requires c κs =
     let l = c .before .loop in
-    let p = c .before .before .pre .0 in
-    let k = c .before .before .args .k in
-    let t = word-first 64 (k .low + k .verts - c .before .before .args .u) (omega (arith, p .0 .vertices .0))
-    (lt-of-le-of-lt (l .inv .1) (p .2 .small)) (omega arith) .below in
-    ((p .0, p .1, (omega arith, omega (arith, t)), omega arith), c .before .before .pre .1 .1)
+    let s = c .before .before .before .before in
+    let k = s .args .k in
+    let o = s .pre .0 .0 in
+    let left = k .low + k .verts - (k .low + 1 + s .args .i) in
+    let t = word-first 64 left (omega (arith, o .vertices .0)) (l .inv .1) (omega arith) .below in
+    ((o, (omega arith, omega arith), (omega arith, omega (arith, t)), omega arith), s .pre .1 .1)
 
 narrow-requires : tie.Need-narrow-requires Inv-loop μ-loop
-narrow-requires c κs = omega (arith, c .before .before .before .before .pre .0 .0 .vertices .1)
+narrow-requires c κs = omega (arith, c .before .before .before .before .before .before .pre .0 .0 .vertices .1)
 
 narrow-requires-2 : tie.Need-narrow-requires-2 Inv-loop μ-loop
 narrow-requires-2 c κs =
-    omega (arith, trailing-le 64 (c .before .before .before .before .loop .left), c .before .before .before .before .before .pre .0 .0 .vertices .1)
+    let l = c .before .before .before .before in
+    omega (arith, trailing-le 64 (l .loop .left), l .before .before .before .pre .0 .0 .vertices .1)
 
 put-ends-requires : tie.Need-put-ends-requires Inv-loop μ-loop
 put-ends-requires c κs =
@@ -79,13 +106,15 @@ loop-again c =
     let e = c .before .before in
     let m = e .before .before .before .before in
     let l = m .before .before in
-    let s = l .before in
-    let r = filling-room _ _ _ (l .loop .left) (omega arith) (l .loop .inv .0) (l .loop .inv .2) in (
+    let s = l .before .before .before in
+    let r = filling-room _ _ _ (l .loop .left) (omega arith) (l .loop .inv .0) (l .loop .inv .2) in
+    let v = seenIn (s .args .n) (now (s .args .rows)) (now (s .args .corners)) in
+    let u = s .args .k .low + 1 + s .args .i in (
       omega (arith, and-le-r (l .loop .left) (l .loop .left - 1)),
-      omega (arith, and-le-r (l .loop .left) (l .loop .left - 1)),
-      filling-turn (seenIn (s .args .n) (now (s .args .rows)) (now (s .args .corners))) (s .args .k) (s .args .u) (l .loop .left)
-          (m .edge-mask .result) (omega arith) (l .loop .inv .0) (omega (arith, r)) (omega (arith, r)) refl (m .edge-mask .ensures)
-          (l .loop .inv .2) (e .before .before .narrow .ensures) (e .before .narrow2 .ensures) (e .put-ends .ensures) (c .put-mask .ensures),
+      lt-of-le-of-lt (and-le-r (l .loop .left) (l .loop .left - 1)) (omega (arith, l .loop .inv .1)),
+      filling-turn v (s .args .k) u (l .loop .left) (m .edge-mask .result) (omega arith) (l .loop .inv .0) (omega (arith, r))
+          (omega (arith, r)) refl (m .edge-mask .ensures) (l .loop .inv .2) (e .before .before .narrow .ensures)
+          (e .before .narrow2 .ensures) (e .put-ends .ensures) (c .put-mask .ensures),
     )
 
 returns : tie.Need-returns Inv-loop μ-loop
@@ -97,6 +126,12 @@ fill-vertex-spec =
     (tie.spec
     Inv-loop
     μ-loop
+    add-u
+    add-u-2
+    mul-left
+    element-copy-out-left
+    add-left
+    shr-left
     loop-holds
     add-v
     cast-v
