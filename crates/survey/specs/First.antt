@@ -2,15 +2,10 @@
 use mathlib.Core.Path.{_≡_, refl, sym, ap, _∙_}
 use mathlib.Core.List.{List, _++_}
 use Prim.Native.Nat.{ℕ, _+_, _-_, _^_, _<_}
-use native.Mathlib.Nat.{lt-of-lt-of-le}
-use native.Mathlib.Omega.{arith}
 use lib.Bits.{bitAnd}
 use lib.Count.{trailingZeros}
-use lib.Pow.{pow-mono}
-use Rattle.laws.specs.Mask.{mask-lt}
 use Rattle.scene.specs.declared.Solid.{Solid}
-use Rattle.listing.specs.Hits.{Seen, Hit, Sound, upTo, edgeMask, solidHits}
-use Rattle.face_masks.specs.Faces.{width}
+use Rattle.listing.specs.Hits.{Seen, Hit, Sound, upTo, solidHits}
 use Rattle.listing.specs.First.{firstOf}
 use Rattle.listing.specs.declared.find.Found.{Found}
 use Rattle.listing.specs.declared.find.Found.the-variants.{Nothing, Pair}
@@ -34,18 +29,13 @@ module _ (s : Seen) (k : Solid) where
   unfolding solidEdges
   hits-all sound = sym (each-upTo (entryHits (k .other)) (λ i. vertexEdges s k (k .low + 1 + i)) (k .verts)) ∙ edges-hits s k sound
 
-  -- a mask has no more faces than the other solid has
-  pub mask-small : Sound s k → (u v : ℕ) → edgeMask s k u v < 2 ^ width
-  unfolding edgeMask
-  mask-small sound u v = lt-of-lt-of-le (mask-lt _ (k .others)) (pow-mono {i = k .others} {j = width} (omega (arith, sound .other .1)))
-
   -- ---- along the bits of a word: what is left has the first of all
 
   abbrev pub Left : (u w : ℕ) → Type 0
   Left u w = firstOf (hitsOf (bitEdges s k u w)) ≡ firstOf (hitsOf (vertexEdges s k u))
 
-  module _ (u w : ℕ) {v : ℕ} {o : Found} (some : 0 < w) (small : w < 2 ^ 64) (is-v : v ≡ u + 1 + trailingZeros 64 w) (is-o : o ≡ firstOf (entryHits (k .other) (entry s k u v)))
-      (left : Left u w) where
+  module _ (u w : ℕ) {v : ℕ} {o : Found} (some : 0 < w) (small : w < 2 ^ 64) (is-v : v ≡ u + 1 + trailingZeros 64 w)
+      (is-o : o ≡ firstOf (entryHits (k .other) (entry s k u v))) (left : Left u w) where
     abbrev here : List Hit
     here = entryHits (k .other) (entry s k u v)
 

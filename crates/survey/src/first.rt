@@ -17,6 +17,7 @@ use narrow::cuts::Cuts;
 use scene::Corners;
 use scene::Rows;
 use scene::Solid;
+use table::first::first_of_mask;
 
 // Of the edge u, v.
 fn first_of_edge(
@@ -36,10 +37,7 @@ fn first_of_edge(
     ensures { λ r. ⌜ r ≡ firstOf (entryHits (k .other) (entry (seenIn n (now (rows .entry)) (now (corners .entry))) k u v)) ⌝ }
 {
     let m = edge_mask(engine, rows, corners, n, k, words, own, cuts, u, v);
-    if !face_masks::has_face(m) {
-        return Found::Nothing;
-    }
-    Found::Pair(u, v, k.other + 1 + face_masks::first_face(m))
+    first_of_mask(u, v, m, k.other)
 }
 
 // Of the edges from u to its higher neighbours.
@@ -55,25 +53,16 @@ fn first_of_vertex(
     u: usize,
     higher: u64,
 ) -> Found
-    requires solid { ⌜ Sound (seenIn n (now rows) (now corners)) k × Vertex (k .low) (k .low + k .verts) u × Higher (seenIn n (now rows) (now corners)) k u higher ⌝ }
+    requires solid { ⌜ Sound (seenIn n (now rows) (now corners)) k × Vertex (k .low) (k .low + k .verts) u
+        × Higher (seenIn n (now rows) (now corners)) k u higher ⌝ }
     requires sides { ⌜ Told (seenIn n (now rows) (now corners)) k (now words) × Parted (seenIn n (now rows) (now corners)) k (now own) (now cuts) ⌝ }
     ensures { λ r. ⌜ r ≡ firstOf (each (entryHits (k .other)) (vertexEdges (seenIn n (now (rows .entry)) (now (corners .entry))) k u)) ⌝ }
 {
     let mut left = higher;
     while left != 0 {
         let v = u + 1 + u64::trailing_zeros(left) as usize;
-        if let Found::Pair(a, b, f) = first_of_edge(
-            engine,
-            rows,
-            corners,
-            n,
-            k,
-            words,
-            own,
-            cuts,
-            u,
-            v,
-        ) {
+        let found = first_of_edge(engine, rows, corners, n, k, words, own, cuts, u, v);
+        if let Found::Pair(a, b, f) = found {
             return Found::Pair(a, b, f);
         }
         left = left & (left - 1);
@@ -105,18 +94,8 @@ pub fn first_of(
     while i < upto {
         let u = low + 1 + i;
         let higher = links[u] >> (i + 1);
-        if let Found::Pair(a, b, f) = first_of_vertex(
-            engine,
-            rows,
-            corners,
-            n,
-            k,
-            words,
-            own,
-            cuts,
-            u,
-            higher,
-        ) {
+        let found = first_of_vertex(engine, rows, corners, n, k, words, own, cuts, u, higher);
+        if let Found::Pair(a, b, f) = found {
             return Found::Pair(a, b, f);
         }
         i += 1;

@@ -3,7 +3,8 @@ use mathlib.Core.List.{List, [], _∷_, _++_}
 use Prim.Native.Nat.{ℕ, _+_, _*_, _^_}
 use lib.ListN.{getD}
 use Rattle.scene.specs.Limits.{limits}
-use Rattle.face_masks.specs.Faces.{width}
+use Rattle.face_masks.specs.Faces.{width, valueOf}
+use Rattle.face_masks.specs.declared.Mask.{Mask}
 use Rattle.listing.specs.Hits.{Hit, upTo}
 use Rattle.listing.specs.Pour.{maskHits}
 
@@ -22,6 +23,10 @@ maskIn masks j = getD masks (2 * j) 0 + 2 ^ 64 * getD masks (2 * j + 1) 0
 
 abbrev pub entryIn : (ends masks : List ℕ) → ℕ → Entry
 entryIn ends masks j = record { low = getD ends (2 * j) 0; high = getD ends (2 * j + 1) 0; mask = maskIn masks j }
+
+-- of an edge whose mask stands in two words
+abbrev pub entryOf : (u v : ℕ) → Mask → Entry
+entryOf u v m = record { low = u; high = v; mask = valueOf m }
 
 -- the first n entries
 unfoldable pub entriesIn : (ends masks : List ℕ) → ℕ → List Entry

@@ -3,10 +3,13 @@ ghost use mathlib.Core.Path.{_≡_};
 ghost use Prim.Native.Nat.{_*_, _≤_, _<_};
 ghost use Rattle.listing.specs.First.{firstOf};
 ghost use Rattle.scene.specs.Limits.{limits};
-ghost use Rattle.table.specs.Table.{mostEdges, entryIn, entryHits, tableHits};
+ghost use Rattle.table.specs.Table.{mostEdges, entryIn, entryOf, entryHits, tableHits};
 use crate::Ends;
 use crate::Masks;
 use crate::mask_at;
+use face_masks::Mask;
+use face_masks::first_face;
+use face_masks::has_face;
 use listing::find::Found;
 
 fn wide(x: u16) -> usize
@@ -15,21 +18,26 @@ fn wide(x: u16) -> usize
     x as usize
 }
 
-// Of edge j, with the faces numbered from first + 1 on.
+// Of the edge u, v and the faces of its mask, numbered from first + 1 on.
+pub fn first_of_mask(u: usize, v: usize, m: Mask, first: usize) -> Found
+    requires { ⌜ first ≤ 2 * limits .mostFaces ⌝ }
+    ensures { λ r. ⌜ r ≡ firstOf (entryHits first (entryOf u v m)) ⌝ }
+{
+    if !has_face(m) {
+        return Found::Nothing;
+    }
+    Found::Pair(u, v, first + 1 + first_face(m))
+}
+
+// Of edge j.
 fn find_entry(ends: &Ends, masks: &Masks, j: usize, first: usize) -> Found
     requires { ⌜ (j < mostEdges) × (first ≤ 2 * limits .mostFaces) ⌝ }
     ensures { λ r. ⌜ r ≡ firstOf (entryHits first (entryIn (now (ends .entry)) (now (masks .entry)) j)) ⌝ }
 {
-    let m = mask_at(masks, j);
-    if !face_masks::has_face(m) {
-        return Found::Nothing;
-    }
     let at = 2 * j;
-    Found::Pair(
-        wide(ends[at]),
-        wide(ends[at + 1]),
-        first + 1 + face_masks::first_face(m),
-    )
+    let u = wide(ends[at]);
+    let v = wide(ends[at + 1]);
+    first_of_mask(u, v, mask_at(masks, j), first)
 }
 
 // Of the first n edges.

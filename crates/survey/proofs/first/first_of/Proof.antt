@@ -48,8 +48,8 @@ first-of-vertex-requires c κs =
     let i = l .loop .i in
     ((o, (omega arith, omega arith), higher v (s .args .k) o i (omega arith) (s .pre .0 .1 (s .args .k .low + 1 + i) (omega arith, omega arith))), s .pre .1 .0)
 
-enum-known-a : tie.Need-enum-known-a Inv-loop μ-loop
-enum-known-a c = search needs
+enum-known-found : tie.Need-enum-known-found Inv-loop μ-loop
+enum-known-found c = search needs
 
 returns : tie.Need-returns Inv-loop μ-loop
 returns c = search first-found
@@ -83,7 +83,7 @@ first-of-spec =
     add-higher
     shr-higher
     first-of-vertex-requires
-    enum-known-a
+    enum-known-found
     returns
     enum-told
     add-i

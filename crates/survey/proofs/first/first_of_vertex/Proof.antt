@@ -47,8 +47,8 @@ first-of-edge-requires c κs =
     (lt-of-le-of-lt (l .inv .1) (p .2 .small)) (omega arith) .below in
     ((p .0, p .1, (omega arith, omega (arith, t)), omega arith), c .before .before .pre .1)
 
-enum-known-a : tie.Need-enum-known-a Inv-loop μ-loop
-enum-known-a c = search needs
+enum-known-found : tie.Need-enum-known-found Inv-loop μ-loop
+enum-known-found c = search needs
 
 returns : tie.Need-returns Inv-loop μ-loop
 returns c =
@@ -92,7 +92,7 @@ first-of-vertex-spec =
     cast-v
     add-v-2
     first-of-edge-requires
-    enum-known-a
+    enum-known-found
     returns
     enum-told
     sub-left
