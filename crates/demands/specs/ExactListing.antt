@@ -12,9 +12,10 @@ use Rattle.edges.specs.Edges.{joined}
 use Rattle.scene.specs.declared.Solid.{Solid}
 use Rattle.pierce.specs.Formula.{pierced}
 use Rattle.listing.specs.Hits.{Seen, Hit, faceHits, edgeHits, pairHits, pairsAt, vertexHits, solidHits}
+use Rattle.listing.specs.Laws.{each-upTo, each-only}
 use Rattle.listing.specs.Pour.{three}
 use Rattle.demands.specs.Exact.{Less, Rising}
-use Rattle.demands.specs.ExactRuns.{each-upTo, each-only, rising-only, rising-upTo}
+use Rattle.demands.specs.ExactRuns.{rising-only, rising-upTo}
 
 -- ---- the order
 

@@ -8,6 +8,7 @@ use native.Mathlib.Omega.{arith}
 use native.Mathlib.Decide.{ℕ-discrete}
 use Rattle.laws.specs.Lists.{Each, Some, Number, none, one-more, not-this, run, each-map, each-append}
 use Rattle.listing.specs.Hits.{upTo, only}
+use Rattle.listing.specs.Laws.{each-upTo}
 use Rattle.demands.specs.Exact.{Rising}
 
 module _ {A : Type 0} where
@@ -62,15 +63,6 @@ module _ {A : Type 0} where
         there h (no d) next = inr (next (h .0, (omega (arith, h .1), omega (arith, h .1)), h .2))
 
   -- ---- each of them is so
-
-  pub each-upTo : (P : A → Type 0) (g : ℕ → List A) (n : ℕ) → ((i : ℕ) → i < n → Each P (g i)) → Each P (upTo g n)
-  unfolding upTo
-  each-upTo P g zero h = tt
-  each-upTo P g (suc n) h = each-append P (upTo g n) (g n) (each-upTo P g n (λ i l. h i (omega arith))) (h n (omega arith))
-
-  pub each-only : (P : A → Type 0) (b : Bool) (l : List A) → Each P l → Each P (only b l)
-  each-only P true l h = h
-  each-only P false l h = tt
 
   pub each-of : (P : A → Type 0) (l : List A) → Each P l → (x : A) → Some (λ y. y ≡ x) l → P x
   each-of P [] h x e = absurd e

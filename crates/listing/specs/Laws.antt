@@ -7,6 +7,7 @@ use native.Mathlib.Omega.{arith}
 use native.Mathlib.Numerals.{add-one}
 use native.Mathlib.Nat.{suc-mul}
 use lib.ListN.{length, length-append}
+use Rattle.laws.specs.Lists.{Each, each-append}
 use Rattle.laws.specs.Mask.{mask-test, testBit}
 use Rattle.scene.specs.declared.Solid.{Solid}
 use Rattle.pierce.specs.Formula.{pierced}
@@ -45,6 +46,17 @@ module _ {A : Type 0} where
 
   pub count-all : (g : ℕ → List A) {i n c : ℕ} → i ≤ n → n ≤ i → c ≡ length (upTo g i) → c ≡ length (upTo g n)
   count-all g {i} {n} a b e = let d : i ≡ n = omega arith in rw d at e
+
+  -- what is so of each of the runs is so of all
+  module _ (P : A → Type 0) where
+    pub each-upTo : (g : ℕ → List A) (n : ℕ) → ((i : ℕ) → i < n → Each P (g i)) → Each P (upTo g n)
+    unfolding upTo
+    each-upTo g zero h = tt
+    each-upTo g (suc n) h = each-append P (upTo g n) (g n) (each-upTo g n (λ i b. h i (omega arith))) (h n (omega arith))
+
+    pub each-only : (b : Bool) (l : List A) → Each P l → Each P (only b l)
+    each-only true l h = h
+    each-only false l h = tt
 
 module _ (s : Seen) (k : Solid) where
   -- an edge's hits are those of its mask's bits

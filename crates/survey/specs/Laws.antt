@@ -1,21 +1,21 @@
 -- What was surveyed is the listing; and the first of two runs. Assumes nothing.
 use mathlib.Core.Path.{_≡_, sym, ap₂, _∙_, subst}
-use mathlib.Core.Bool.{Bool, true, false, _&&_}
+use mathlib.Core.Bool.{_&&_}
 use mathlib.Core.List.{List, [], _∷_, _++_}
 use Prim.Native.Nat.{ℕ, zero, suc, _+_, _*_, _≤_, _<_}
 use native.Mathlib.Decide.{ℕ-discrete}
 use native.Mathlib.Omega.{arith}
 use lib.Dec.{ltb}
 use lib.ListN.{length, length-append}
-use Rattle.laws.specs.Lists.{Each, each-append}
+use Rattle.laws.specs.Lists.{Each}
 use Rattle.edges.specs.Edges.{joined}
 use Rattle.scene.specs.declared.Solid.{Solid}
-use Rattle.listing.specs.Hits.{Seen, Hit, Sound, upTo, only, solidHits}
+use Rattle.listing.specs.Hits.{Seen, Hit, Sound, upTo, solidHits}
 use Rattle.listing.specs.First.{firstOf}
 use Rattle.listing.specs.declared.find.Found.{Found}
 use Rattle.listing.specs.declared.find.Found.the-variants.{Nothing, Pair}
 use Rattle.face_masks.specs.Faces.{width}
-use Rattle.listing.specs.Laws.{bounded}
+use Rattle.listing.specs.Laws.{bounded, each-upTo, each-only}
 use Rattle.table.specs.Table.{Entry, entryIn, entriesIn, entryHits, tableHits}
 use Rattle.table.specs.Entries.{entry-most}
 use Rattle.edge_masks.specs.Edges.{entry, vertexEdges, solidEdges, Filled}
@@ -66,11 +66,6 @@ first-right (h ∷ l) m p q e = cc
 -- ---- the ends of a table's edges
 
 module _ (P : Entry → Type 0) where
-  each-upTo : (g : ℕ → List Entry) (n : ℕ) → ((i : ℕ) → i < n → Each P (g i)) → Each P (upTo g n)
-  unfolding upTo
-  each-upTo g zero h = tt
-  each-upTo g (suc n) h = each-append P (upTo g n) (g n) (each-upTo g n (λ i b. h i (omega arith))) (h n (omega arith))
-
   each-left : (l r : List Entry) → Each P (l ++ r) → Each P l
   each-left [] r h = tt
   each-left (x ∷ l) r h = (h .0, each-left l r (h .1))
@@ -88,10 +83,6 @@ module _ (P : Entry → Type 0) where
       by (yes e) before = rw e (each-right (upTo (λ i. f i ∷ []) n) (f n ∷ []) h .0)
       by (no d) before = before (omega arith)
 
-  each-only : (b : Bool) (e : Entry) → P e → Each P (only b (e ∷ []))
-  each-only true e h = (h, tt)
-  each-only false e h = tt
-
 pub ends-in : (s : Seen) (k : Solid) (ends masks : List ℕ) (n : ℕ) → entriesIn ends masks n ≡ solidEdges s k →
     (j : ℕ) → j < n → EndsIn (k .low) (k .verts) (entryIn ends masks j)
 unfolding entriesIn solidEdges vertexEdges
@@ -101,6 +92,6 @@ ends-in s k ends masks n e j b =
     each-upTo P (λ i. vertexEdges s k (k .low + 1 + i)) (k .verts)
     (λ i h. each-upTo P _ (k .verts)
     (λ m c. each-only P (ltb (k .low + 1 + i) (k .low + 1 + m) && joined (s .face) k (k .low + 1 + i) (k .low + 1 + m))
-    (entry s k (k .low + 1 + i) (k .low + 1 + m))
-    (record { low-end = (omega arith, omega arith); high-end = (omega arith, omega arith) }))) in
+    (entry s k (k .low + 1 + i) (k .low + 1 + m) ∷ [])
+    (record { low-end = (omega arith, omega arith); high-end = (omega arith, omega arith) }, tt))) in
     each-at P (entryIn ends masks) n j (rw e all) b
