@@ -17,7 +17,6 @@ use kernel::masks;
 use kernel::masks::Masked;
 use kernel::points;
 use kernel::verdict;
-use lines::answers;
 use lines::refused;
 use lines::rows;
 
@@ -97,7 +96,7 @@ pub fn count(engine: Engine, s: &[u8], out: &mut [u8], at: usize) -> usize
     ensures { λ p. ⌜ Put (now (out .entry)) at (line (countsLine (countedOf (now (s .entry))))) (now (out .exit)) p ⌝ }
 {
     let x = counts::count(engine, s);
-    answers::counts(out, at, x)
+    lines::counts::counts(out, at, x)
 }
 
 // A record's bytes.

@@ -44,7 +44,7 @@ fn told(c: Changed) -> Counted
 pub fn line_of(out: &mut [u8], c: Changed) -> usize
     ensures { λ p. ⌜ Put (now (out .entry)) 0 (line (countsLine (toldOf c))) (now (out .exit)) p ⌝ }
 {
-    lines::answers::counts(out, 0, told(c))
+    lines::counts::counts(out, 0, told(c))
 }
 
 // The session's scene to the front of out; the answer is its length, 0 for the empty session.

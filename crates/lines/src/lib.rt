@@ -11,7 +11,7 @@ use render::word;
 use scene::Refusal;
 use scene::Scene;
 
-pub mod answers;
+pub mod counts;
 pub mod rows;
 pub mod surveyed;
 pub mod verdicts;

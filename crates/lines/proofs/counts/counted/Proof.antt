@@ -1,8 +1,8 @@
 -- Its words, one after the other.
 use Rattle.render.specs.Put.{end-to-end}
 use borrow.Author.Needs.{needs}
-use Rattle.lines.proofs.answers.counted.Statement.{statement}
-use Rattle.lines.proofs.answers.counted.Tie as tie
+use Rattle.lines.proofs.counts.counted.Statement.{statement}
+use Rattle.lines.proofs.counts.counted.Tie as tie
 
 slice-aggregate-word : tie.Need-slice-aggregate-word
 slice-aggregate-word c = search needs

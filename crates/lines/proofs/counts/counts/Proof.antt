@@ -2,8 +2,8 @@
 use Rattle.lines.specs.Laws.{by-case}
 use Rattle.lines.specs.Lines.{countsLine}
 use borrow.Author.Needs.{needs}
-use Rattle.lines.proofs.answers.counts.Statement.{statement}
-use Rattle.lines.proofs.answers.counts.Tie as tie
+use Rattle.lines.proofs.counts.counts.Statement.{statement}
+use Rattle.lines.proofs.counts.counts.Tie as tie
 
 enum-known-a : tie.Need-enum-known-a
 enum-known-a c = search needs
