@@ -18,7 +18,7 @@ use Rattle.pierce.specs.Formula.{pierced}
 use Rattle.face_masks.specs.declared.Mask.{Mask}
 use Rattle.sides.specs.Candidates.{kept, AtEach, kept-mask, each-mask}
 use Rattle.sides.specs.Crossing.{Candidate, Candidates, crossedOf, pierced-differs}
-use Rattle.sides.specs.Sides.{above, sidesOf, masksBy, masks-value, first64}
+use Rattle.sides.specs.Sides.{above, sidesOf, low-of, high-of, words-value, masksBy, first64}
 use Rattle.narrow.specs.Parted.{parts}
 use Rattle.narrow.specs.Cover.{covers, bothOf, both-is, Across, kept-by}
 
@@ -84,33 +84,26 @@ module _ (n : ℕ) (row : ℕ → Row) (face : ℕ → Face) (u v first count : 
 module _ (n : ℕ) (row : ℕ → Row) (face : ℕ → Face) (own cut : ℕ → Mask) (u v first count : ℕ) {a b at : Mask}
     (p : a ≡ sidesOf row face first count u) (q : b ≡ sidesOf row face first count v) (s : at ≡ bothOf (own u) (own v))
     (within : first + count ≤ 2 * limits .mostFaces) (most : count ≤ limits .mostFaces) where
-  low-of : {m : Mask} (t : ℕ) → m ≡ sidesOf row face first count t → m .low ≡ maskBy (above row t) face first (first64 count)
-  unfolding masksBy
-  low-of t e i = (e i) .low
-
-  high-of : {m : Mask} (t : ℕ) → m ≡ sidesOf row face first count t → m .high ≡ maskBy (above row t) face (first + 64) (count - 64)
-  unfolding masksBy
-  high-of t e i = (e i) .high
-
   abbrev keep : ℕ → ℕ → Bool
   keep from k = covers (cut (from + 1 + k)) at
 
   pub numbered-low : AtEach (Numbered first) (bitXor (a .low) (b .low))
-  numbered-low = numbered n row face u v first (first64 count) (keep first) (low-of u p) (low-of v q) (omega arith) (λ k l. omega arith)
+  numbered-low = numbered n row face u v first (first64 count) (keep first) (low-of _ _ _ _ p) (low-of _ _ _ _ q) (omega arith)
+      (λ k l. omega arith)
 
   pub numbered-high : AtEach (Numbered (first + 64)) (bitXor (a .high) (b .high))
-  numbered-high = numbered n row face u v (first + 64) (count - 64) (keep (first + 64)) (high-of u p) (high-of v q) (omega arith)
-      (λ k l. omega arith)
+  numbered-high = numbered n row face u v (first + 64) (count - 64) (keep (first + 64)) (high-of _ _ _ _ p) (high-of _ _ _ _ q)
+      (omega arith) (λ k l. omega arith)
 
   module _ (d : BesideAll n u v face first count) where
     pub narrow-low : {z : ℕ} → z ≡ narrowedOf cut first at (bitXor (a .low) (b .low)) → Candidates n row face u v first z
     narrow-low e =
-        narrow-candidates n row face u v first (first64 count) (keep first) (low-of u p) (low-of v q) (omega arith) (λ k l. omega arith)
-        (beside-low face first (first64 count) (omega arith) d) e
+        narrow-candidates n row face u v first (first64 count) (keep first) (low-of _ _ _ _ p) (low-of _ _ _ _ q) (omega arith)
+        (λ k l. omega arith) (beside-low face first (first64 count) (omega arith) d) e
 
     pub narrow-high : {z : ℕ} → z ≡ narrowedOf cut (first + 64) at (bitXor (a .high) (b .high)) → Candidates n row face u v (first + 64) z
     narrow-high e =
-        narrow-candidates n row face u v (first + 64) (count - 64) (keep (first + 64)) (high-of u p) (high-of v q) (omega arith)
+        narrow-candidates n row face u v (first + 64) (count - 64) (keep (first + 64)) (high-of _ _ _ _ p) (high-of _ _ _ _ q) (omega arith)
         (λ k l. omega arith)
         (beside-high face first 64 d) e
 
@@ -130,11 +123,9 @@ module _ (n : ℕ) (row : ℕ → Row) (face : ℕ → Face) (own cut : ℕ → 
           ≡ narrowedOf cut (first + 64) at (bitXor (a .high) (b .high)) →
           r .low ≡ crossedOf n row face u v first y → r .high ≡ crossedOf n row face u v (first + 64) z → valueOf r
           ≡ maskAgainst n row face u v first count
-      unfolding masksBy
-      narrow-masks {r} ey ez x o =
-          ap valueOf (λ i. record {
-            low = narrow-told n row face u v first (first64 count) (keep first) (low-of u p) (low-of v q) (omega arith)
-                (λ k l. all-kept k (omega arith)) ey x i;
-            high = narrow-told n row face u v (first + 64) (count - 64) (keep (first + 64)) (high-of u p) (high-of v q)
-                (omega arith) kept-high ez o i;
-          }) ∙ masks-value (pierced n row u v) face first count
+      narrow-masks ey ez x o =
+          words-value (pierced n row u v) face first count
+          (narrow-told n row face u v first (first64 count) (keep first) (low-of _ _ _ _ p) (low-of _ _ _ _ q) (omega arith)
+          (λ k l. all-kept k (omega arith)) ey x)
+          (narrow-told n row face u v (first + 64) (count - 64) (keep (first + 64)) (high-of _ _ _ _ p) (high-of _ _ _ _ q) (omega arith)
+          kept-high ez o)

@@ -22,7 +22,7 @@ use Rattle.pierce.specs.Formula.{formula, pierces, pierced}
 use Rattle.pierce.specs.Scene.{scene-five}
 use Rattle.face_masks.specs.declared.Mask.{Mask}
 use Rattle.sides.specs.Candidates.{kept, AtEach, kept-mask, each-mask}
-use Rattle.sides.specs.Sides.{above, sidesOf, masksBy, masks-value, first64}
+use Rattle.sides.specs.Sides.{above, sidesOf, low-of, high-of, words-value, first64}
 
 -- seen along the edge from u to v, q has p and r on different hands, and so has r p and q
 unfoldable pub crosses : (ℕ → ℕ → ℕ → ℕ → Bool) → (u v : ℕ) → Face → Bool
@@ -128,31 +128,21 @@ module _ (n : ℕ) (row : ℕ → Row) (face : ℕ → Face) (u v first count : 
 -- the two words of u and v, and what is crossed of their candidates
 module _ (n : ℕ) (row : ℕ → Row) (face : ℕ → Face) (u v first count : ℕ) {a b : Mask}
     (p : a ≡ sidesOf row face first count u) (q : b ≡ sidesOf row face first count v) where
-  low-of : {m : Mask} (t : ℕ) → m ≡ sidesOf row face first count t → m .low ≡ maskBy (above row t) face first (first64 count)
-  unfolding masksBy
-  low-of t e i = (e i) .low
-
-  high-of : {m : Mask} (t : ℕ) → m ≡ sidesOf row face first count t → m .high ≡ maskBy (above row t) face (first + 64) (count - 64)
-  unfolding masksBy
-  high-of t e i = (e i) .high
-
   module _ (within : first + count ≤ 2 * limits .mostFaces) (most : count ≤ limits .mostFaces) where
     module _ (d : BesideAll n u v face first count) where
       pub candidates-low : Candidates n row face u v first (bitXor (a .low) (b .low))
       candidates-low =
-          candidates n row face u v first (first64 count) (low-of u p) (low-of v q) (omega arith) (λ j b. omega arith)
+          candidates n row face u v first (first64 count) (low-of _ _ _ _ p) (low-of _ _ _ _ q) (omega arith) (λ j b. omega arith)
           (beside-low face first (first64 count) (omega arith) d)
 
       pub candidates-high : Candidates n row face u v (first + 64) (bitXor (a .high) (b .high))
       candidates-high =
-          candidates n row face u v (first + 64) (count - 64) (high-of u p) (high-of v q) (omega arith) (λ j b. omega arith)
+          candidates n row face u v (first + 64) (count - 64) (high-of _ _ _ _ p) (high-of _ _ _ _ q) (omega arith) (λ j b. omega arith)
           (beside-high face first 64 d)
 
     pub masks-told : {r : Mask} → r .low ≡ crossedOf n row face u v first (bitXor (a .low) (b .low)) →
         r .high ≡ crossedOf n row face u v (first + 64) (bitXor (a .high) (b .high)) → valueOf r ≡ maskAgainst n row face u v first count
-    unfolding masksBy
-    masks-told {r} x y =
-        ap valueOf (λ i. record {
-          low = word-told n row face u v first (first64 count) (low-of u p) (low-of v q) (omega arith) x i;
-          high = word-told n row face u v (first + 64) (count - 64) (high-of u p) (high-of v q) (omega arith) y i;
-        }) ∙ masks-value (pierced n row u v) face first count
+    masks-told x y =
+        words-value (pierced n row u v) face first count
+        (word-told n row face u v first (first64 count) (low-of _ _ _ _ p) (low-of _ _ _ _ q) (omega arith) x)
+        (word-told n row face u v (first + 64) (count - 64) (high-of _ _ _ _ p) (high-of _ _ _ _ q) (omega arith) y)

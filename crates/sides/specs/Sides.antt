@@ -39,6 +39,16 @@ masksBy passes face first count = record {
 abbrev pub sidesOf : (ℕ → Row) → (ℕ → Face) → (first count t : ℕ) → Mask
 sidesOf row face first count t = masksBy (above row t) face first count
 
+-- its two words
+module _ (passes : Face → Bool) (face : ℕ → Face) (first count : ℕ) {m : Mask} (e : m ≡ masksBy passes face first count) where
+  pub low-of : m .low ≡ maskBy passes face first (first64 count)
+  unfolding masksBy
+  low-of i = (e i) .low
+
+  pub high-of : m .high ≡ maskBy passes face (first + 64) (count - 64)
+  unfolding masksBy
+  high-of i = (e i) .high
+
 no-more : (g : ℕ → Bool) (x : ℕ) → x + 2 ^ 64 * maskOf g 0 ≡ x
 unfolding maskOf
 no-more g x = omega arith
@@ -70,8 +80,13 @@ masks-value passes face first count = go (decLt 64 count)
         ap₂ (λ (x y : ℕ). x + 2 ^ 64 * y) (ap (maskOf g) m) (ap (maskBy passes face (first + 64)) z)
         ∙ no-more (λ k. passes (face (first + 64 + 1 + k))) (maskOf g count)
 
--- as the code makes them: one word holds all, or the second goes on from there
+-- as the code makes them: each word by itself; one word holds all, or the second goes on from there
 module _ (passes : Face → Bool) (face : ℕ → Face) (first count : ℕ) where
+  pub words-value : {m : Mask} → m .low ≡ maskBy passes face first (first64 count) →
+      m .high ≡ maskBy passes face (first + 64) (count - 64) → valueOf m ≡ maskBy passes face first count
+  unfolding masksBy
+  words-value p q = ap valueOf (λ i. record { low = p i; high = q i }) ∙ masks-value passes face first count
+
   pub masks-one : {w : ℕ} → count ≤ 64 → w ≡ maskBy passes face first count → _≡_ {A = Mask} (record { low = w; high = 0 })
       (masksBy passes face first count)
   unfolding masksBy maskOf
