@@ -56,8 +56,8 @@ turned-small : (n new odd : ℕ) (c : Bool) → new < 2 ^ n → odd < 2 ^ n → 
 turned-small n new odd true a b = xor-lt n new odd a b
 turned-small n new odd false a b = b
 
-module _ (s : Seen) (k : Solid) (ready : Ready s k) (links odds : List ℕ) (are-links : AreLinks s k links) (are-odds : AreOdds s k odds) (t : Spread) (r : Reached s k t)
-    (some : 0 < bitAnd (t .known) (t .left)) where
+module _ (s : Seen) (k : Solid) (ready : Ready s k) (links odds : List ℕ) (are-links : AreLinks s k links)
+    (are-odds : AreOdds s k odds) (t : Spread) (r : Reached s k t) (some : 0 < bitAnd (t .known) (t .left)) where
   abbrev i : ℕ
   i = passed t
 
@@ -90,7 +90,9 @@ module _ (s : Seen) (k : Solid) (ready : Ready s k) (links odds : List ℕ) (are
   link-bit m h = ap (λ (w : ℕ). testBit w m) (are-links u own) ∙ mask-test (λ m. joined (s .face) k u (k .low + 1 + m)) 64 m (omega (arith, few))
 
   new-small : new < 2 ^ k .verts
-  new-small = xor-lt (k .verts) (bitOr (getD links u 0) (t .known)) (t .known) (or-lt (k .verts) (getD links u 0) (t .known) link-small (r .known-in)) (r .known-in)
+  new-small =
+      xor-lt (k .verts) (bitOr (getD links u 0) (t .known)) (t .known)
+      (or-lt (k .verts) (getD links u 0) (t .known) link-small (r .known-in)) (r .known-in)
 
   new-bit : (m : ℕ) → testBit new m ≡ (testBit (getD links u 0) m || testBit (t .known) m) ⊕ testBit (t .known) m
   new-bit m = test-xor (bitOr (getD links u 0) (t .known)) (t .known) m ∙ ap (λ (b : Bool). b ⊕ testBit (t .known) m) (test-or (getD links u 0) (t .known) m)
@@ -117,7 +119,8 @@ module _ (s : Seen) (k : Solid) (ready : Ready s k) (links odds : List ℕ) (are
       test-or (t .inside) (turned new (bitAnd new (getD odds u 0)) (testBit (t .inside) i)) m
       ∙ ap₂ _||_ (r .right m h)
       (turned-bit new (bitAnd new (getD odds u 0)) m (testBit (t .inside) i)
-      ∙ ap₂ (λ (x y : Bool). cond (testBit (t .inside) i) (x ⊕ y) y) (new-bit m) (test-and new (getD odds u 0) m ∙ ap (λ (b : Bool). b && testBit (getD odds u 0) m) (new-bit m))
+      ∙ ap₂ (λ (x y : Bool). cond (testBit (t .inside) i) (x ⊕ y) y) (new-bit m)
+      (test-and new (getD odds u 0) m ∙ ap (λ (b : Bool). b && testBit (getD odds u 0) m) (new-bit m))
       ∙ ap (λ (c : Bool). cond c (n ⊕ (n && o)) (n && o)) known-here)
       ∙ step-law (testBit (t .known) m) (testBit (getD links u 0) m) o (enclosed i) (enclosed m)
       (λ l q. are-odds u m own h (sym (link-bit m h) ∙ l))
@@ -147,7 +150,8 @@ module _ (s : Seen) (k : Solid) (ready : Ready s k) (links odds : List ℕ) (are
   step-less =
       let e : bitAnd (t .left) (2 ^ i) ≡ 2 ^ i =
       same-bits (k .verts) (and-lt (k .verts) (t .left) (2 ^ i) (r .left-in) (pow-lt here)) (pow-lt here)
-      (λ m h. test-and (t .left) (2 ^ i) m ∙ ap (λ (b : Bool). testBit (t .left) m && b) (test-one i m (k .verts) here h) ∙ at m (ℕ-discrete i m) ∙ sym (test-one i m (k .verts) here h)) in
+      (λ m h. test-and (t .left) (2 ^ i) m ∙ ap (λ (b : Bool). testBit (t .left) m && b) (test-one i m (k .verts) here h)
+      ∙ at m (ℕ-discrete i m) ∙ sym (test-one i m (k .verts) here h)) in
       omega (arith, xor-add-and (t .left) (2 ^ i), e, pow-pos i)
     where
       at : (m : ℕ) → Dec (i ≡ m) → (testBit (t .left) m && eqb i m) ≡ eqb i m

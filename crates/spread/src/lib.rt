@@ -135,7 +135,8 @@ pub fn enclosed_word(
     odds: &Words,
     words: &sides::words::Words,
 ) -> u64
-    requires solid { ⌜ Ready (seenIn n (now rows) (now corners)) k × AreLinks (seenIn n (now rows) (now corners)) k (now links) × AreOdds (seenIn n (now rows) (now corners)) k (now odds) ⌝ }
+    requires solid { ⌜ Ready (seenIn n (now rows) (now corners)) k × AreLinks (seenIn n (now rows) (now corners)) k (now links)
+        × AreOdds (seenIn n (now rows) (now corners)) k (now odds) ⌝ }
     requires sides { ⌜ Told (seenIn n (now rows) (now corners)) k (now words) ⌝ }
     ensures { λ r. ⌜ r ≡ insideWord (seenIn n (now (rows .entry)) (now (corners .entry))) k ⌝ }
 {

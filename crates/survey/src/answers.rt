@@ -59,7 +59,8 @@ pub fn pour_pairs(
     out: &mut [u16],
 ) -> usize
     requires { ⌜ Fits t × (a ≤ 2 * limits .mostFaces) × (b ≤ 2 * limits .mostFaces) ⌝ }
-    ensures { λ r. ⌜ Pours (pairsOf t a b (now (aends .entry)) (now (amasks .entry)) (now (bends .entry)) (now (bmasks .entry))) from 0 (now (out .entry)) (now (out .exit)) r ⌝ }
+    ensures { λ r. ⌜ Pours (pairsOf t a b (now (aends .entry)) (now (amasks .entry)) (now (bends .entry)) (now (bmasks .entry))) from 0
+        (now (out .entry)) (now (out .exit)) r ⌝ }
 {
     let c = pour(aends, amasks, t.a.edges, a, from, 0, out);
     pour(bends, bmasks, t.b.edges, b, from, c, out)
