@@ -14,9 +14,9 @@ use Rattle.judge.specs.declared.Judged.the-variants.{Accepted, Refused}
 use Rattle.record.specs.Shown.{shown, refusal}
 use Rattle.face_masks.specs.Faces.{valueOf}
 use Rattle.face_masks.specs.declared.Mask.{Mask}
-use Rattle.kernel.specs.Answers.{faces-are, IsListed}
-use Rattle.kernel.specs.declared.lists.Listed.{Listed}
-use Rattle.kernel.specs.declared.masks.Masked.the-variants as masked
+use Rattle.questions.specs.Answers.{faces-are, IsListed}
+use Rattle.questions.specs.declared.Listed.{Listed}
+use Rattle.questions.specs.declared.Masked.the-variants as masked
 use Rattle.render.specs.Text.{ascii, decimal, line, text}
 use Rattle.render.specs.Back.{Words}
 use Rattle.render.specs.Put.{behind, Put, end-to-end}

@@ -7,9 +7,9 @@ use lib.Dec.{eqb}
 use lib.ListN.{length, getD, take, drop}
 use Rattle.laws.specs.Lists.{run}
 use Rattle.laws.specs.Range.{anyOf}
-use Rattle.kernel.specs.Answers.{IsListed}
-use Rattle.kernel.specs.declared.lists.Listed.{Listed}
-use Rattle.kernel.specs.declared.lists.Listed.the-variants as listed
+use Rattle.questions.specs.Answers.{IsListed}
+use Rattle.questions.specs.declared.Listed.{Listed}
+use Rattle.questions.specs.declared.Listed.the-variants as listed
 use Rattle.render.specs.Text.{line, text}
 use Rattle.lines.specs.Lines.{keptLine}
 use Rattle.lines.specs.Rows.{rowsIn, fitting}

@@ -3,11 +3,11 @@ use Prim.Native.Nat.{ℕ, _/_, _%_, _^_}
 use mathlib.Core.List.{List, [], _∷_}
 use Rattle.judge.specs.declared.Judged.{Judged}
 use Rattle.judge.specs.declared.Judged.the-variants as judged
-use Rattle.kernel.specs.Answers.{MaskSaid, refused, faces-are}
-use Rattle.kernel.specs.declared.counts.Counted.{Counted}
-use Rattle.kernel.specs.declared.counts.Counted.the-variants as counted
-use Rattle.kernel.specs.declared.lists.Listed.{Listed}
-use Rattle.kernel.specs.declared.lists.Listed.the-variants as listed
+use Rattle.questions.specs.Answers.{MaskSaid, refused, faces-are}
+use Rattle.questions.specs.declared.Counted.{Counted}
+use Rattle.questions.specs.declared.Counted.the-variants as counted
+use Rattle.questions.specs.declared.Listed.{Listed}
+use Rattle.questions.specs.declared.Listed.the-variants as listed
 use Rattle.render.specs.Text.{ascii, decimal}
 use Rattle.render.specs.Back.{Words}
 use Rattle.lines.specs.Lines.{refusedLine, recordLine, pairsLine}

@@ -7,8 +7,6 @@ ghost use Rattle.render.specs.Put.{Put};
 ghost use Rattle.answers.specs.Said.{listedLine};
 ghost use Rattle.answers.specs.Lent.{pattern, filled, isTouched, areTouched, IsLent, rowsOf, lentText};
 use engine::Engine;
-use kernel::lists::Listed;
-use kernel::lists::MOST_PAIRS;
 use kernel::lists::listing;
 use lines::pairs;
 use lines::refused;
@@ -16,6 +14,8 @@ use lines::rows::ROW;
 use lines::rows::kept;
 use lines::rows::least;
 use lines::rows::rows;
+use questions::Listed;
+use questions::MOST_PAIRS;
 
 // Room for the longest listing, and for its rows with the lines beside them.
 pub const PLACES: usize = 3 * MOST_PAIRS;

@@ -5,25 +5,25 @@ ghost use Rattle.render.specs.Put.{Put};
 ghost use Rattle.judge.specs.Judge.{judged};
 ghost use Rattle.record.specs.Shown.{shown, refusal};
 ghost use Rattle.face_masks.specs.Faces.{valueOf};
-ghost use Rattle.kernel.specs.Answers.{faces-are, signOf, piercesOf, maskedOf, enclosedOf, verdictOf, countedOf};
+ghost use Rattle.questions.specs.Answers.{faces-are, signOf, piercesOf, maskedOf, enclosedOf, verdictOf, countedOf};
 ghost use Rattle.lines.specs.Lines.{judgedLine, signLine, answerLine, foundLine, countsLine};
 ghost use Rattle.answers.specs.Said.{wordsLine, shownLine, listingLine};
 use engine::Engine;
 use face_masks::Mask;
 use judge::Judged;
 use kernel::counts;
-use kernel::counts::Counted;
 use kernel::masks;
-use kernel::masks::Masked;
 use kernel::points;
 use kernel::verdict;
 use lines::refused;
 use lines::rows;
+use questions::Counted;
+use questions::Masked;
 
 mod found;
 pub mod lent;
 pub mod reports;
-mod told;
+mod said;
 
 pub fn judge(s: &[u8], out: &mut [u8], at: usize) -> usize
     ensures { λ p. ⌜ Put (now (out .entry)) at (line (judgedLine (judged (now (s .entry))))) (now (out .exit)) p ⌝ }
@@ -36,7 +36,7 @@ pub fn sign(s: &[u8], a: usize, b: usize, c: usize, d: usize, out: &mut [u8], at
     ensures { λ p. ⌜ Put (now (out .entry)) at (line (signLine (signOf (now (s .entry)) a b c d))) (now (out .exit)) p ⌝ }
 {
     let x = points::sign(s, a, b, c, d);
-    told::sign(out, at, x)
+    said::sign(out, at, x)
 }
 
 pub fn pierces(
@@ -51,13 +51,13 @@ pub fn pierces(
     ensures { λ p. ⌜ Put (now (out .entry)) at (line (answerLine (ascii "pierces") (piercesOf (now (s .entry)) u v f))) (now (out .exit)) p ⌝ }
 {
     let x = points::pierces(engine, s, u, v, f);
-    told::pierces(out, at, x)
+    said::pierces(out, at, x)
 }
 
 fn faces(m: Mask, ones: usize, out: &mut [u8], at: usize) -> usize
     ensures { λ p. ⌜ Put (now (out .entry)) at (line (wordsLine (faces-are (valueOf m) ones))) (now (out .exit)) p ⌝ }
 {
-    told::mask(out, at, Masked::Faces(m, ones))
+    said::mask(out, at, Masked::Faces(m, ones))
 }
 
 pub fn mask(
@@ -82,7 +82,7 @@ pub fn enclosed(engine: Engine, s: &[u8], i: usize, out: &mut [u8], at: usize) -
     ensures { λ p. ⌜ Put (now (out .entry)) at (line (answerLine (ascii "enclosed") (enclosedOf (now (s .entry)) i))) (now (out .exit)) p ⌝ }
 {
     let x = masks::enclosed(engine, s, i);
-    told::enclosed(out, at, x)
+    said::enclosed(out, at, x)
 }
 
 pub fn verdict(engine: Engine, s: &[u8], out: &mut [u8], at: usize) -> usize

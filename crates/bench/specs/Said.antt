@@ -3,7 +3,7 @@ use mathlib.Core.List.{[], _∷_}
 use Prim.Native.Nat.{ℕ}
 use Rattle.render.specs.Back.{Words}
 use Rattle.render.specs.Text.{ascii, decimal}
-use Rattle.kernel.specs.declared.counts.Counts.{Counts}
+use Rattle.questions.specs.declared.Counts.{Counts}
 use Rattle.benches.specs.Bench.{faultNumber, faultPlace}
 use Rattle.benches.specs.declared.Fault.{Fault}
 use Rattle.benches.specs.declared.Answer.{Answer}

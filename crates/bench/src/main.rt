@@ -112,15 +112,24 @@ fn moved(b: Bench, i: usize) -> Answered
     b.group_move(g, p, v)
 }
 
-fn say(a: Answer) {
+// Whether it was written, as each of the two below.
+fn say(a: Answer) -> bool {
     // `refused` and two numbers, each of no more than 20 digits.
     let mut out = [0u8; 50];
     let n = said::answer(&mut out, a);
-    io::write_all(STDOUT_FILENO, &out[0..n]);
+    io::write_all(STDOUT_FILENO, &out[0..n])
 }
 
-// The bench at the end.
-fn play(first: Bench, count: usize) -> Bench
+fn say_counts(b: Bench) -> bool {
+    let s = b.session(Group::One);
+    let t = b.session(Group::Two);
+    let mut out = [0u8; 140];
+    let n = said::counts(&mut out, s.counts, t.counts);
+    io::write_all(STDOUT_FILENO, &out[0..n])
+}
+
+// Nothing is played behind an answer that could not be written.
+fn play(first: Bench, count: usize) -> bool
     requires { ⌜ count < 4194304 ⌝ }
 {
     let mut b = first;
@@ -128,19 +137,13 @@ fn play(first: Bench, count: usize) -> Bench
     while i < count {
         let c = moved(b, i);
         let a = c.answer;
-        say(a);
+        if !say(a) {
+            return false;
+        }
         b = c.bench;
         i += WORDS;
     }
-    b
-}
-
-fn say_counts(b: Bench) {
-    let s = b.session(Group::One);
-    let t = b.session(Group::Two);
-    let mut out = [0u8; 140];
-    let n = said::counts(&mut out, s.counts, t.counts);
-    io::write_all(STDOUT_FILENO, &out[0..n]);
+    say_counts(b)
 }
 
 fn say_usage(k: usize) {
@@ -181,9 +184,11 @@ fn run(f: i32, g: i32, count: usize)
     let n = io::read_full(g, &mut t);
     let c = benches::open(&s[..m], &t[..n]);
     let a = c.answer;
-    say(a);
+    if !say(a) {
+        return;
+    }
     let b = c.bench;
-    say_counts(play(b, count));
+    play(b, count);
 }
 
 fn main() {

@@ -5,7 +5,7 @@ ghost use Rattle.render.specs.Text.{ascii, line};
 ghost use Rattle.bench.specs.Said.{faultLine, answerLine, countsLine, usageLine};
 use benches::Answer;
 use benches::Fault;
-use kernel::counts::Counts;
+use questions::Counts;
 use render::newline;
 use render::next_number;
 use render::next_word;

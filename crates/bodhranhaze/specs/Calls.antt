@@ -9,12 +9,12 @@ use Rattle.scene.specs.declared.Refusal.{Refusal}
 use Rattle.judge.specs.Judge.{judged}
 use Rattle.judge.specs.declared.Judged.{Judged}
 use Rattle.judge.specs.declared.Judged.the-variants.{Accepted, Refused}
-use Rattle.kernel.specs.Answers as kernel
-use Rattle.kernel.specs.Answers.{answered, listingIn, insideFault, insideIn, enclosingIn, listFault, listedIn, heldIn}
-use Rattle.kernel.specs.declared.lists.Listed.{Listed}
-use Rattle.kernel.specs.declared.lists.Listed.the-variants as listed
-use Rattle.kernel.specs.declared.inside.Enclosing.{Enclosing}
-use Rattle.kernel.specs.declared.inside.Enclosing.the-variants as enclosing
+use Rattle.questions.specs.Answers as kernel
+use Rattle.questions.specs.Answers.{answered, listingIn, insideFault, insideIn, enclosingIn, listFault, listedIn, heldIn}
+use Rattle.questions.specs.declared.Listed.{Listed}
+use Rattle.questions.specs.declared.Listed.the-variants as listed
+use Rattle.questions.specs.declared.Enclosing.{Enclosing}
+use Rattle.questions.specs.declared.Enclosing.the-variants as enclosing
 
 abbrev pub refusalNumber : Judged → ℕ
 refusalNumber Accepted = 0

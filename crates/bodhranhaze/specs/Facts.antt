@@ -13,12 +13,12 @@ use Rattle.scene.specs.declared.Refusal.the-variants.{Room}
 use Rattle.judge.specs.Judge.{rule, andThen, judged}
 use Rattle.judge.specs.declared.Judged.{Judged}
 use Rattle.judge.specs.declared.Judged.the-variants.{Accepted, Refused}
-use Rattle.kernel.specs.Answers.{answered, countsIn, listFault, heldIn, verdictNumber}
-use Rattle.kernel.specs.Facts.{factsIn, IsSurvey}
-use Rattle.kernel.specs.declared.facts.Facts.{Facts}
-use Rattle.kernel.specs.declared.facts.Surveyed.{Surveyed}
-use Rattle.kernel.specs.declared.facts.Surveyed.the-variants as surveyed
-use Rattle.kernel.specs.declared.verdict.Verdict.the-variants as verdict
+use Rattle.questions.specs.Answers.{answered, countsIn, listFault, heldIn, verdictNumber}
+use Rattle.readings.specs.Facts.{factsIn, IsSurvey}
+use Rattle.questions.specs.declared.Facts.{Facts}
+use Rattle.questions.specs.declared.Surveyed.{Surveyed}
+use Rattle.questions.specs.declared.Surveyed.the-variants as surveyed
+use Rattle.questions.specs.declared.Verdict.the-variants as verdict
 use Rattle.bodhranhaze.specs.Calls.{refusalNumber, refusalPlace}
 
 -- ---- what is told

@@ -13,10 +13,10 @@ use Rattle.scene.specs.declared.Refusal.the-variants.{Room}
 use Rattle.judge.specs.Judge.{rule, andThen, judged}
 use Rattle.judge.specs.declared.Judged.{Judged}
 use Rattle.judge.specs.declared.Judged.the-variants.{Accepted, Refused}
-use Rattle.kernel.specs.Answers as kernel
-use Rattle.kernel.specs.Answers.{answered, listingIn, listFault}
-use Rattle.kernel.specs.declared.inside.Enclosing.{Enclosing}
-use Rattle.kernel.specs.declared.inside.Enclosing.the-variants as enclosing
+use Rattle.questions.specs.Answers as kernel
+use Rattle.questions.specs.Answers.{answered, listingIn, listFault}
+use Rattle.questions.specs.declared.Enclosing.{Enclosing}
+use Rattle.questions.specs.declared.Enclosing.the-variants as enclosing
 use Rattle.bodhranhaze.specs.Calls.{refusalNumber, pairsOf, by-case}
 
 abbrev pub whyNot : Enclosing → ℕ

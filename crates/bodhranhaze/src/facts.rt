@@ -8,11 +8,11 @@ use crate::place_of;
 use crate::verdict_number;
 use engine::Engine;
 use judge::Judged;
-use kernel::counts::Counts;
-use kernel::facts::Facts;
-use kernel::facts::Surveyed;
 use kernel::facts::survey;
-use kernel::verdict::Verdict;
+use questions::Counts;
+use questions::Facts;
+use questions::Surveyed;
+use questions::Verdict;
 use scene::Refusal;
 
 // The eight numbers in front: the refusal's number and place, the verdict's number, the three counts, the two words.

@@ -2,13 +2,13 @@
 // declares them and says what the caller must keep.
 ghost use mathlib.Core.Path.{_≡_};
 ghost use Rattle.judge.specs.Judge.{judged};
-ghost use Rattle.kernel.specs.Answers.{verdictNumber, verdictOf};
+ghost use Rattle.questions.specs.Answers.{verdictNumber, verdictOf};
 ghost use Rattle.bodhranhaze.specs.Calls.{refusalNumber, refusalPlace, pairsOf, insideOf, IsListing};
 use engine::Engine;
 use judge::Judged;
-use kernel::inside::Enclosing;
-use kernel::lists::Listed;
-use kernel::verdict::Verdict;
+use questions::Enclosing;
+use questions::Listed;
+use questions::Verdict;
 
 pub mod colours;
 pub mod facts;

@@ -3,7 +3,7 @@ ghost use mathlib.Core.Path.{_≡_};
 ghost use Rattle.bodhranhaze.specs.Refusals.{insideRefusal, listingRefusal};
 use engine::Engine;
 use judge::Judged;
-use kernel::inside::Enclosing;
+use questions::Enclosing;
 
 // The scene's own refusal, or 11 for a solid that is neither 1 nor 2.
 #[no_mangle]

@@ -6,7 +6,7 @@ use Prim.Native.Nat.{_-_}
 use denote.Ref.{now}
 use Rattle.scene.specs.Write.{rowPut}
 use Rattle.judge.specs.Judge.{judged}
-use Rattle.kernel.specs.Answers.{verdictNumber, verdictOf}
+use Rattle.questions.specs.Answers.{verdictNumber, verdictOf}
 use Rattle.session.specs.Session.{turnedIn}
 use Rattle.session.specs.Place.{moveFault, moveFarFault, reverseFault}
 use Rattle.doubles.specs.Taken.{takenOf}

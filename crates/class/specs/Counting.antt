@@ -17,14 +17,14 @@ use Rattle.scene.specs.View.{viewOf}
 use Rattle.judge.specs.Judge.{judged}
 use Rattle.judge.specs.declared.Judged.{Judged}
 use Rattle.judge.specs.declared.Judged.the-variants.{Accepted, Refused}
-use Rattle.kernel.specs.Answers.{answered, verdictIn, countsIn, verdictOf, countedOf}
-use Rattle.kernel.specs.Facts.{factsIn, IsSurvey}
-use Rattle.kernel.specs.declared.facts.Facts.{Facts}
-use Rattle.kernel.specs.declared.facts.Surveyed.{Surveyed}
-use Rattle.kernel.specs.declared.facts.Surveyed.the-variants as surveyed
-use Rattle.kernel.specs.declared.verdict.Verdict.{Verdict}
-use Rattle.kernel.specs.declared.verdict.Verdict.the-variants as verdict
-use Rattle.kernel.specs.declared.counts.Counted.the-variants as counted
+use Rattle.questions.specs.Answers.{answered, verdictIn, countsIn, verdictOf, countedOf}
+use Rattle.readings.specs.Facts.{factsIn, IsSurvey}
+use Rattle.questions.specs.declared.Facts.{Facts}
+use Rattle.questions.specs.declared.Surveyed.{Surveyed}
+use Rattle.questions.specs.declared.Surveyed.the-variants as surveyed
+use Rattle.questions.specs.declared.Verdict.{Verdict}
+use Rattle.questions.specs.declared.Verdict.the-variants as verdict
+use Rattle.questions.specs.declared.Counted.the-variants as counted
 use Rattle.block.specs.Block.{mostBytes, sceneOf, behind, scenesOf, endAt}
 use Rattle.block.specs.Scenes.{scenes-end, scenes-next, scenes-few, byte-left, end-within, scene-here, behind-here}
 use Rattle.class.specs.Most.{mostPairs, pairs-most}

@@ -23,9 +23,9 @@ use Rattle.scene.specs.View.{viewOf, solidA, solidB, solid}
 use Rattle.listing.specs.First.{firstOf}
 use Rattle.listing.specs.declared.find.Found.{Found}
 use Rattle.listing.specs.declared.find.Found.the-variants.{Nothing, Pair}
-use Rattle.kernel.specs.Answers.{answered, countsIn, countedOf, crossOr, enclosureIn, verdictIn, verdictOf, listingIn, seen}
-use Rattle.kernel.specs.declared.verdict.Verdict.the-variants as verdict
-use Rattle.kernel.specs.declared.counts.Counted.the-variants as counted
+use Rattle.questions.specs.Answers.{answered, countsIn, countedOf, crossOr, enclosureIn, verdictIn, verdictOf, listingIn, seen}
+use Rattle.questions.specs.declared.Verdict.the-variants as verdict
+use Rattle.questions.specs.declared.Counted.the-variants as counted
 use Rattle.class.specs.Tally.{lineOf, pairsIn, markOf}
 
 abbrev pub mostPairs : ℕ

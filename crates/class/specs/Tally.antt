@@ -6,11 +6,11 @@ use lib.Dec.{eqb, leb}
 use lib.ListN.{length}
 use Rattle.laws.specs.Range.{more}
 use Rattle.scene.specs.Refusal.{numberOf}
-use Rattle.kernel.specs.Answers.{verdictOf, countedOf}
-use Rattle.kernel.specs.declared.verdict.Verdict.{Verdict}
-use Rattle.kernel.specs.declared.verdict.Verdict.the-variants as verdict
-use Rattle.kernel.specs.declared.counts.Counted.{Counted}
-use Rattle.kernel.specs.declared.counts.Counted.the-variants as counted
+use Rattle.questions.specs.Answers.{verdictOf, countedOf}
+use Rattle.questions.specs.declared.Verdict.{Verdict}
+use Rattle.questions.specs.declared.Verdict.the-variants as verdict
+use Rattle.questions.specs.declared.Counted.{Counted}
+use Rattle.questions.specs.declared.Counted.the-variants as counted
 use Rattle.block.specs.Block.{mostBytes, scenesOf}
 use Rattle.class.specs.declared.Mark.{Mark}
 use Rattle.class.specs.declared.Tally.{Tally}

@@ -9,10 +9,10 @@ use crate::Mark;
 use crate::Tally;
 use block::part_at;
 use engine::Engine;
-use kernel::facts::Facts;
-use kernel::facts::Surveyed;
 use kernel::facts::survey;
-use kernel::verdict::Verdict;
+use questions::Facts;
+use questions::Surveyed;
+use questions::Verdict;
 
 type Lines = [usize; Tally::LINES];
 

@@ -27,9 +27,9 @@ use Rattle.orient.specs.Terms.{terms, orientation, positiveAt}
 use Rattle.pierce.specs.Formula.{canHelp, helper, counts, sidesCount, formula, pierces}
 use Rattle.listing.specs.Pour.{partIn}
 use Rattle.scene.specs.View.{viewOf}
-use Rattle.kernel.specs.Answers.{answered, IsListed, IsPart, listingIn, listedIn, heldIn}
-use Rattle.kernel.specs.declared.lists.Listed.{Listed}
-use Rattle.kernel.specs.declared.lists.Listed.the-variants as listed
+use Rattle.questions.specs.Answers.{answered, IsListed, IsPart, listingIn, listedIn, heldIn}
+use Rattle.questions.specs.declared.Listed.{Listed}
+use Rattle.questions.specs.declared.Listed.the-variants as listed
 use Rattle.demands.specs.Words.{Pierces, CornerOf}
 use Rattle.demands.specs.AnswersGiven.{Given, ofScene, BySign, ByPierces, ByMask, ByEnclosed, ByRecord}
 use Rattle.demands.specs.AnswersGiven.{ByVerdict, ByCounts, ByListing, ByPart, AllGiven, ByInside}
@@ -41,10 +41,37 @@ use Rattle.demands.specs.ExactPairs.{members}
 -- a fourth vertex, which is in no face
 
 abbrev base : List ℕ
-base = 83 ∷ 67 ∷ 3 ∷ 2 ∷ 3 ∷ 2 ∷ 70 ∷ 80 ∷ 100 ∷ 0 ∷ 101 ∷ 0 ∷ 103 ∷ 0 ∷ 1 ∷ 86 ∷ 88 ∷ 0 ∷ 0 ∷ 0 ∷ 0 ∷ 0 ∷ 0 ∷ 1 ∷ 86 ∷ 88 ∷ 4 ∷ 0 ∷ 0 ∷ 0 ∷ 0 ∷ 0 ∷ 1 ∷ 86 ∷ 88 ∷ 0 ∷ 0 ∷ 4 ∷ 0 ∷ 0 ∷ 0 ∷ 1 ∷ 86 ∷ 88 ∷ 1 ∷ 0 ∷ 1 ∷ 0 ∷ 253 ∷ 255 ∷ 1 ∷ 86 ∷ 88 ∷ 1 ∷ 0 ∷ 1 ∷ 0 ∷ 5 ∷ 0 ∷ 1 ∷ 86 ∷ 88 ∷ 9 ∷ 0 ∷ 9 ∷ 0 ∷ 9 ∷ 0 ∷ 1 ∷ 70 ∷ 67 ∷ 1 ∷ 2 ∷ 3 ∷ 70 ∷ 67 ∷ 1 ∷ 2 ∷ 3 ∷ 70 ∷ 67 ∷ 1 ∷ 2 ∷ 3 ∷ 70 ∷ 67 ∷ 1 ∷ 2 ∷ 3 ∷ 69 ∷ 78 ∷ []
+base =
+    83 ∷ 67 ∷ 3 ∷ 2 ∷ 3 ∷ 2 ∷
+    70 ∷ 80 ∷ 100 ∷ 0 ∷ 101 ∷ 0 ∷ 103 ∷ 0 ∷ 1 ∷
+    86 ∷ 88 ∷ 0 ∷ 0 ∷ 0 ∷ 0 ∷ 0 ∷ 0 ∷ 1 ∷
+    86 ∷ 88 ∷ 4 ∷ 0 ∷ 0 ∷ 0 ∷ 0 ∷ 0 ∷ 1 ∷
+    86 ∷ 88 ∷ 0 ∷ 0 ∷ 4 ∷ 0 ∷ 0 ∷ 0 ∷ 1 ∷
+    86 ∷ 88 ∷ 1 ∷ 0 ∷ 1 ∷ 0 ∷ 253 ∷ 255 ∷ 1 ∷
+    86 ∷ 88 ∷ 1 ∷ 0 ∷ 1 ∷ 0 ∷ 5 ∷ 0 ∷ 1 ∷
+    86 ∷ 88 ∷ 9 ∷ 0 ∷ 9 ∷ 0 ∷ 9 ∷ 0 ∷ 1 ∷
+    70 ∷ 67 ∷ 1 ∷ 2 ∷ 3 ∷
+    70 ∷ 67 ∷ 1 ∷ 2 ∷ 3 ∷
+    70 ∷ 67 ∷ 1 ∷ 2 ∷ 3 ∷
+    70 ∷ 67 ∷ 1 ∷ 2 ∷ 3 ∷
+    69 ∷ 78 ∷ []
 
 abbrev four : List ℕ
-four = 83 ∷ 67 ∷ 4 ∷ 2 ∷ 3 ∷ 2 ∷ 70 ∷ 80 ∷ 100 ∷ 0 ∷ 101 ∷ 0 ∷ 103 ∷ 0 ∷ 1 ∷ 86 ∷ 88 ∷ 0 ∷ 0 ∷ 0 ∷ 0 ∷ 0 ∷ 0 ∷ 1 ∷ 86 ∷ 88 ∷ 4 ∷ 0 ∷ 0 ∷ 0 ∷ 0 ∷ 0 ∷ 1 ∷ 86 ∷ 88 ∷ 0 ∷ 0 ∷ 4 ∷ 0 ∷ 0 ∷ 0 ∷ 1 ∷ 86 ∷ 88 ∷ 0 ∷ 0 ∷ 0 ∷ 0 ∷ 4 ∷ 0 ∷ 1 ∷ 86 ∷ 88 ∷ 1 ∷ 0 ∷ 1 ∷ 0 ∷ 253 ∷ 255 ∷ 1 ∷ 86 ∷ 88 ∷ 1 ∷ 0 ∷ 1 ∷ 0 ∷ 5 ∷ 0 ∷ 1 ∷ 86 ∷ 88 ∷ 9 ∷ 0 ∷ 9 ∷ 0 ∷ 9 ∷ 0 ∷ 1 ∷ 70 ∷ 67 ∷ 1 ∷ 2 ∷ 3 ∷ 70 ∷ 67 ∷ 1 ∷ 2 ∷ 3 ∷ 70 ∷ 67 ∷ 1 ∷ 2 ∷ 3 ∷ 70 ∷ 67 ∷ 1 ∷ 2 ∷ 3 ∷ 69 ∷ 78 ∷ []
+four =
+    83 ∷ 67 ∷ 4 ∷ 2 ∷ 3 ∷ 2 ∷
+    70 ∷ 80 ∷ 100 ∷ 0 ∷ 101 ∷ 0 ∷ 103 ∷ 0 ∷ 1 ∷
+    86 ∷ 88 ∷ 0 ∷ 0 ∷ 0 ∷ 0 ∷ 0 ∷ 0 ∷ 1 ∷
+    86 ∷ 88 ∷ 4 ∷ 0 ∷ 0 ∷ 0 ∷ 0 ∷ 0 ∷ 1 ∷
+    86 ∷ 88 ∷ 0 ∷ 0 ∷ 4 ∷ 0 ∷ 0 ∷ 0 ∷ 1 ∷
+    86 ∷ 88 ∷ 0 ∷ 0 ∷ 0 ∷ 0 ∷ 4 ∷ 0 ∷ 1 ∷
+    86 ∷ 88 ∷ 1 ∷ 0 ∷ 1 ∷ 0 ∷ 253 ∷ 255 ∷ 1 ∷
+    86 ∷ 88 ∷ 1 ∷ 0 ∷ 1 ∷ 0 ∷ 5 ∷ 0 ∷ 1 ∷
+    86 ∷ 88 ∷ 9 ∷ 0 ∷ 9 ∷ 0 ∷ 9 ∷ 0 ∷ 1 ∷
+    70 ∷ 67 ∷ 1 ∷ 2 ∷ 3 ∷
+    70 ∷ 67 ∷ 1 ∷ 2 ∷ 3 ∷
+    70 ∷ 67 ∷ 1 ∷ 2 ∷ 3 ∷
+    70 ∷ 67 ∷ 1 ∷ 2 ∷ 3 ∷
+    69 ∷ 78 ∷ []
 
 base-accepted : judged base ≡ Accepted
 unfolding judgedAt andThen rule headerFault opens countsOk within recordsFault firstOf over recordFault pointFault coordinateOk weightOk nowhere somewhereOk faceFault cornersOk areCorners vertsAt endFault unusedsFault unusedFault isUsed isCornerOf isCorner anyOf edgesFault edgeFault closedAt sidesOk edgeOk isEdge hasBoth countOf cornerAt twoAt coordinateAt weightAt

@@ -30,18 +30,22 @@ use Rattle.listing.specs.First.{firstOf}
 use Rattle.listing.specs.declared.find.Found.{Found}
 use Rattle.listing.specs.declared.find.Found.the-variants.{Nothing, Pair}
 use Rattle.scene.specs.View.{viewOf, solidA, solidB, solid}
-use Rattle.kernel.specs.Laws.{answered-then}
-use Rattle.kernel.specs.Answers.{answered, enclosedIn, maskedIn, piercesIn, signIn, signFault, signOf, piercesFault, piercesOf, yesNo, maskFault, maskedOf, refused, enclosedFault, isEnclosed, enclosedOf, countedOf, crossOr, enclosureIn, verdictIn, verdictOf, listFault, listedIn, heldIn, IsListed, IsPart, isVertex, listingIn, seen, insideFault, enclosingIn, insideOf, isSolid}
-use Rattle.kernel.specs.declared.points.Answer.the-variants as answer
-use Rattle.kernel.specs.declared.points.Signed.the-variants as sign
-use Rattle.kernel.specs.declared.counts.Counted.the-variants as counted
-use Rattle.kernel.specs.declared.inside.Enclosing.the-variants as enclosing
-use Rattle.kernel.specs.declared.verdict.Verdict.the-variants as verdict
-use Rattle.kernel.specs.declared.lists.Listed.{Listed}
-use Rattle.kernel.specs.declared.lists.Listed.the-variants as listed
+use Rattle.questions.specs.Laws.{answered-then}
+use Rattle.questions.specs.Answers.{answered, seen, refused, yesNo, isVertex, isSolid, signIn, signFault, signOf, piercesIn, piercesFault, piercesOf}
+use Rattle.questions.specs.Answers.{maskedIn, maskFault, maskedOf, enclosedIn, enclosedFault, isEnclosed, enclosedOf, countedOf}
+use Rattle.questions.specs.Answers.{insideFault, enclosingIn, insideOf, crossOr, enclosureIn, verdictIn, verdictOf}
+use Rattle.questions.specs.Answers.{listFault, listingIn, listedIn, heldIn, IsListed, IsPart}
+use Rattle.questions.specs.declared.Answer.the-variants as answer
+use Rattle.questions.specs.declared.Signed.the-variants as sign
+use Rattle.questions.specs.declared.Counted.the-variants as counted
+use Rattle.questions.specs.declared.Enclosing.the-variants as enclosing
+use Rattle.questions.specs.declared.Verdict.the-variants as verdict
+use Rattle.questions.specs.declared.Listed.{Listed}
+use Rattle.questions.specs.declared.Listed.the-variants as listed
 use Rattle.demands.specs.Words.{Vertex, RecordNumber, FourPoints, TwoAlike, EdgeAndFace, AlikeOrCorner, EdgeAndSolid, AlikeOrVertex, SolidNumber}
 use Rattle.demands.specs.Answers.{Refusals, ListingRefusals, Never, Always, Answers}
-use Rattle.demands.specs.AnswersTests.{scene-turn, asked, plain, told, nonsense, answered-iff, twice-iff, points-iff, edge-iff, mask-iff, alike-points, alike-corner, alike-vertex}
+use Rattle.demands.specs.AnswersTests.{scene-turn, asked, plain, told, nonsense, answered-iff, twice-iff}
+use Rattle.demands.specs.AnswersTests.{points-iff, edge-iff, mask-iff, alike-points, alike-corner, alike-vertex}
 
 -- ---- an answer is no refusal
 
@@ -51,7 +55,9 @@ no-refusal false r e = nonsense (cc)
 
 no-verdict : (s : List ℕ) (r : Refusal) → ¬ (verdictIn (viewOf s) ≡ verdict.Refused r)
 unfolding verdictIn enclosureIn solid
-no-verdict s = go _ _ (firstOf (listingIn (viewOf s))) (leb (lowestInside (seen (viewOf s)) (solidA (viewOf s))) (vertsA s)) (leb (lowestInside (seen (viewOf s)) (solidB (viewOf s))) (verts s))
+no-verdict s =
+    go _ _ (firstOf (listingIn (viewOf s))) (leb (lowestInside (seen (viewOf s)) (solidA (viewOf s))) (vertsA s))
+    (leb (lowestInside (seen (viewOf s)) (solidB (viewOf s))) (verts s))
   where
     go : (p q : ℕ) (f : Found) (a b : Bool) (r : Refusal) → ¬ (crossOr f (cond a (verdict.AInB p) (cond b (verdict.BInA q) verdict.Apart)) ≡ verdict.Refused r)
     go p q (Pair u v f) a b r e = nonsense (cc)
@@ -67,17 +73,22 @@ no-alike = (true≢false, absurd)
 module _ (s : List ℕ) where
   of-sign : (a b c d : ℕ) → Refusals s (λ r. signOf s a b c d ≡ sign.Refused r) (FourPoints s a b c d) (TwoAlike a b c d)
   unfolding signOf signIn signFault
-  of-sign a b c d = told s (twice-iff sign.Refused (λ q r e. cc) _ (λ r e. nonsense (cc)) (judged s) (signFault (viewOf s) a b c d)) (asked s _ _ (points-iff s a b c d) (λ h. alike-points s a b c d))
+  of-sign a b c d =
+      told s (twice-iff sign.Refused (λ q r e. cc) _ (λ r e. nonsense (cc)) (judged s) (signFault (viewOf s) a b c d))
+      (asked s _ _ (points-iff s a b c d) (λ h. alike-points s a b c d))
 
   of-pierces : (u v f : ℕ) → Refusals s (λ r. piercesOf s u v f ≡ answer.Refused r) (EdgeAndFace s u v f) (AlikeOrCorner s u v f)
   unfolding piercesOf piercesIn piercesFault
   of-pierces u v f = told s
-      (twice-iff answer.Refused (λ q r e. cc) _ (no-refusal (pierced (verts s + 1) (row (tablesOf s)) u v (face (tablesOf s) f))) (judged s) (piercesFault (viewOf s) u v f))
+      (twice-iff answer.Refused (λ q r e. cc) _ (no-refusal (pierced (verts s + 1) (row (tablesOf s)) u v (face (tablesOf s) f)))
+      (judged s) (piercesFault (viewOf s) u v f))
       (asked s _ _ (edge-iff s u v f) (λ h. alike-corner s u v f))
 
   of-mask : (u v k : ℕ) → Refusals s (λ r. maskedOf s u v k ≡ refused r) (EdgeAndSolid s u v k) (AlikeOrVertex s u v k)
   unfolding maskedOf maskedIn maskFault
-  of-mask u v k = told s (twice-iff refused (λ q r e. cc) _ (λ r e. nonsense (cc)) (judged s) (maskFault (viewOf s) u v k)) (asked s _ _ (mask-iff s u v k) (alike-vertex s u v k))
+  of-mask u v k =
+      told s (twice-iff refused (λ q r e. cc) _ (λ r e. nonsense (cc)) (judged s) (maskFault (viewOf s) u v k))
+      (asked s _ _ (mask-iff s u v k) (alike-vertex s u v k))
 
   of-enclosed : (i : ℕ) → Refusals s (λ r. enclosedOf s i ≡ answer.Refused r) (Vertex s i) Never
   unfolding enclosedOf enclosedIn enclosedFault isVertex rule
@@ -128,10 +139,12 @@ module _ (s : List ℕ) where
     unfolding listedIn heldIn listFault answered
     of-listing d′ x h =
         record {
-          scene = λ r l. Iff·trans (at r) (Iff·trans (then-here (judged s) fits r 11 (gives-wider (suc (turnOf r)) 11 (omega (arith, scene-turn r l)) (omega arith) fits-gives)) (table.refused limits s r));
+          scene = λ r l. Iff·trans (at r) (Iff·trans (then-here (judged s) fits r 11
+              (gives-wider (suc (turnOf r)) 11 (omega (arith, scene-turn r l)) (omega arith) fits-gives)) (table.refused limits s r));
           room = λ n.
               Iff·trans (at (Room n)) (Iff·trans (then-next (judged s) fits (Room n) 1 10 (refused-by limits s) (omega arith))
-              (Iff·trans (Iff·and (accepted limits s) (room-iff n)) (λ k. let l = k .1 .1 in (k .0, k .1 .0, omega arith), λ k. let l = k .2 in (k .0, (k .1, omega arith)))));
+              (Iff·trans (Iff·and (accepted limits s) (room-iff n))
+              (λ k. let l = k .1 .1 in (k .0, k .1 .0, omega arith), λ k. let l = k .2 in (k .0, (k .1, omega arith)))));
           lacking = λ e. never-by Lacking (omega arith) (at Lacking .0 e);
           same = λ e. never-by Same (omega arith) (at Same .0 e);
           buffer = λ n e. never-by (Buffer n) (omega arith) (at (Buffer n) .0 e);

@@ -26,8 +26,9 @@ use Rattle.rules.specs.Numbers.{turnOf, Gives, gives-none, gives-rule, gives-wi
 use Rattle.rules.specs.Parts.{refused-by}
 use Rattle.rules.specs.Accepted.{accepted}
 use Rattle.rules.specs.Refused as table
-use Rattle.kernel.specs.Laws.{answered-then}
-use Rattle.kernel.specs.Answers.{answered, isPoint, isFace, other, differ, arePoints, clear, edgeAndFace, isVertexOf, edgeAndSolid, outside, refused, isSolid}
+use Rattle.questions.specs.Laws.{answered-then}
+use Rattle.questions.specs.Answers.{answered, isPoint, isFace, other, differ, arePoints, clear, edgeAndFace}
+use Rattle.questions.specs.Answers.{isVertexOf, edgeAndSolid, outside, refused, isSolid}
 use Rattle.demands.specs.Words.{SolidNumber, VertexOf, FourPoints, TwoAlike, EdgeAndFace, AlikeOrCorner, EdgeAndSolid, AlikeOrVertex}
 use Rattle.demands.specs.Solids.{vertex-of}
 use Rattle.demands.specs.Answers.{OfScene, Refusals, Never, Always}

@@ -16,16 +16,16 @@ use Rattle.judge.proofs.judge.Reads as judge
 use Rattle.record.specs.Shown.{refusal, shown}
 use Rattle.record.proofs.record.Reads as record-shown
 use Rattle.record.proofs.record_refusal.Reads as record-refusal
-use Rattle.kernel.specs.Answers.{answered, isPoint, signOf, piercesOf, saidMask, maskedOf, enclosedOf, countedOf}
-use Rattle.kernel.specs.Answers.{insideOf, verdictIn, verdictOf, countsIn, listingIn, listedIn, heldIn, IsListed, IsPart}
-use Rattle.kernel.specs.Facts.{factsIn}
-use Rattle.kernel.specs.Laws.{answered-so}
-use Rattle.kernel.specs.declared.counts.Counted.the-variants as counted
-use Rattle.kernel.specs.declared.facts.Facts.{Facts}
-use Rattle.kernel.specs.declared.facts.Surveyed.the-variants as surveyed
-use Rattle.kernel.specs.declared.lists.Listed.{Listed}
-use Rattle.kernel.specs.declared.lists.Listed.the-variants.{Refused, Count}
-use Rattle.kernel.specs.declared.verdict.Verdict.the-variants as verdicts
+use Rattle.questions.specs.Answers.{answered, isPoint, signOf, piercesOf, saidMask, maskedOf, enclosedOf, countedOf}
+use Rattle.questions.specs.Answers.{insideOf, verdictIn, verdictOf, countsIn, listingIn, listedIn, heldIn, IsListed, IsPart}
+use Rattle.readings.specs.Facts.{factsIn}
+use Rattle.questions.specs.Laws.{answered-so}
+use Rattle.questions.specs.declared.Counted.the-variants as counted
+use Rattle.questions.specs.declared.Facts.{Facts}
+use Rattle.questions.specs.declared.Surveyed.the-variants as surveyed
+use Rattle.questions.specs.declared.Listed.{Listed}
+use Rattle.questions.specs.declared.Listed.the-variants.{Refused, Count}
+use Rattle.questions.specs.declared.Verdict.the-variants as verdicts
 use Rattle.kernel.proofs.points.is_point.Reads as is-point
 use Rattle.kernel.proofs.points.sign.Reads as sign
 use Rattle.kernel.proofs.points.pierces.Reads as pierces

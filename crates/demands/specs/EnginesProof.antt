@@ -14,7 +14,7 @@ use Rattle.orient.specs.Signs.{Upto, Rules}
 use Rattle.pierce.specs.Five.{any-helper, by-helper}
 use Rattle.pierce.specs.Formula.{pierces}
 use Rattle.plain.specs.Five.{five-pierce}
-use Rattle.kernel.specs.Ready.{scene-weighted}
+use Rattle.readings.specs.Ready.{scene-weighted}
 use Rattle.demands.specs.Engines.{signIn, SameEngines, AnyHelper}
 
 module _ (s : List ℕ) (ok : judged s ≡ Accepted) where

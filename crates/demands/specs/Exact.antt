@@ -23,15 +23,15 @@ use Rattle.orient.specs.declared.Terms.{Terms}
 use Rattle.listing.specs.Hits.{Hit}
 use Rattle.listing.specs.Pour.{three, flat, partIn}
 use Rattle.scene.specs.View.{viewOf}
-use Rattle.kernel.specs.Answers.{signOf, piercesOf, verdictOf, countedOf, maskedOf, faces-are, enclosedOf, IsListed, listingIn, insideOf, IsPart}
-use Rattle.kernel.specs.declared.points.Signed.the-variants as sign
-use Rattle.kernel.specs.declared.points.Answer.the-variants as answer
-use Rattle.kernel.specs.declared.counts.Counts.{Counts}
-use Rattle.kernel.specs.declared.counts.Counted.the-variants as counted
-use Rattle.kernel.specs.declared.inside.Enclosing.the-variants as enclosing
-use Rattle.kernel.specs.declared.verdict.Verdict.the-variants as verdict
-use Rattle.kernel.specs.declared.lists.Listed.{Listed}
-use Rattle.kernel.specs.declared.lists.Listed.the-variants as listed
+use Rattle.questions.specs.Answers.{signOf, piercesOf, verdictOf, countedOf, maskedOf, faces-are, enclosedOf, IsListed, listingIn, insideOf, IsPart}
+use Rattle.questions.specs.declared.Signed.the-variants as sign
+use Rattle.questions.specs.declared.Answer.the-variants as answer
+use Rattle.questions.specs.declared.Counts.{Counts}
+use Rattle.questions.specs.declared.Counted.the-variants as counted
+use Rattle.questions.specs.declared.Enclosing.the-variants as enclosing
+use Rattle.questions.specs.declared.Verdict.the-variants as verdict
+use Rattle.questions.specs.declared.Listed.{Listed}
+use Rattle.questions.specs.declared.Listed.the-variants as listed
 use Rattle.demands.specs.Words.{VertexOfA, VertexOfB, Vertex, farPoint, FaceOfA, FaceOfB, EdgeOfA, EdgeOfB, Pierces, Enclosed}
 use Rattle.demands.specs.Words.{FourPoints, TwoAlike, EdgeAndFace, AlikeOrCorner, EdgeAndSolid, AlikeOrVertex}
 

@@ -19,7 +19,7 @@ use Rattle.pierce.specs.Formula.{pierced}
 use Rattle.face_masks.specs.Faces.{isOdd}
 use Rattle.pierce.specs.Against.{maskAgainst}
 use Rattle.scene.specs.View.{solid}
-use Rattle.kernel.specs.Answers.{maskIn, isEnclosed, otherSolid}
+use Rattle.questions.specs.Answers.{maskIn, isEnclosed, otherSolid}
 use Rattle.demands.specs.Words.{VertexOfA, VertexOfB, farPoint, Pierces, Enclosed}
 use Rattle.demands.specs.Exact.{numbered, MaskIs, Odd}
 

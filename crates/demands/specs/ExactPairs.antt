@@ -23,7 +23,7 @@ use Rattle.pierce.specs.Formula.{pierced}
 use Rattle.listing.specs.Hits.{Seen, Hit, faceHits, edgeHits, pairHits, pairsAt, vertexHits, solidHits}
 use Rattle.listing.specs.Pour.{three}
 use Rattle.scene.specs.View.{viewOf, solidA, solidB, solid}
-use Rattle.kernel.specs.Answers.{listingIn, seen}
+use Rattle.questions.specs.Answers.{listingIn, seen}
 use Rattle.demands.specs.Words.{FaceOfA, FaceOfB, EdgeOfA, EdgeOfB, Pierces}
 use Rattle.demands.specs.Exact.{Rising, PiercedPair, solidOf, Before, ListingIs}
 use Rattle.demands.specs.ExactRuns.{some-append, some-upTo, some-only, some-run, rising-append, rising-map, rising-once}

@@ -29,21 +29,21 @@ use Rattle.pierce.specs.Formula.{pierced}
 use Rattle.listing.specs.Hits.{isInside, insideCount}
 use Rattle.listing.specs.Pour.{allIn}
 use Rattle.scene.specs.View.{viewOf, solidA, solidB, solid}
-use Rattle.kernel.specs.Laws.{answered-then}
-use Rattle.kernel.specs.Answers.{answered, enclosedIn, maskedIn, piercesIn, signIn, signFault, signOf, yesNo, piercesFault, piercesOf}
-use Rattle.kernel.specs.Answers.{maskIn, maskFault, maskedOf, refused, faces-are, isEnclosed, enclosedFault, enclosedOf, countsIn}
-use Rattle.kernel.specs.Answers.{countedOf, verdictIn, verdictOf, listFault, listedIn, heldIn, IsListed, isVertex, listingIn}
-use Rattle.kernel.specs.Answers.{seen, insideIn, insideFault, enclosingIn, insideOf, isSolid, IsPart}
-use Rattle.kernel.specs.declared.points.Signed.the-variants as sign
-use Rattle.kernel.specs.declared.points.Answer.{Answer}
-use Rattle.kernel.specs.declared.points.Answer.the-variants as answer
-use Rattle.kernel.specs.declared.counts.Counts.{Counts}
-use Rattle.kernel.specs.declared.counts.Counted.the-variants as counted
-use Rattle.kernel.specs.declared.verdict.Verdict.{Verdict}
-use Rattle.kernel.specs.declared.inside.Enclosing.the-variants as enclosing
-use Rattle.kernel.specs.declared.verdict.Verdict.the-variants as verdict
-use Rattle.kernel.specs.declared.lists.Listed.{Listed}
-use Rattle.kernel.specs.declared.lists.Listed.the-variants as listed
+use Rattle.questions.specs.Laws.{answered-then}
+use Rattle.questions.specs.Answers.{answered, enclosedIn, maskedIn, piercesIn, signIn, signFault, signOf, yesNo, piercesFault, piercesOf}
+use Rattle.questions.specs.Answers.{maskIn, maskFault, maskedOf, refused, faces-are, isEnclosed, enclosedFault, enclosedOf, countsIn}
+use Rattle.questions.specs.Answers.{countedOf, verdictIn, verdictOf, listFault, listedIn, heldIn, IsListed, isVertex, listingIn}
+use Rattle.questions.specs.Answers.{seen, insideIn, insideFault, enclosingIn, insideOf, isSolid, IsPart}
+use Rattle.questions.specs.declared.Signed.the-variants as sign
+use Rattle.questions.specs.declared.Answer.{Answer}
+use Rattle.questions.specs.declared.Answer.the-variants as answer
+use Rattle.questions.specs.declared.Counts.{Counts}
+use Rattle.questions.specs.declared.Counted.the-variants as counted
+use Rattle.questions.specs.declared.Verdict.{Verdict}
+use Rattle.questions.specs.declared.Enclosing.the-variants as enclosing
+use Rattle.questions.specs.declared.Verdict.the-variants as verdict
+use Rattle.questions.specs.declared.Listed.{Listed}
+use Rattle.questions.specs.declared.Listed.the-variants as listed
 use Rattle.demands.specs.Words.{Vertex, Enclosed, EdgeAndFace, AlikeOrCorner, EdgeAndSolid, AlikeOrVertex}
 use Rattle.demands.specs.Exact.{VerdictIs, ListedIs, numbered, MaskIs, MasksAre, EnclosedIs, CountsAre, SignIs, PiercesIs, Exact, PartIs, InsideIs}
 use Rattle.demands.specs.AnswersTests.{asked-ok, nonsense, answered-ok, twice-ok, points-iff, edge-iff}

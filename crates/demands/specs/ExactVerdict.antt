@@ -21,9 +21,9 @@ use Rattle.listing.specs.First.{firstOf}
 use Rattle.listing.specs.Pour.{three}
 use Rattle.listing.specs.declared.find.Found.the-variants.{Nothing, Pair}
 use Rattle.scene.specs.View.{viewOf, solidA, solidB, solid}
-use Rattle.kernel.specs.Answers.{maskIn, isEnclosed, enclosureIn, verdictIn, otherSolid, listingIn, seen}
-use Rattle.kernel.specs.declared.verdict.Verdict.{Verdict}
-use Rattle.kernel.specs.declared.verdict.Verdict.the-variants as verdict
+use Rattle.questions.specs.Answers.{maskIn, isEnclosed, enclosureIn, verdictIn, otherSolid, listingIn, seen}
+use Rattle.questions.specs.declared.Verdict.{Verdict}
+use Rattle.questions.specs.declared.Verdict.the-variants as verdict
 use Rattle.demands.specs.Words.{VertexOfA, VertexOfB, Enclosed}
 use Rattle.demands.specs.Exact.{Rising, PiercedPair, solidOf, Before, FirstPair, NonePierced, NoneEnclosed, LowestEnclosed}
 use Rattle.demands.specs.ExactRuns.{each-of}
@@ -92,7 +92,8 @@ module _ (s : List ℕ) where
   -- ---- the lowest enclosed vertex of a solid k, whose vertices are Of
 
   module _ (k : Solid) (Of : ℕ → Type 0) (to : (i : ℕ) → Of i → (k .low + 1 ≤ i) × (i < k .low + 1 + k .verts))
-      (from : (i : ℕ) → k .low + 1 ≤ i → i < k .low + 1 + k .verts → Of i) (inside : (i : ℕ) → Of i → isInside (seen (viewOf s)) k i ≡ isEnclosed (viewOf s) i) where
+      (from : (i : ℕ) → k .low + 1 ≤ i → i < k .low + 1 + k .verts → Of i)
+      (inside : (i : ℕ) → Of i → isInside (seen (viewOf s)) k i ≡ isEnclosed (viewOf s) i) where
     abbrev lowest : ℕ
     lowest = lowestInside (seen (viewOf s)) k
 
@@ -108,7 +109,8 @@ module _ (s : List ℕ) where
         off : {i : ℕ} → isInside (seen (viewOf s)) k i ≡ false → Of i → ¬ Enclosed s i
         off e o t = true≢false (sym t ∙ sym (inside _ o) ∙ e)
 
-        go : {l : ℕ} → Lowest (isInside (seen (viewOf s)) k) (k .low + 1) (k .verts) l → LowestEnclosed s Of l ⊎ ((l ≡ k .low + 1 + k .verts) × NoneEnclosed s Of)
+        go : {l : ℕ} → Lowest (isInside (seen (viewOf s)) k) (k .low + 1) (k .verts) l →
+            LowestEnclosed s Of l ⊎ ((l ≡ k .low + 1 + k .verts) × NoneEnclosed s Of)
         go {l} (found f) =
             let o = from l (f .from) (f .below) in
             inl (record { of = o; enclosed = sym (inside l o) ∙ f .passes; none-lower = λ i h b. off (f .none i (to i h .0) b) h })
@@ -154,7 +156,9 @@ module _ (s : List ℕ) where
 
   module _ (none-a : NoneEnclosed s (VertexOfA s)) where
     not-a : leb (lowestInside (seen (viewOf s)) (solidA (viewOf s))) (vertsA s) ≡ false
-    not-a = lt-leb (lowestInside (seen (viewOf s)) (solidA (viewOf s))) (vertsA s) (omega (arith, lowest-none (solidA (viewOf s)) (VertexOfA s) to-a from-a inside-a none-a))
+    not-a =
+        lt-leb (lowestInside (seen (viewOf s)) (solidA (viewOf s))) (vertsA s)
+        (omega (arith, lowest-none (solidA (viewOf s)) (VertexOfA s) to-a from-a inside-a none-a))
 
     in-b : (p : ℕ) → LowestEnclosed s (VertexOfB s) p → enclosureIn (viewOf s) ≡ verdict.BInA p
     unfolding enclosureIn solid
@@ -162,7 +166,11 @@ module _ (s : List ℕ) where
 
     in-neither : NoneEnclosed s (VertexOfB s) → enclosureIn (viewOf s) ≡ verdict.Apart
     unfolding enclosureIn solid
-    in-neither n = rw (not-a, lt-leb (lowestInside (seen (viewOf s)) (solidB (viewOf s))) (verts s) (omega (arith, lowest-none (solidB (viewOf s)) (VertexOfB s) to-b from-b inside-b n)))
+    in-neither n = rw (
+      not-a,
+      lt-leb (lowestInside (seen (viewOf s)) (solidB (viewOf s))) (verts s)
+          (omega (arith, lowest-none (solidB (viewOf s)) (VertexOfB s) to-b from-b inside-b n)),
+    )
 
   -- ---- the verdict
 
@@ -194,7 +202,9 @@ module _ (s : List ℕ) where
         holds v h = subst Says (sym (given v h)) h
 
         none-in-a : NonePierced s → NoneEnclosed s (VertexOfA s) → Says (verdictIn (viewOf s))
-        none-in-a n a = ⊎-elim (λ b. holds (verdict.BInA _) (n, a, b)) (λ b. holds verdict.Apart (n, a, b .1)) (lowest-or-none (solidB (viewOf s)) (VertexOfB s) to-b from-b inside-b)
+        none-in-a n a =
+            ⊎-elim (λ b. holds (verdict.BInA _) (n, a, b)) (λ b. holds verdict.Apart (n, a, b .1))
+            (lowest-or-none (solidB (viewOf s)) (VertexOfB s) to-b from-b inside-b)
 
         none-cross : NonePierced s → Says (verdictIn (viewOf s))
         none-cross n =

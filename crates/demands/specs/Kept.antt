@@ -22,11 +22,11 @@ use Rattle.orient.specs.Terms.{Numbered, Powers, powers, isPlus, positiveAt, te
 use Rattle.pierce.specs.Beside.{Beside}
 use Rattle.pierce.specs.Formula.{pierces, pierced}
 use Rattle.listing.specs.Pour.{partIn}
-use Rattle.kernel.specs.Answers.{signIn, piercesIn, maskedIn, enclosedIn, countsIn, enclosingIn, verdictIn, listingIn, listedIn, heldIn}
-use Rattle.kernel.specs.Answers.{signOf, piercesOf, maskedOf, enclosedOf, countedOf, insideOf, verdictOf, IsListed, IsPart}
-use Rattle.kernel.specs.declared.counts.Counted.the-variants as counted
-use Rattle.kernel.specs.declared.lists.Listed.{Listed}
-use Rattle.kernel.specs.declared.lists.Listed.the-variants as listed
+use Rattle.questions.specs.Answers.{signIn, piercesIn, maskedIn, enclosedIn, countsIn, enclosingIn, verdictIn, listingIn, listedIn, heldIn}
+use Rattle.questions.specs.Answers.{signOf, piercesOf, maskedOf, enclosedOf, countedOf, insideOf, verdictOf, IsListed, IsPart}
+use Rattle.questions.specs.declared.Counted.the-variants as counted
+use Rattle.questions.specs.declared.Listed.{Listed}
+use Rattle.questions.specs.declared.Listed.the-variants as listed
 use Rattle.demands.specs.Words.{FourPoints}
 use Rattle.demands.specs.Before.{judgedBefore}
 use Rattle.demands.specs.Witnesses.{printed}

@@ -26,13 +26,13 @@ use Rattle.judge.specs.declared.Judged.{Judged}
 use Rattle.judge.specs.declared.Judged.the-variants.{Accepted, Refused}
 use Rattle.rules.specs.Rules.{CountsOk, FileOk}
 use Rattle.rules.specs.Accepted.{opens-iff, counts-iff, accepted}
-use Rattle.kernel.specs.Answers.{answered, signOf, piercesOf, maskedOf, refused, enclosedOf, countedOf, insideOf, verdictOf}
-use Rattle.kernel.specs.declared.points.Signed.the-variants as sign
-use Rattle.kernel.specs.declared.points.Answer.the-variants as answer
-use Rattle.kernel.specs.declared.counts.Counted.the-variants as counted
-use Rattle.kernel.specs.declared.inside.Enclosing.the-variants as enclosing
-use Rattle.kernel.specs.declared.verdict.Verdict.the-variants as verdict
-use Rattle.kernel.specs.declared.lists.Listed.the-variants as listed
+use Rattle.questions.specs.Answers.{answered, signOf, piercesOf, maskedOf, refused, enclosedOf, countedOf, insideOf, verdictOf}
+use Rattle.questions.specs.declared.Signed.the-variants as sign
+use Rattle.questions.specs.declared.Answer.the-variants as answer
+use Rattle.questions.specs.declared.Counted.the-variants as counted
+use Rattle.questions.specs.declared.Enclosing.the-variants as enclosing
+use Rattle.questions.specs.declared.Verdict.the-variants as verdict
+use Rattle.questions.specs.declared.Listed.the-variants as listed
 use Rattle.demands.specs.Kept.{Answers, Still, RulesOfWeights, byWeight, termsByWeight, signByWeight, SameTerms, AllWeighted}
 use Rattle.demands.specs.Kept.{SharedEdges, LargerModels, FarAtInfinity, FirstKernel}
 use Rattle.demands.specs.Before.{judgedBefore}

@@ -11,11 +11,11 @@ use Rattle.judge.specs.Judge.{judged}
 use Rattle.judge.specs.declared.Judged.the-variants.{Accepted}
 use Rattle.rules.specs.Write.{bytesOf}
 use Rattle.pierce.specs.Formula.{helper}
-use Rattle.kernel.specs.Answers.{signOf, piercesOf}
-use Rattle.kernel.specs.declared.points.Signed.{Signed}
-use Rattle.kernel.specs.declared.points.Signed.the-variants.{Sign, Refused}
-use Rattle.kernel.specs.declared.points.Answer.{Answer}
-use Rattle.kernel.specs.declared.points.Answer.the-variants.{Yes, No}
+use Rattle.questions.specs.Answers.{signOf, piercesOf}
+use Rattle.questions.specs.declared.Signed.{Signed}
+use Rattle.questions.specs.declared.Signed.the-variants.{Sign, Refused}
+use Rattle.questions.specs.declared.Answer.{Answer}
+use Rattle.questions.specs.declared.Answer.the-variants.{Yes, No}
 use Rattle.demands.specs.Scenes.{minus, weighted, at, twice, scene}
 
 -- the scene of six points

@@ -2,8 +2,8 @@
 use mathlib.Core.Path.{refl}
 use Rattle.scene.specs.Faces.{isCorner}
 use Rattle.orient.specs.Terms.{termsAt}
-use Rattle.kernel.specs.Answers.{answered, isPoint, isFace, differ, arePoints, signFault, signOf, clear}
-use Rattle.kernel.specs.Answers.{edgeAndFace, piercesFault, piercesOf, signIn, piercesIn}
+use Rattle.questions.specs.Answers.{answered, isPoint, isFace, differ, arePoints, signFault, signOf, clear}
+use Rattle.questions.specs.Answers.{edgeAndFace, piercesFault, piercesOf, signIn, piercesIn}
 use Rattle.demands.specs.Computing.{judging, piercing}
 use Rattle.demands.specs.Marked.{Marked}
 

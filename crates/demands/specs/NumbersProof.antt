@@ -7,7 +7,7 @@ use native.Mathlib.Omega.{arith}
 use Rattle.scene.specs.declared.Refusal.{Refusal}
 use Rattle.scene.specs.declared.Refusal.the-variants.{Opening, Counts, Length, Mark, Coordinate, Weight, Corner}
 use Rattle.scene.specs.declared.Refusal.the-variants.{Unused, Edge, Room, Lacking, Same, Buffer, Nowhere}
-use Rattle.kernel.specs.declared.lists.Listed.the-variants as listed
+use Rattle.questions.specs.declared.Listed.the-variants as listed
 use Rattle.demands.specs.Answers.{Refusals}
 use Rattle.demands.specs.AnswersProof.{answers}
 use Rattle.demands.specs.Numbers.{Places, By, Numbers}

@@ -35,21 +35,21 @@ use Rattle.pierce.specs.Against.{maskAgainst, enclosed}
 use Rattle.face_masks.specs.declared.Mask.{Mask}
 use Rattle.plain.specs.Five.{fiveSigns}
 use Rattle.survey.specs.declared.Part.{Part}
-use Rattle.survey.specs.declared.seek.Sought.{Sought}
-use Rattle.kernel.specs.declared.inside.Enclosing.{Enclosing}
-use Rattle.kernel.specs.Answers.{isPoint, signOf, piercesOf, saidMask, maskedOf, enclosedOf, countedOf, verdictOf, IsListed, IsPart, insideOf}
-use Rattle.kernel.specs.Answers.{verdictIn, listingIn}
-use Rattle.kernel.specs.Facts.{IsSurvey}
-use Rattle.kernel.specs.Listings.{PouredIf}
-use Rattle.kernel.specs.Surveys.{SurveyIs, SoughtIs}
-use Rattle.kernel.specs.declared.points.Signed.{Signed}
-use Rattle.kernel.specs.declared.points.Answer.{Answer}
-use Rattle.kernel.specs.declared.masks.Masked.{Masked}
-use Rattle.kernel.specs.declared.masks.Masked.the-variants.{Refused, Faces}
-use Rattle.kernel.specs.declared.counts.Counted.{Counted}
-use Rattle.kernel.specs.declared.verdict.Verdict.{Verdict}
-use Rattle.kernel.specs.declared.lists.Listed.{Listed}
-use Rattle.kernel.specs.declared.facts.Surveyed.{Surveyed}
+use Rattle.seek.specs.declared.Sought.{Sought}
+use Rattle.questions.specs.declared.Enclosing.{Enclosing}
+use Rattle.questions.specs.Answers.{isPoint, signOf, piercesOf, saidMask, maskedOf, enclosedOf, countedOf, verdictOf, IsListed, IsPart, insideOf}
+use Rattle.questions.specs.Answers.{verdictIn, listingIn}
+use Rattle.readings.specs.Facts.{IsSurvey}
+use Rattle.questions.specs.Listings.{PouredIf}
+use Rattle.readings.specs.Surveys.{SurveyIs, SoughtIs}
+use Rattle.questions.specs.declared.Signed.{Signed}
+use Rattle.questions.specs.declared.Answer.{Answer}
+use Rattle.questions.specs.declared.Masked.{Masked}
+use Rattle.questions.specs.declared.Masked.the-variants.{Refused, Faces}
+use Rattle.questions.specs.declared.Counted.{Counted}
+use Rattle.questions.specs.declared.Verdict.{Verdict}
+use Rattle.questions.specs.declared.Listed.{Listed}
+use Rattle.questions.specs.declared.Surveyed.{Surveyed}
 
 -- the same, among answers that are lists of one length
 abbrev pub OnceOfLength : {A B : Type 0} → (A → List B → Type 0) → Type 0

@@ -22,12 +22,12 @@ use Rattle.listing.specs.declared.find.Found.{Found}
 use Rattle.table.specs.Table.{Entry, entryIn, entriesIn}
 use Rattle.spread.specs.Walk.{insideWord}
 use Rattle.survey.specs.Survey.{Surveyed}
-use Rattle.survey.specs.Seek.{unlessPair}
-use Rattle.survey.specs.declared.seek.Sought.{Sought}
-use Rattle.kernel.specs.Answers.{saidMask, seen}
-use Rattle.kernel.specs.Surveys.{SoughtIs}
-use Rattle.kernel.specs.declared.masks.Masked.{Masked}
-use Rattle.kernel.specs.declared.masks.Masked.the-variants.{Refused, Faces}
+use Rattle.seek.specs.Seek.{unlessPair}
+use Rattle.seek.specs.declared.Sought.{Sought}
+use Rattle.questions.specs.Answers.{saidMask, seen}
+use Rattle.readings.specs.Surveys.{SoughtIs}
+use Rattle.questions.specs.declared.Masked.{Masked}
+use Rattle.questions.specs.declared.Masked.the-variants.{Refused, Faces}
 use Rattle.demands.specs.Once.{Words, WordsSaid, SceneOnce, JudgeOnce, RecordOnce, OrientOnce, EdgesOnce, PierceOnce, KernelOnce}
 use Rattle.demands.specs.Once.{Table, WordsHeld, Alike, SurveysOnce, NoSecondAnswer}
 

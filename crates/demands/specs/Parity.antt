@@ -14,7 +14,7 @@ use Rattle.scene.specs.View.{viewOf, solid}
 use Rattle.judge.specs.Judge.{judgedAt}
 use Rattle.judge.specs.declared.Judged.the-variants.{Accepted}
 use Rattle.face_masks.specs.Faces.{isOdd}
-use Rattle.kernel.specs.Answers.{maskIn, faces-are, maskedOf}
+use Rattle.questions.specs.Answers.{maskIn, faces-are, maskedOf}
 use Rattle.demands.specs.Words.{SolidNumber, Point, VertexOf, Pierces}
 use Rattle.demands.specs.Exact.{numbered}
 

@@ -20,7 +20,7 @@ use Rattle.orient.specs.Signs.{Upto}
 use Rattle.orient.specs.Weighted.{Weighted}
 use Rattle.pierce.specs.Parity.{Solid, Triangle, solid-by-edges}
 use Rattle.pierce.specs.Scene.{scene-parity, scene-route}
-use Rattle.kernel.specs.Answers.{answered, isPoint, isVertexOf, edgeAndSolid, outside, maskFault, maskIn, maskedIn, maskedOf, isSolid}
+use Rattle.questions.specs.Answers.{answered, isPoint, isVertexOf, edgeAndSolid, outside, maskFault, maskIn, maskedIn, maskedOf, isSolid}
 use Rattle.demands.specs.Parity.{Outside, Parity, CountParity, Route, ParityAt, Asked}
 use Rattle.demands.specs.Words.{SolidNumber, VertexOf}
 use Rattle.demands.specs.Solids.{vertex-of}

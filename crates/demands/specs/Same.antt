@@ -23,9 +23,9 @@ use Rattle.pierce.specs.Against.{maskAgainst}
 use Rattle.listing.specs.Hits.{Seen, Hit, faceHits, edgeHits, pairHits, pairsAt, vertexHits, solidHits, isInside, insideCount, lowestInside, Own, Sound}
 use Rattle.listing.specs.First.{firstOf}
 use Rattle.listing.specs.Laws.{upTo-same}
-use Rattle.kernel.specs.Answers.{seen, maskIn, listingIn, insideIn, crossOr, enclosureIn, verdictIn}
-use Rattle.kernel.specs.declared.verdict.Verdict.{Verdict}
-use Rattle.kernel.specs.declared.verdict.Verdict.the-variants.{AInB, BInA, Apart}
+use Rattle.questions.specs.Answers.{seen, maskIn, listingIn, insideIn, crossOr, enclosureIn, verdictIn}
+use Rattle.questions.specs.declared.Verdict.{Verdict}
+use Rattle.questions.specs.declared.Verdict.the-variants.{AInB, BInA, Apart}
 
 -- ---- piercing
 

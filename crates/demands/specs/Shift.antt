@@ -15,7 +15,7 @@ use Rattle.orient.specs.Determinant.{det4}
 use Rattle.orient.specs.Formed.{mostFormed}
 use Rattle.orient.specs.Signs.{Upto, Four}
 use Rattle.orient.specs.Terms.{factor, isPlus, positiveAt}
-use Rattle.kernel.specs.Answers.{maskIn, insideIn, listingIn, verdictIn}
+use Rattle.questions.specs.Answers.{maskIn, insideIn, listingIn, verdictIn}
 use Rattle.demands.specs.Words.{SolidNumber, VertexOf}
 use Rattle.demands.specs.Same.{withRows}
 

@@ -21,8 +21,8 @@ use Rattle.orient.specs.Sizes.{points-within, terms-formed}
 use Rattle.orient.specs.Terms.{tied, orientation, isPlus, pointAt, positiveAt}
 use Rattle.orient.specs.Weighted.{oriented}
 use Rattle.orient.specs.Whole.{wholeDet, TermsUpto, whole-sign}
-use Rattle.kernel.specs.Answers.{maskIn}
-use Rattle.kernel.specs.Ready.{rows-fit, scene-weighted, outside-beside, sound}
+use Rattle.questions.specs.Answers.{maskIn}
+use Rattle.readings.specs.Ready.{rows-fit, scene-weighted, outside-beside, sound}
 use Rattle.demands.specs.Solids.{vertex-of}
 use Rattle.demands.specs.Words.{SolidNumber, VertexOf}
 use Rattle.demands.specs.Shift.{shiftedRow, shiftedView, shiftedDet, Shift}

@@ -11,7 +11,7 @@ use Rattle.orient.specs.Laws.{psi, c3-psi}
 use Rattle.orient.specs.Signs.{Upto, Four}
 use Rattle.orient.specs.Terms.{isPlus, orientation, terms, pointAt, positiveAt, termsAt}
 use Rattle.orient.specs.Weighted.{c3-nonzero, slide-tells}
-use Rattle.kernel.specs.Ready.{scene-weighted}
+use Rattle.readings.specs.Ready.{scene-weighted}
 use Rattle.demands.specs.AnswersTests.{nonsense}
 use Rattle.demands.specs.Sign as said
 use Rattle.demands.specs.Sign.{Positive, Negative}

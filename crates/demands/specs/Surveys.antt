@@ -22,20 +22,20 @@ use Rattle.spread.specs.Walk.{insideWord}
 use Rattle.survey.specs.Survey.{pairsOf}
 use Rattle.survey.specs.Laws.{surveyed-pairs}
 use Rattle.survey.specs.declared.Survey.{Survey}
-use Rattle.survey.specs.declared.seek.Sought.{Sought}
-use Rattle.kernel.specs.Answers.{seen, isEnclosed, verdictIn, verdictOf, listingIn}
-use Rattle.kernel.specs.Facts.{IsSurvey}
-use Rattle.kernel.specs.Laws.{answered-so}
-use Rattle.kernel.specs.Listings.{lacksRoom, PouredIf}
-use Rattle.kernel.specs.Ready.{sound}
-use Rattle.kernel.specs.Surveys.{SurveyIs, SoughtIs, sought-settles}
-use Rattle.kernel.specs.declared.verdict.Verdict.{Verdict}
-use Rattle.kernel.specs.declared.verdict.Verdict.the-variants.{Refused}
-use Rattle.kernel.proofs.surveys.survey_of.Reads as survey-of
-use Rattle.kernel.proofs.surveys.sought_of.Reads as sought-of
-use Rattle.kernel.proofs.surveys.verdict_by.Reads as verdict-by
-use Rattle.kernel.proofs.surveys.verdict_read.Reads as verdict-read
-use Rattle.kernel.proofs.surveys.pour_read.Reads as pour-read
+use Rattle.seek.specs.declared.Sought.{Sought}
+use Rattle.questions.specs.Answers.{seen, isEnclosed, verdictIn, verdictOf, listingIn}
+use Rattle.readings.specs.Facts.{IsSurvey}
+use Rattle.questions.specs.Laws.{answered-so}
+use Rattle.questions.specs.Listings.{lacksRoom, PouredIf}
+use Rattle.readings.specs.Ready.{sound}
+use Rattle.readings.specs.Surveys.{SurveyIs, SoughtIs, sought-settles}
+use Rattle.questions.specs.declared.Verdict.{Verdict}
+use Rattle.questions.specs.declared.Verdict.the-variants.{Refused}
+use Rattle.readings.proofs.survey_of.Reads as survey-of
+use Rattle.readings.proofs.sought_of.Reads as sought-of
+use Rattle.readings.proofs.verdict_by.Reads as verdict-by
+use Rattle.readings.proofs.verdict_read.Reads as verdict-read
+use Rattle.readings.proofs.pour_read.Reads as pour-read
 use Rattle.kernel.proofs.facts.survey.Reads as survey
 use Rattle.demands.specs.Words.{Enclosed}
 use Rattle.demands.specs.ExactVerdict.{inside-a, inside-b}

@@ -11,7 +11,7 @@ use Rattle.orient.specs.Terms.{positiveAt}
 use Rattle.pierce.specs.Beside.{Beside}
 use Rattle.pierce.specs.Five.{five, hits, hitsFace}
 use Rattle.pierce.specs.Scene.{scene-five}
-use Rattle.kernel.specs.Ready.{scene-weighted, far-fits}
+use Rattle.readings.specs.Ready.{scene-weighted, far-fits}
 use Rattle.demands.specs.Symmetry.{round, backward, Symmetry}
 
 ends-law : (au av x y z : Bool) → five av au (not x) (not y) (not z) ≡ five au av x y z

@@ -11,11 +11,11 @@ use Rattle.judge.specs.declared.Judged.the-variants.{Accepted}
 use Rattle.rules.specs.Write.{bytesOf}
 use Rattle.listing.specs.Hits.{Hit}
 use Rattle.scene.specs.View.{viewOf}
-use Rattle.kernel.specs.Answers.{countedOf, verdictOf, listingIn}
-use Rattle.kernel.specs.declared.counts.Counts.{Counts}
-use Rattle.kernel.specs.declared.counts.Counted.the-variants as counted
-use Rattle.kernel.specs.declared.verdict.Verdict.{Verdict}
-use Rattle.kernel.specs.declared.verdict.Verdict.the-variants.{Cross, AInB, BInA, Apart}
+use Rattle.questions.specs.Answers.{countedOf, verdictOf, listingIn}
+use Rattle.questions.specs.declared.Counts.{Counts}
+use Rattle.questions.specs.declared.Counted.the-variants as counted
+use Rattle.questions.specs.declared.Verdict.{Verdict}
+use Rattle.questions.specs.declared.Verdict.the-variants.{Cross, AInB, BInA, Apart}
 use Rattle.demands.specs.Scenes.{minus, at, corners, four, scene, sceneTo}
 
 -- ---- the solids: that at the origin, the printed one that it crosses, one beside it and one around it

@@ -8,7 +8,7 @@ use Rattle.listing.specs.Hits.{upTo, faceHits, edgeHits, pairHits, vertexHits, 
 use Rattle.listing.specs.First.{firstOf}
 use Rattle.scene.specs.View.{solid}
 use Rattle.scene.specs.Faces.{isCorner, hasBoth}
-use Rattle.kernel.specs.Answers.{answered, countsIn, countedOf, enclosureIn, verdictIn, verdictOf, listingIn, insideIn}
+use Rattle.questions.specs.Answers.{answered, countsIn, countedOf, enclosureIn, verdictIn, verdictOf, listingIn, insideIn}
 use Rattle.demands.specs.Computing.{judging, piercing}
 use Rattle.demands.specs.Witnesses.{Witnesses}
 

@@ -11,7 +11,7 @@ use Rattle.scene.specs.Tables.{tablesOf, row, face}
 use Rattle.scene.specs.Faces.{Corner}
 use Rattle.rules.specs.Rules.{Between}
 use Rattle.pierce.specs.Formula.{pierced}
-use Rattle.kernel.specs.Answers.{isEnclosed}
+use Rattle.questions.specs.Answers.{isEnclosed}
 
 -- "Solid numbers are 1 (A) and 2 (B)"
 abbrev pub SolidNumber : ℕ → Type 0

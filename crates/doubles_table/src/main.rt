@@ -96,31 +96,36 @@ fn bits_line(bits: u64, out: &mut [u8]) -> usize
     newline(out, q)
 }
 
-fn write_c0(t: f64, out: &mut [u8]) {
+// Whether it was written, as each of the two below.
+fn write_c0(t: f64, out: &mut [u8]) -> bool {
     if t == t {
         let end = bits_line(f64::to_bits(t), out);
-        io::write_all(STDOUT_FILENO, &out[..end]);
+        return io::write_all(STDOUT_FILENO, &out[..end]);
     }
+    true
 }
 
-fn write_vertices(a: Vertex, b: Vertex, c: Vertex, d: Vertex, out: &mut [u8]) {
+fn write_vertices(a: Vertex, b: Vertex, c: Vertex, d: Vertex, out: &mut [u8]) -> bool {
     let p = vertex(a, out, 0);
     let q = vertex(b, out, p);
     let r = vertex(c, out, q);
     let end = vertex(d, out, r);
-    io::write_all(STDOUT_FILENO, &out[..end]);
+    io::write_all(STDOUT_FILENO, &out[..end])
 }
 
-fn write_entry(s: &[u8]) {
+fn write_entry(s: &[u8]) -> bool {
     let a = vertex_at(s, 0);
     let b = vertex_at(s, 32);
     let c = vertex_at(s, 64);
     let d = vertex_at(s, 96);
     let mut out = [0u8; TEXT];
-    write_vertices(a, b, c, d, &mut out);
-    if is_taken(a) & is_taken(b) & is_taken(c) & is_taken(d) {
-        write_c0(c0(a, b, c, d), &mut out);
+    if !write_vertices(a, b, c, d, &mut out) {
+        return false;
     }
+    if is_taken(a) & is_taken(b) & is_taken(c) & is_taken(d) {
+        return write_c0(c0(a, b, c, d), &mut out);
+    }
+    true
 }
 
 fn main() {
@@ -130,7 +135,9 @@ fn main() {
         if io::read_full(STDIN_FILENO, &mut s) < ENTRY {
             return;
         }
-        write_entry(&s);
+        if !write_entry(&s) {
+            return;
+        }
         n += 1;
     }
 }

@@ -15,8 +15,8 @@ use Rattle.scene.specs.declared.Solid.{Solid}
 use Rattle.listing.specs.Hits.{Seen, upTo}
 use Rattle.table.specs.Table.{each, mostEdges}
 use Rattle.table.specs.Runs.{upTo-length}
-use Rattle.edge_masks.specs.Edges.{entry, vertexEdges, solidEdges, Within}
-use Rattle.edge_masks.specs.Order.{higher, shifted}
+use Rattle.table.specs.Edges.{entry, vertexEdges, solidEdges, Within}
+use Rattle.table.specs.Order.{higher, shifted}
 
 -- a word has as many places as ones
 places-ones : (d k w : ℕ) → w < 2 ^ d → length (places d k w) ≡ ones w

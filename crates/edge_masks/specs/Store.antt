@@ -15,7 +15,7 @@ use Rattle.face_masks.specs.declared.Mask.{Mask}
 use Rattle.listing.specs.Hits.{Seen, upTo, edgeMask}
 use Rattle.listing.specs.Laws.{upTo-more, upTo-same}
 use Rattle.table.specs.Table.{Entry, entryIn, entriesIn, each}
-use Rattle.edge_masks.specs.Edges.{entry, bitEdges, Filled}
+use Rattle.table.specs.Edges.{entry, bitEdges, Filled}
 
 -- two numbers stored at 2j and 2j + 1
 unfoldable pub pairSet : List ℕ → (j x y : ℕ) → List ℕ

@@ -8,9 +8,9 @@ use Rattle.render.specs.Text.{ascii, decimal}
 use Rattle.render.specs.Back.{Words}
 use Rattle.judge.specs.declared.Judged.{Judged}
 use Rattle.judge.specs.declared.Judged.the-variants as judged
-use Rattle.kernel.specs.declared.counts.Counted.{Counted}
-use Rattle.kernel.specs.declared.counts.Counted.the-variants as counted
-use Rattle.kernel.specs.declared.counts.Counts.{Counts}
+use Rattle.questions.specs.declared.Counted.{Counted}
+use Rattle.questions.specs.declared.Counted.the-variants as counted
+use Rattle.questions.specs.declared.Counts.{Counts}
 use Rattle.session.specs.Session.{isWhole}
 use Rattle.session.specs.Kept as kept
 use Rattle.session.specs.declared.Session.{Session}

@@ -9,7 +9,7 @@ ghost use Rattle.session.specs.Session.{scene};
 ghost use Rattle.edit.specs.Steps.{stepOf, toldOf, usageLine, sceneWithin};
 use crate::operations::Operation;
 use judge::Judged;
-use kernel::counts::Counted;
+use questions::Counted;
 use render::newline;
 use render::next_number;
 use render::next_word;

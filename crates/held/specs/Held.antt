@@ -8,8 +8,8 @@ use lib.Count.{ones}
 use Rattle.scene.specs.Limits.{limits}
 use Rattle.scene.specs.View.{viewOf}
 use Rattle.rules.specs.Rules.{FileOk}
-use Rattle.kernel.specs.Answers.{maskIn, countedOf}
-use Rattle.kernel.specs.declared.counts.Counted.the-variants.{Counts}
+use Rattle.questions.specs.Answers.{maskIn, countedOf}
+use Rattle.questions.specs.declared.Counted.the-variants.{Counts}
 use Rattle.session.specs.Session.{scene, opened}
 use Rattle.session.specs.Kept as session
 use Rattle.session.specs.Kept.{Empty, Full}

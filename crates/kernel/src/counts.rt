@@ -3,27 +3,17 @@ ghost use mathlib.Core.Path.{_≡_};
 ghost use Rattle.scene.specs.View.{viewOf};
 ghost use Rattle.judge.specs.Judge.{judged};
 ghost use Rattle.judge.specs.declared.Judged.the-variants.{Accepted};
-ghost use Rattle.kernel.specs.Answers.{countsIn, countedOf};
-use crate::surveys::survey_of;
+ghost use Rattle.questions.specs.Answers.{countsIn, countedOf};
 use engine::Engine;
 use judge::Judged;
-use scene::Refusal;
+use questions::Counted;
+use questions::Counts;
+use readings::survey_of;
 use survey::answers::count_inside;
 use survey::answers::count_pairs;
 use table::ENDS;
 use table::Ends;
 use table::Masks;
-
-pub struct Counts {
-    pub pairs: usize,
-    pub a_in_b: usize,
-    pub b_in_a: usize,
-}
-
-pub enum Counted {
-    Refused(Refusal),
-    Counts(Counts),
-}
 
 // Of an accepted scene.
 fn counts_of(engine: Engine, s: &[u8]) -> Counts

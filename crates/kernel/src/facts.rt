@@ -4,32 +4,19 @@ ghost use mathlib.Core.Path.{_≡_};
 ghost use Rattle.judge.specs.Judge.{judged};
 ghost use Rattle.judge.specs.declared.Judged.the-variants.{Accepted};
 ghost use Rattle.scene.specs.View.{viewOf};
-ghost use Rattle.kernel.specs.Facts.{IsSurvey, Gathered};
-use crate::counts::Counts;
-use crate::surveys::pour_read;
-use crate::surveys::survey_of;
-use crate::surveys::verdict_read;
-use crate::verdict::Verdict;
+ghost use Rattle.readings.specs.Facts.{IsSurvey, Gathered};
 use engine::Engine;
 use judge::Judged;
-use scene::Refusal;
+use questions::Counts;
+use questions::Facts;
+use questions::Surveyed;
+use readings::pour_read;
+use readings::survey_of;
+use readings::verdict_read;
 use survey::answers::count_inside;
 use table::ENDS;
 use table::Ends;
 use table::Masks;
-
-// Bit j of a word is set exactly when the other solid encloses the solid's vertex j + 1.
-pub struct Facts {
-    pub verdict: Verdict,
-    pub counts: Counts,
-    pub a_inside: u64,
-    pub b_inside: u64,
-}
-
-pub enum Surveyed {
-    Refused(Refusal),
-    Facts(Facts),
-}
 
 // Of an accepted scene.
 fn gather(engine: Engine, s: &[u8], out: &mut [u16]) -> Facts

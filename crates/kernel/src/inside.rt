@@ -3,9 +3,10 @@ ghost use mathlib.Core.Path.{_≡_};
 ghost use Rattle.scene.specs.View.{viewOf};
 ghost use Rattle.judge.specs.Judge.{judged};
 ghost use Rattle.judge.specs.declared.Judged.the-variants.{Accepted};
-ghost use Rattle.kernel.specs.Answers.{insideFault, insideIn, insideOf};
+ghost use Rattle.questions.specs.Answers.{insideFault, insideIn, insideOf};
 use engine::Engine;
 use judge::Judged;
+use questions::Enclosing;
 use scene::Refusal;
 use scene::decode;
 use scene::is_within;
@@ -16,11 +17,6 @@ use survey::survey_solid;
 use table::ENDS;
 use table::Ends;
 use table::Masks;
-
-pub enum Enclosing {
-    Refused(Refusal),
-    Count(usize),
-}
 
 fn inside_fault(k: usize) -> Judged
     ensures { λ r. ⌜ r ≡ insideFault k ⌝ }

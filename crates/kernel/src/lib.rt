@@ -7,5 +7,4 @@ pub mod inside;
 pub mod lists;
 pub mod masks;
 pub mod points;
-pub mod surveys;
 pub mod verdict;

@@ -3,27 +3,17 @@ ghost use mathlib.Core.Path.{_≡_};
 ghost use Rattle.judge.specs.Judge.{judged};
 ghost use Rattle.judge.specs.declared.Judged.the-variants.{Accepted};
 ghost use Rattle.scene.specs.View.{viewOf};
-ghost use Rattle.kernel.specs.Answers.{listingIn, IsListed, IsPart};
-ghost use Rattle.kernel.specs.Listings.{PouredIf};
-use crate::surveys::pour_read;
-use crate::surveys::survey_of;
+ghost use Rattle.questions.specs.Answers.{listingIn, IsListed, IsPart};
+ghost use Rattle.questions.specs.Listings.{PouredIf};
 use engine::Engine;
 use judge::Judged;
+use questions::Listed;
+use readings::pour_read;
+use readings::survey_of;
 use scene::Refusal;
-use scene::Scene;
 use table::ENDS;
 use table::Ends;
 use table::Masks;
-
-// Room for the longest listing: a face's plane parts two sides of a triangle at most, and each edge is in two faces or more, so that no more
-// than as many edges as the solid has faces pierce a face of the other.
-pub const MOST_PAIRS: usize = 2 * Scene::MOST_FACES * Scene::MOST_FACES;
-
-// How many pairs there are.
-pub enum Listed {
-    Refused(Refusal),
-    Count(usize),
-}
 
 // Of an accepted scene.
 fn pour(engine: Engine, s: &[u8], from: usize, all: bool, out: &mut [u16]) -> usize

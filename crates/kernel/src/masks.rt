@@ -4,13 +4,14 @@ ghost use Rattle.scene.specs.View.{viewOf};
 ghost use Rattle.face_masks.specs.Faces.{valueOf};
 ghost use Rattle.judge.specs.Judge.{judged};
 ghost use Rattle.judge.specs.declared.Judged.the-variants.{Accepted};
-ghost use Rattle.kernel.specs.Answers.{isVertexOf, edgeAndSolid, outside, maskFault, maskIn, saidMask, maskedOf, enclosedFault, otherSolid, enclosedOf};
-ghost use Rattle.kernel.specs.Asked.{Outside};
-use crate::points::Answer;
+ghost use Rattle.questions.specs.Answers.{isVertexOf, edgeAndSolid, outside, maskFault, maskIn, saidMask, maskedOf, enclosedFault, otherSolid, enclosedOf};
+ghost use Rattle.questions.specs.Asked.{Outside};
 use crate::points::is_point;
 use engine::Engine;
 use face_masks::Mask;
 use judge::Judged;
+use questions::Answer;
+use questions::Masked;
 use scene::Refusal;
 use scene::decode;
 use scene::is_within;
@@ -18,12 +19,6 @@ use scene::offsets::points;
 use scene::offsets::vertices;
 use scene::read::counts;
 use scene::read::solid;
-
-// The mask, and how many ones it has.
-pub enum Masked {
-    Refused(Refusal),
-    Faces(Mask, usize),
-}
 
 // Point i is a vertex of solid k, 1 for A and 2 for B.
 fn is_vertex_of(s: &[u8], k: usize, i: usize) -> bool

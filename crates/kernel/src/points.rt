@@ -1,10 +1,11 @@
 // Questions about points: the sign of four, and whether the edge of two pierces a face.
 ghost use mathlib.Core.Path.{_≡_};
 ghost use Rattle.scene.specs.View.{viewOf};
-ghost use Rattle.kernel.specs.Answers.{isPoint, arePoints, differ, signFault, signOf, clear, edgeAndFace, piercesFault, piercesOf};
+ghost use Rattle.questions.specs.Answers.{isPoint, arePoints, differ, signFault, signOf, clear, edgeAndFace, piercesFault, piercesOf};
 use engine::Engine;
 use judge::Judged;
-use orient::Terms;
+use questions::Answer;
+use questions::Signed;
 use scene::Face;
 use scene::Refusal;
 use scene::decode;
@@ -12,18 +13,6 @@ use scene::is_within;
 use scene::offsets;
 use scene::offsets::points;
 use scene::read::corners;
-
-// The four terms, and whether the first that is not zero is positive.
-pub enum Signed {
-    Refused(Refusal),
-    Sign(Terms, bool),
-}
-
-pub enum Answer {
-    Refused(Refusal),
-    Yes,
-    No,
-}
 
 // i is the number of a point of the scene, the far point too.
 pub fn is_point(s: &[u8], i: usize) -> bool

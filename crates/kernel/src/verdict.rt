@@ -1,19 +1,11 @@
 // The verdict: the first pierced pair; else the lowest vertex of A enclosed by B; else the lowest of B enclosed by A; else apart.
 ghost use mathlib.Core.Path.{_≡_};
-ghost use Rattle.kernel.specs.Answers.{verdictOf};
-use crate::surveys::sought_of;
-use crate::surveys::verdict_by;
+ghost use Rattle.questions.specs.Answers.{verdictOf};
 use engine::Engine;
 use judge::Judged;
-use scene::Refusal;
-
-pub enum Verdict {
-    Refused(Refusal),
-    Cross(usize, usize, usize),
-    AInB(usize),
-    BInA(usize),
-    Apart,
-}
+use questions::Verdict;
+use readings::sought_of;
+use readings::verdict_by;
 
 pub fn verdict_of(engine: Engine, s: &[u8]) -> Verdict
     ensures { λ r. ⌜ r ≡ verdictOf (now (s .entry)) ⌝ }

@@ -16,10 +16,10 @@ use Rattle.rules.specs.Write.{bytesOf}
 use Rattle.orient.specs.Signs.{Upto}
 use Rattle.listing.specs.Hits.{Hit, solidHits, insideCount, lowestInside}
 use Rattle.listing.specs.First.{firstOf}
-use Rattle.kernel.specs.Answers.{countedOf, crossOr, verdictNumber, verdictOf}
-use Rattle.kernel.specs.declared.counts.Counted.the-variants.{Counts}
-use Rattle.kernel.specs.declared.verdict.Verdict.{Verdict}
-use Rattle.kernel.specs.declared.verdict.Verdict.the-variants.{AInB, BInA, Apart}
+use Rattle.questions.specs.Answers.{countedOf, crossOr, verdictNumber, verdictOf}
+use Rattle.questions.specs.declared.Counted.the-variants.{Counts}
+use Rattle.questions.specs.declared.Verdict.{Verdict}
+use Rattle.questions.specs.declared.Verdict.the-variants.{AInB, BInA, Apart}
 use Rattle.clean.specs.Clean.{Clean}
 use Rattle.lecture.specs.Alike.{Clear}
 use Rattle.lecture.specs.Lecture.{rowsOf, pointsOf, seen, inA, inB, listed, maskA, maskB}

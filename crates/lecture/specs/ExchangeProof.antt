@@ -21,10 +21,10 @@ use Rattle.orient.specs.Weighted.{Weighted}
 use Rattle.pierce.specs.Beside.{beside}
 use Rattle.listing.specs.Hits.{Hit, solidHits, isInside, insideCount, lowestInside}
 use Rattle.listing.specs.First.{firstOf}
-use Rattle.kernel.specs.Answers.{answered, countsIn, countedOf, crossOr, enclosureIn, verdictIn, verdictOf, verdictNumber, listingIn, insideIn}
-use Rattle.kernel.specs.declared.counts.Counted.the-variants.{Counts}
-use Rattle.kernel.specs.declared.verdict.Verdict.{Verdict}
-use Rattle.kernel.specs.declared.verdict.Verdict.the-variants.{AInB, BInA, Apart}
+use Rattle.questions.specs.Answers.{answered, countsIn, countedOf, crossOr, enclosureIn, verdictIn, verdictOf, verdictNumber, listingIn, insideIn}
+use Rattle.questions.specs.declared.Counted.the-variants.{Counts}
+use Rattle.questions.specs.declared.Verdict.{Verdict}
+use Rattle.questions.specs.declared.Verdict.the-variants.{AInB, BInA, Apart}
 use Rattle.clean.specs.Clean.{Clean}
 use Rattle.lecture.specs.Lecture.{rowsOf, pointsOf, seen, inA, inB, listed}
 use Rattle.lecture.specs.Renumbered.{clean-untied}

@@ -17,7 +17,7 @@ use Rattle.orient.specs.Signs.{Upto, Four}
 use Rattle.orient.specs.Terms.{positiveAt}
 use Rattle.pierce.specs.Against.{maskAgainst}
 use Rattle.listing.specs.Hits.{Seen, Hit, solidHits, insideCount, lowestInside}
-use Rattle.kernel.specs.Answers.{verdictOf, countedOf}
+use Rattle.questions.specs.Answers.{verdictOf, countedOf}
 use Rattle.maps.specs.declared.Map.{Map}
 use Rattle.maps.specs.Mapped.{mapped, determinantOf}
 use Rattle.maps.specs.Image.{imageBytes, IsImage}

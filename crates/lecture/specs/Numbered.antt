@@ -12,7 +12,7 @@ use Rattle.scene.specs.Tables.{tablesOf, face}
 use Rattle.judge.specs.Judge.{judged}
 use Rattle.judge.specs.declared.Judged.the-variants.{Accepted}
 use Rattle.listing.specs.Hits.{Hit}
-use Rattle.kernel.specs.Answers.{countedOf, verdictNumber, verdictOf}
+use Rattle.questions.specs.Answers.{countedOf, verdictNumber, verdictOf}
 use Rattle.demands.specs.Words.{VertexOfA, VertexOfB, Point, FaceNumber, farPoint}
 use Rattle.demands.specs.Exact.{PiercedPair}
 use Rattle.lecture.specs.Alike.{Clear}

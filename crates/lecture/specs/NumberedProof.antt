@@ -24,8 +24,8 @@ use Rattle.face_masks.specs.Faces.{isOdd}
 use Rattle.pierce.specs.Against.{maskAgainst}
 use Rattle.pierce.specs.Formula.{pierced}
 use Rattle.listing.specs.Hits.{Hit, isInside, insideCount}
-use Rattle.kernel.specs.Answers.{answered, countsIn, countedOf, insideIn, listingIn, verdictNumber, verdictOf}
-use Rattle.kernel.specs.declared.counts.Counted.the-variants.{Counts}
+use Rattle.questions.specs.Answers.{answered, countsIn, countedOf, insideIn, listingIn, verdictNumber, verdictOf}
+use Rattle.questions.specs.declared.Counted.the-variants.{Counts}
 use Rattle.demands.specs.Words.{VertexOfA, VertexOfB, FaceOfA, FaceOfB, Point, Pierces}
 use Rattle.demands.specs.Exact.{PiercedPair}
 use Rattle.lecture.specs.Alike.{Clear}

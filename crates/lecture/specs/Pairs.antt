@@ -22,7 +22,7 @@ use Rattle.pierce.specs.Beside.{Beside, beside}
 use Rattle.scene.specs.View.{viewOf}
 use Rattle.listing.specs.Hits.{Hit}
 use Rattle.listing.specs.Pour.{three}
-use Rattle.kernel.specs.Answers.{listingIn}
+use Rattle.questions.specs.Answers.{listingIn}
 use Rattle.demands.specs.Words.{FaceOfA, FaceOfB, FaceNumber, Point, CornerOf, Edge, Pierces}
 use Rattle.demands.specs.Exact.{PiercedPair, Before, solidOf}
 use Rattle.demands.specs.ExactProof.{exact}

@@ -19,10 +19,10 @@ use Rattle.pierce.specs.Against.{maskAgainst}
 use Rattle.listing.specs.Hits.{Hit, solidHits, insideCount, lowestInside}
 use Rattle.listing.specs.First.{firstOf}
 use Rattle.scene.specs.View.{solid}
-use Rattle.kernel.specs.Answers.{answered, countsIn, countedOf, crossOr, enclosureIn, verdictIn, verdictOf, listingIn, insideIn}
-use Rattle.kernel.specs.declared.counts.Counted.the-variants as answers
-use Rattle.kernel.specs.declared.verdict.Verdict.{Verdict}
-use Rattle.kernel.specs.declared.verdict.Verdict.the-variants.{AInB, BInA, Apart}
+use Rattle.questions.specs.Answers.{answered, countsIn, countedOf, crossOr, enclosureIn, verdictIn, verdictOf, listingIn, insideIn}
+use Rattle.questions.specs.declared.Counted.the-variants as answers
+use Rattle.questions.specs.declared.Verdict.{Verdict}
+use Rattle.questions.specs.declared.Verdict.the-variants.{AInB, BInA, Apart}
 use Rattle.lecture.specs.Alike.{Clear, SamePierced, masks-same, hits-same, counts-same, lowests-same}
 use Rattle.lecture.specs.Lecture.{rowsOf, pointsOf, seen, inA, inB, listed, maskA, maskB, SameShape, SameAnswers}
 

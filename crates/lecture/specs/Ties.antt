@@ -16,8 +16,8 @@ use Rattle.edges.specs.Edges.{joined}
 use Rattle.face_masks.specs.Faces.{isOdd}
 use Rattle.listing.specs.First.{firstOf}
 use Rattle.listing.specs.Hits.{upTo, faceHits, edgeHits, pairHits, vertexHits, solidHits, isInside, lowestInside}
-use Rattle.kernel.specs.Answers.{answered, enclosureIn, verdictIn, verdictOf, listingIn}
-use Rattle.kernel.specs.declared.verdict.Verdict.the-variants.{Cross, Apart}
+use Rattle.questions.specs.Answers.{answered, enclosureIn, verdictIn, verdictOf, listingIn}
+use Rattle.questions.specs.declared.Verdict.the-variants.{Cross, Apart}
 use Rattle.demands.specs.Computing.{judging, piercing}
 use Rattle.demands.specs.Scenes.{minus, at, four, scene}
 use Rattle.lecture.specs.Exchange.{exchangedBytes}

@@ -13,9 +13,9 @@ use Rattle.judge.specs.Judge.{judged}
 use Rattle.judge.specs.declared.Judged.the-variants.{Accepted}
 use Rattle.listing.specs.Hits.{Hit, isInside, insideCount, lowestInside}
 use Rattle.listing.specs.First.{firstOf}
-use Rattle.kernel.specs.Answers.{answered, countsIn, insideIn, crossOr, enclosureIn, listingIn, verdictIn, verdictOf, verdictNumber}
-use Rattle.kernel.specs.declared.counts.Counts.{Counts}
-use Rattle.kernel.specs.declared.verdict.Verdict.the-variants.{AInB, BInA, Apart}
+use Rattle.questions.specs.Answers.{answered, countsIn, insideIn, crossOr, enclosureIn, listingIn, verdictIn, verdictOf, verdictNumber}
+use Rattle.questions.specs.declared.Counts.{Counts}
+use Rattle.questions.specs.declared.Verdict.the-variants.{AInB, BInA, Apart}
 use Rattle.scene.specs.Records.{vertsA, vertsB, verts}
 use Rattle.lecture.specs.Lecture.{seen, inA, inB}
 

@@ -7,9 +7,9 @@ use native.Mathlib.Omega.{arith}
 use lib.Dec.{eqb, leb}
 use lib.ListN.{length}
 use borrow.Author.Tests.{eq-eqb, ne-eqb, eqb-true}
-use Rattle.kernel.specs.Answers.{verdictOf}
-use Rattle.kernel.specs.declared.verdict.Verdict.{Verdict}
-use Rattle.kernel.specs.declared.verdict.Verdict.the-variants as verdict
+use Rattle.questions.specs.Answers.{verdictOf}
+use Rattle.questions.specs.declared.Verdict.{Verdict}
+use Rattle.questions.specs.declared.Verdict.the-variants as verdict
 use Rattle.light.specs.Light.{lightNumber, colourOf, total, isFull, more, lightOf, leftOf, IsLight}
 use Rattle.light.specs.declared.Light.{Light}
 use Rattle.light.specs.declared.Light.the-variants.{Uncounted}

@@ -6,9 +6,9 @@ use mathlib.Core.List.{List}
 use Prim.Native.Nat.{ℕ, _+_, _*_, _/_, _%_}
 use lib.Dec.{eqb, leb}
 use lib.ListN.{length, getD, set}
-use Rattle.kernel.specs.Answers.{verdictOf}
-use Rattle.kernel.specs.declared.verdict.Verdict.{Verdict}
-use Rattle.kernel.specs.declared.verdict.Verdict.the-variants as verdict
+use Rattle.questions.specs.Answers.{verdictOf}
+use Rattle.questions.specs.declared.Verdict.{Verdict}
+use Rattle.questions.specs.declared.Verdict.the-variants as verdict
 use Rattle.light.specs.declared.Light.{Light}
 use Rattle.light.specs.declared.Light.the-variants.{Green, Amber, Red, Dark, Uncounted}
 

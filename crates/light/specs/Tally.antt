@@ -10,7 +10,7 @@ use native.Mathlib.Omega.{arith}
 use lib.Dec.{T, eqb, leb, ltb, eqb→eq, ltb→lt, nltb→le, T-not}
 use lib.ListN.{length}
 use borrow.Author.Tests.{eq-eqb, ne-eqb, le-leb, lt-leb, leb-true, leb-false}
-use Rattle.kernel.specs.Answers.{verdictOf}
+use Rattle.questions.specs.Answers.{verdictOf}
 use Rattle.light.specs.Light.{lightNumber, colourOf, countOf, more, total, isFull, lightOf, leftOf, IsLight}
 use Rattle.light.specs.Cases.{colour-lt}
 use Rattle.light.specs.Words.{put-length, word-put, word-other}

@@ -2,10 +2,10 @@
 ghost use mathlib.Core.Path.{_≡_};
 ghost use Prim.Native.Nat.{_+_, _%_, _<_, _≤_};
 ghost use lib.ListN.{length};
-ghost use Rattle.kernel.specs.Answers.{verdictOf};
+ghost use Rattle.questions.specs.Answers.{verdictOf};
 ghost use Rattle.light.specs.Light.{lightNumber, colourOf, word, put, total, isFull, more, IsLight};
 use engine::Engine;
-use kernel::verdict::Verdict;
+use questions::Verdict;
 
 // The counts hold this many answers.
 pub const MOST: u64 = 1000000;

@@ -10,17 +10,17 @@ use Rattle.scene.specs.declared.Scene.{Scene}
 use Rattle.judge.specs.declared.Judged.{Judged}
 use Rattle.judge.specs.declared.Judged.the-variants as judged
 use Rattle.orient.specs.declared.Terms.{Terms}
-use Rattle.kernel.specs.declared.points.Signed.{Signed}
-use Rattle.kernel.specs.declared.points.Signed.the-variants as sign
-use Rattle.kernel.specs.declared.points.Answer.{Answer}
-use Rattle.kernel.specs.declared.points.Answer.the-variants as answer
-use Rattle.kernel.specs.declared.masks.Masked.{Masked}
-use Rattle.kernel.specs.declared.masks.Masked.the-variants as masked
-use Rattle.kernel.specs.declared.counts.Counts.{Counts}
-use Rattle.kernel.specs.declared.counts.Counted.{Counted}
-use Rattle.kernel.specs.declared.counts.Counted.the-variants as counted
-use Rattle.kernel.specs.declared.verdict.Verdict.{Verdict}
-use Rattle.kernel.specs.declared.verdict.Verdict.the-variants as verdict
+use Rattle.questions.specs.declared.Signed.{Signed}
+use Rattle.questions.specs.declared.Signed.the-variants as sign
+use Rattle.questions.specs.declared.Answer.{Answer}
+use Rattle.questions.specs.declared.Answer.the-variants as answer
+use Rattle.questions.specs.declared.Masked.{Masked}
+use Rattle.questions.specs.declared.Masked.the-variants as masked
+use Rattle.questions.specs.declared.Counts.{Counts}
+use Rattle.questions.specs.declared.Counted.{Counted}
+use Rattle.questions.specs.declared.Counted.the-variants as counted
+use Rattle.questions.specs.declared.Verdict.{Verdict}
+use Rattle.questions.specs.declared.Verdict.the-variants as verdict
 
 -- ---- a report's
 

@@ -5,7 +5,6 @@ use mathlib.Core.Path.{_≡_, refl, sym, ap, ap₂, _∙_, subst}
 use mathlib.Core.Bool.{false}
 use mathlib.Core.List.{List, [], _∷_, _++_, map, append-nil}
 use native.Mathlib.Omega.{arith}
-use lib.Count.{ones}
 use lib.ListN.{length, take, drop, getD, length-append, length-take, length-drop}
 use lib.Seq.{take-nil, drop-nil}
 use Rattle.laws.specs.Lists.{run, run-same}
@@ -19,25 +18,21 @@ use Rattle.listing.specs.Hits.{Hit}
 use Rattle.listing.specs.Pour.{flat, partIn}
 use Rattle.listing.specs.Poured.{length-flat}
 use Rattle.scene.specs.View.{viewOf}
-use Rattle.kernel.specs.Answers.{answered, verdictIn, verdictOf, countsIn, countedOf, IsPart, listingIn}
-use Rattle.kernel.specs.Listings.{PouredIf, part-told}
-use Rattle.kernel.specs.Readings.{counts-read}
-use Rattle.kernel.specs.Surveys.{SurveyIs}
-use Rattle.survey.specs.Survey.{pairsOf}
-use Rattle.survey.specs.declared.Survey.{Survey}
-use Rattle.kernel.specs.declared.counts.Counts.{Counts}
-use Rattle.kernel.specs.declared.counts.Counted.{Counted}
-use Rattle.kernel.specs.declared.counts.Counted.the-variants as counted
-use Rattle.kernel.specs.declared.verdict.Verdict.{Verdict}
-use Rattle.kernel.specs.declared.verdict.Verdict.the-variants as verdict
-use Rattle.kernel.specs.declared.lists.Listed.{Listed}
-use Rattle.kernel.specs.declared.lists.Listed.the-variants as listed
+use Rattle.questions.specs.Answers.{answered, verdictIn, verdictOf, countsIn, countedOf, IsPart, listingIn}
+use Rattle.questions.specs.Listings.{PouredIf, part-told}
+use Rattle.questions.specs.declared.Counts.{Counts}
+use Rattle.questions.specs.declared.Counted.{Counted}
+use Rattle.questions.specs.declared.Counted.the-variants as counted
+use Rattle.questions.specs.declared.Verdict.{Verdict}
+use Rattle.questions.specs.declared.Verdict.the-variants as verdict
+use Rattle.questions.specs.declared.Listed.{Listed}
+use Rattle.questions.specs.declared.Listed.the-variants as listed
 use Rattle.render.specs.Text.{line, text}
 use Rattle.render.specs.Back.{Words}
 use Rattle.render.specs.Put.{Put}
 use Rattle.lines.specs.Lines.{refusedLine, sceneLine, verdictLine, insideLine, pairsLine, pairLine}
 use Rattle.lines.specs.Rows.{rowIn, rowsIn, IsRows}
-use Rattle.lines.specs.declared.surveyed.Top.{Top}
+use Rattle.lines.specs.declared.head.Top.{Top}
 use Rattle.lines.specs.declared.rows.Part.{Part}
 
 abbrev pub hitLine : Hit → Words
@@ -104,7 +99,7 @@ module _ (s : List ℕ) {l m : List ℕ} {e : ℕ} where
   head-refused {r} p q h = head-by s (sym p ∙ q) (one-line (refusedLine r) h) refl
 
   -- the counts and the verdict as they were read
-  head-told : judged s ≡ Accepted → {h : Scene} {v : Verdict} {c : Counts} → h ≡ countsOf s → v ≡ verdictIn (viewOf s) → c ≡ countsIn (viewOf s) →
+  pub head-told : judged s ≡ Accepted → {h : Scene} {v : Verdict} {c : Counts} → h ≡ countsOf s → v ≡ verdictIn (viewOf s) → c ≡ countsIn (viewOf s) →
       Put l 0 (text (headLines h v c)) m e → IsHead s l m (record { end = e; rows = c .pairs })
   unfolding answered verdictOf
   head-told ok {h} {v} {c} is-h is-v is-c x =
@@ -114,13 +109,6 @@ module _ (s : List ℕ) {l m : List ℕ} {e : ℕ} where
       (subst (λ (u : Verdict). Put l 0 (text (headLines (countsOf s) u c)) m e) w
       (subst (λ (g : Scene). Put l 0 (text (headLines g v c)) m e) is-h x)))
       (ap (λ (d : Counts). d .pairs) is-c)
-
-  -- read off a survey
-  pub head-read : judged s ≡ Accepted → {ends-a masks-a ends-b masks-b : List ℕ} {t : Survey} → SurveyIs (viewOf s) ends-a masks-a ends-b masks-b t →
-      {h : Scene} {v : Verdict} {n p q : ℕ} → h ≡ countsOf s → v ≡ verdictIn (viewOf s) →
-      ((a b : ℕ) (e f : List ℕ) → n ≡ length (pairsOf t a b e masks-a f masks-b)) → p ≡ ones (t .a .inside) → q ≡ ones (t .b .inside) →
-      Put l 0 (text (headLines h v (record { pairs = n; «a_in_b» = p; «b_in_a» = q }))) m e → IsHead s l m (record { end = e; rows = n })
-  head-read ok x is-h is-v pairs inside-a inside-b y = head-told ok is-h is-v (counts-read s ok x inside-a inside-b pairs) y
 
 -- ---- a part of the listing
 

@@ -3,7 +3,7 @@ ghost use Rattle.render.specs.Text.{line};
 ghost use Rattle.render.specs.Put.{Put};
 ghost use Rattle.lines.specs.Lines.{refusedLine, sceneLine, insideLine, pairsLine, pairLine, judgedLine};
 use judge::Judged;
-use kernel::counts::Counts;
+use questions::Counts;
 use render::newline;
 use render::next_number;
 use render::number;
@@ -12,8 +12,8 @@ use scene::Refusal;
 use scene::Scene;
 
 pub mod counts;
+pub mod head;
 pub mod rows;
-pub mod surveyed;
 pub mod verdicts;
 
 pub fn refused(out: &mut [u8], at: usize, r: Refusal) -> usize

@@ -2,7 +2,7 @@
 ghost use Rattle.render.specs.Text.{line};
 ghost use Rattle.render.specs.Put.{Put};
 ghost use Rattle.lines.specs.Lines.{verdictLine, wordOf};
-use kernel::verdict::Verdict;
+use questions::Verdict;
 use render::newline;
 use render::word;
 

@@ -56,3 +56,15 @@ module _ (g : ℕ → List Hit) where
 
   pub first-end : {i n : ℕ} → i ≤ n → n ≤ i → [] ≡ upTo g i → Nothing ≡ firstOf (upTo g n)
   first-end {i} {n} a b e = let d : i ≡ n = omega arith in first-none (rw d at e)
+
+-- ---- the first of two runs
+
+pub first-left : (l m : List Hit) {o : Found} {a b f : ℕ} → o ≡ firstOf l → o ≡ Pair a b f → Pair a b f ≡ firstOf (l ++ m)
+unfolding firstOf
+first-left [] m p q = cc
+first-left (h ∷ l) m p q = sym q ∙ p
+
+pub first-right : (l m : List Hit) {o r : Found} → o ≡ firstOf l → o ≡ Nothing → r ≡ firstOf m → r ≡ firstOf (l ++ m)
+unfolding firstOf
+first-right [] m p q e = e
+first-right (h ∷ l) m p q e = cc

@@ -9,9 +9,9 @@ use Rattle.scene.specs.Records.{facesA, facesB}
 use Rattle.scene.specs.View.{viewOf}
 use Rattle.judge.specs.Judge.{judged}
 use Rattle.judge.specs.declared.Judged.the-variants.{Accepted}
-use Rattle.kernel.specs.Answers.{listingIn}
+use Rattle.questions.specs.Answers.{listingIn}
 
--- as `kernel::lists::MOST_PAIRS` has it
+-- as `questions::MOST_PAIRS` has it
 abbrev pub mostPairs : ℕ
 mostPairs = 2 * limits .mostFaces * limits .mostFaces
 

@@ -29,7 +29,7 @@ use Rattle.sides.specs.Crossing.{pierced-differs}
 use Rattle.listing.specs.Hits.{Seen, Hit, only, faceHits, edgeHits, pairHits, pairsAt, vertexHits, solidHits}
 use Rattle.links.specs.Number.{sumOf, ones-sum}
 use Rattle.table.specs.Runs.{upTo-length}
-use Rattle.kernel.specs.Answers.{listingIn, seen}
+use Rattle.questions.specs.Answers.{listingIn, seen}
 use Rattle.longest.specs.Longest.{LongestListing}
 use Rattle.longest.specs.Pairs.{pairSum, pairs-add, pairs-le, list-most}
 use Rattle.longest.specs.TwoFaces.{edgeOf, two-faces}

@@ -2,7 +2,7 @@
 ghost use mathlib.Core.Path.{_≡_};
 ghost use Prim.Native.Nat.{_≤_};
 ghost use lib.IntN.{natAbs};
-ghost use Rattle.scene.specs.Limits.{limits, mostPoints, leastWeight, within};
+ghost use Rattle.scene.specs.Limits.{limits, mostPoints, leastWeight};
 ghost use Rattle.scene.specs.Records.{verts};
 ghost use Rattle.scene.specs.Tables.{rowAt};
 ghost use Rattle.clean.specs.Clean.{isZero};

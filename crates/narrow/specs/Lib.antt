@@ -2,3 +2,4 @@ pub mod Parted
 pub mod Marks
 pub mod Cover
 pub mod Narrow
+pub mod Lent

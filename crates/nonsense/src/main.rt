@@ -2,10 +2,10 @@
 // prints for each question how often it was answered and how often refused with which number.
 ghost use Prim.Native.Nat.{_≤_};
 ghost use lib.ListN.{length};
+use crate::asked::ROWS;
+use crate::asked::ask_points;
+use crate::asked::ask_rest;
 use crate::chance::next;
-use crate::questions::ROWS;
-use crate::questions::ask_points;
-use crate::questions::ask_rest;
 use crate::strings::Bytes;
 use crate::strings::make;
 use libc::STDIN_FILENO;
@@ -15,8 +15,8 @@ use render::next_number;
 use render::word;
 use scene::Scene;
 
+mod asked;
 mod chance;
-mod questions;
 mod strings;
 
 const STRINGS: usize = 120000;

@@ -13,12 +13,12 @@ use Rattle.judge.specs.declared.Judged.{Judged}
 use Rattle.judge.specs.declared.Judged.the-variants.{Accepted, Refused}
 use Rattle.listing.specs.Hits.{Hit}
 use Rattle.scene.specs.View.{viewOf}
-use Rattle.kernel.specs.Answers.{answered, verdictOf, countedOf, listingIn}
-use Rattle.kernel.specs.declared.counts.Counts.{Counts}
-use Rattle.kernel.specs.declared.counts.Counted.{Counted}
-use Rattle.kernel.specs.declared.counts.Counted.the-variants as counted
-use Rattle.kernel.specs.declared.verdict.Verdict.{Verdict}
-use Rattle.kernel.specs.declared.verdict.Verdict.the-variants as verdict
+use Rattle.questions.specs.Answers.{answered, verdictOf, countedOf, listingIn}
+use Rattle.questions.specs.declared.Counts.{Counts}
+use Rattle.questions.specs.declared.Counted.{Counted}
+use Rattle.questions.specs.declared.Counted.the-variants as counted
+use Rattle.questions.specs.declared.Verdict.{Verdict}
+use Rattle.questions.specs.declared.Verdict.the-variants as verdict
 use Rattle.render.specs.Text.{ascii, text}
 use Rattle.render.specs.Decimal.{numberIn, number-back}
 use Rattle.render.specs.Back.{Word, Words, Plain, Line, decimal-plain, linesIn, lines-back}

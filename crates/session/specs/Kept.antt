@@ -16,8 +16,8 @@ use Rattle.scene.specs.declared.Face.{Face}
 use Rattle.judge.specs.Judge.{judged}
 use Rattle.judge.specs.declared.Judged.{Judged}
 use Rattle.judge.specs.declared.Judged.the-variants.{Accepted, Refused}
-use Rattle.kernel.specs.Answers.{answered, countedOf}
-use Rattle.kernel.specs.declared.counts.Counted.the-variants as counted
+use Rattle.questions.specs.Answers.{answered, countedOf}
+use Rattle.questions.specs.declared.Counted.the-variants as counted
 use Rattle.session.specs.Session.{scene, noCounts, countsBy, fresh, openedBy, opened, vertexFault, farFault}
 use Rattle.session.specs.Session.{turnFault, changedBy, movedOf, farMovedOf, turned, turnedIn, reversedOf}
 use Rattle.session.specs.Laws.{row-fits, vertex-free, far-free, turn-free}

@@ -15,10 +15,10 @@ use Rattle.scene.specs.declared.Refusal.the-variants.{Opening, Coordinate, Weig
 use Rattle.judge.specs.Judge.{judged, rule, andThen}
 use Rattle.judge.specs.declared.Judged.{Judged}
 use Rattle.judge.specs.declared.Judged.the-variants.{Accepted, Refused}
-use Rattle.kernel.specs.Answers.{countedOf}
-use Rattle.kernel.specs.declared.counts.Counts.{Counts}
-use Rattle.kernel.specs.declared.counts.Counted.{Counted}
-use Rattle.kernel.specs.declared.counts.Counted.the-variants as counted
+use Rattle.questions.specs.Answers.{countedOf}
+use Rattle.questions.specs.declared.Counts.{Counts}
+use Rattle.questions.specs.declared.Counted.{Counted}
+use Rattle.questions.specs.declared.Counted.the-variants as counted
 use Rattle.session.specs.declared.faults.Sizes.{Sizes}
 use Rattle.session.specs.declared.Session.{Session}
 use Rattle.session.specs.declared.Changed.{Changed}

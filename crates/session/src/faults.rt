@@ -3,7 +3,6 @@ ghost use mathlib.Core.Path.{_≡_};
 ghost use Prim.Native.Nat.{_<_};
 ghost use lib.Dec.{leb, eqb};
 ghost use lib.IntN.{natAbs};
-ghost use Rattle.scene.specs.Limits.{within};
 ghost use Rattle.session.specs.Session.{sizesOf, isWhole, isNowhere, rowFault, vertexFault, farFault, turnFault};
 use judge::Judged;
 use scene::Refusal;

@@ -6,3 +6,4 @@ pub mod Told
 pub mod Tables
 pub mod Candidates
 pub mod Crossing
+pub mod Lent

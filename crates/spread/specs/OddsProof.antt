@@ -16,7 +16,7 @@ use Rattle.scene.specs.declared.Solid.{Solid}
 use Rattle.face_masks.specs.Faces.{isOdd}
 use Rattle.listing.specs.Hits.{Seen, Own, upTo, only, edgeMask, isInside}
 use Rattle.table.specs.Table.{Entry}
-use Rattle.edge_masks.specs.Edges.{entry, vertexEdges, solidEdges}
+use Rattle.table.specs.Edges.{entry, vertexEdges, solidEdges}
 use Rattle.spread.specs.Ready.{Ready, across}
 use Rattle.spread.specs.Odds.{anyIn, marks, Marked, AreOdds, any-append}
 

@@ -11,7 +11,7 @@ use Rattle.face_masks.specs.Faces.{isOdd}
 use Rattle.pierce.specs.Parity.{Solid}
 use Rattle.pierce.specs.Scene.{scene-enclosed}
 use Rattle.listing.specs.Hits.{Seen, Own, edgeMask, isInside}
-use Rattle.edge_masks.specs.Edges.{Within}
+use Rattle.table.specs.Edges.{Within}
 
 module _ (s : Seen) (k : own.Solid) where
   -- the other solid's vertices are the points above `low`, up to `high`

@@ -18,8 +18,8 @@ use Rattle.links.specs.Bits.{test-or, test-and, test-xor, test-one, same-bits, 
 use Rattle.edges.specs.Edges.{joined, neighbours}
 use Rattle.scene.specs.declared.Solid.{Solid}
 use Rattle.listing.specs.Hits.{Seen, Own, isInside}
-use Rattle.edge_masks.specs.Edges.{AreLinks}
-use Rattle.edge_masks.specs.Order.{neighbours-small}
+use Rattle.table.specs.Edges.{AreLinks}
+use Rattle.table.specs.Order.{neighbours-small}
 use Rattle.spread.specs.Ready.{Ready}
 use Rattle.spread.specs.Odds.{AreOdds}
 use Rattle.spread.specs.Walk.{Reached, passed, fresh, turned, stepOf}

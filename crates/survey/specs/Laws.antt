@@ -1,4 +1,4 @@
--- What was surveyed is the listing; and the first of two runs. Assumes nothing.
+-- What was surveyed is the listing, and where the ends of its edges lie. Assumes nothing.
 use mathlib.Core.Path.{_≡_, sym, ap₂, _∙_, subst}
 use mathlib.Core.Bool.{_&&_}
 use mathlib.Core.List.{List, [], _∷_, _++_}
@@ -10,16 +10,13 @@ use lib.ListN.{length, length-append}
 use Rattle.laws.specs.Lists.{Each}
 use Rattle.edges.specs.Edges.{joined}
 use Rattle.scene.specs.declared.Solid.{Solid}
-use Rattle.listing.specs.Hits.{Seen, Hit, Sound, upTo, solidHits}
-use Rattle.listing.specs.First.{firstOf}
-use Rattle.listing.specs.declared.find.Found.{Found}
-use Rattle.listing.specs.declared.find.Found.the-variants.{Nothing, Pair}
+use Rattle.listing.specs.Hits.{Seen, Sound, upTo, solidHits}
 use Rattle.face_masks.specs.Faces.{width}
 use Rattle.listing.specs.Laws.{bounded, each-upTo, each-only}
 use Rattle.table.specs.Table.{Entry, entryIn, entriesIn, entryHits, tableHits}
 use Rattle.table.specs.Entries.{entry-most}
-use Rattle.edge_masks.specs.Edges.{entry, vertexEdges, solidEdges, Filled}
-use Rattle.edge_masks.specs.Order.{table-hits}
+use Rattle.table.specs.Edges.{entry, vertexEdges, solidEdges, Filled}
+use Rattle.table.specs.Order.{table-hits}
 use Rattle.spread.specs.Odds.{EndsIn, Marked}
 use Rattle.survey.specs.Survey.{Surveyed, pairsOf}
 use Rattle.survey.specs.declared.Survey.{Survey}
@@ -50,18 +47,6 @@ pub pairs-count : (t : Survey) (a b : ℕ) (ends-a masks-a ends-b masks-b : List
 unfolding pairsOf
 pairs-count t a b ends-a masks-a ends-b masks-b p q =
     ap₂ _+_ p q ∙ sym (length-append (tableHits a ends-a masks-a (t .a .edges)) (tableHits b ends-b masks-b (t .b .edges)))
-
--- ---- the first of two runs
-
-pub first-left : (l m : List Hit) {o : Found} {a b f : ℕ} → o ≡ firstOf l → o ≡ Pair a b f → Pair a b f ≡ firstOf (l ++ m)
-unfolding firstOf
-first-left [] m p q = cc
-first-left (h ∷ l) m p q = sym q ∙ p
-
-pub first-right : (l m : List Hit) {o r : Found} → o ≡ firstOf l → o ≡ Nothing → r ≡ firstOf m → r ≡ firstOf (l ++ m)
-unfolding firstOf
-first-right [] m p q e = e
-first-right (h ∷ l) m p q e = cc
 
 -- ---- the ends of a table's edges
 

@@ -7,7 +7,7 @@ use lib.ListN.{length}
 use Rattle.scene.specs.declared.Solid.{Solid}
 use Rattle.listing.specs.Hits.{Seen, Hit}
 use Rattle.table.specs.Table.{mostEdges, entriesIn, tableHits}
-use Rattle.edge_masks.specs.Edges.{solidEdges}
+use Rattle.table.specs.Edges.{solidEdges}
 use Rattle.spread.specs.Walk.{insideWord}
 use Rattle.survey.specs.declared.Part.{Part}
 use Rattle.survey.specs.declared.Survey.{Survey}

@@ -1,11 +1,9 @@
 // The survey of a scene: everything of it is worked out once, and all answers are read off tables.
-ghost use Rattle.edge_masks.specs.Sides.{Told, Parted};
+ghost use Rattle.sides.specs.Lent.{Told};
+ghost use Rattle.narrow.specs.Lent.{Parted};
 ghost use Rattle.listing.specs.Hits.{seenIn};
 ghost use Rattle.spread.specs.Ready.{Ready};
 ghost use Rattle.survey.specs.Survey.{Surveyed, Sized};
-use crate::told::make_planes;
-use crate::told::tell_parts;
-use crate::told::tell_sides;
 use edge_masks::fill_solid;
 use engine::Engine;
 use links::WORDS;
@@ -21,11 +19,11 @@ use spread::enclosed_word;
 use spread::odds::fill_odds;
 use table::Ends;
 use table::Masks;
+use told::make_planes;
+use told::tell_parts;
+use told::tell_sides;
 
 pub mod answers;
-mod first;
-pub mod seek;
-mod told;
 
 // Of one solid: how many edges it has, and the word of its enclosed vertices.
 pub struct Part {

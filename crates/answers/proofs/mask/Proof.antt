@@ -1,7 +1,7 @@
 -- By what is said of the mask.
 use mathlib.Core.Path.{sym, ap, _∙_}
 use Rattle.lines.specs.Laws.{by-case}
-use Rattle.kernel.specs.Answers.{saidMask}
+use Rattle.questions.specs.Answers.{saidMask}
 use Rattle.answers.specs.Said.{wordsLine}
 use borrow.Author.Needs.{needs}
 use Rattle.answers.proofs.mask.Statement.{statement}

@@ -19,6 +19,9 @@ moved-requires c κs = search needs
 say-requires : tie.Need-say-requires Inv-loop μ-loop
 say-requires c κs = search needs
 
+returns : tie.Need-returns Inv-loop μ-loop
+returns c = search needs
+
 add-i : tie.Need-add-i Inv-loop μ-loop
 add-i c = search needs
 
@@ -28,8 +31,11 @@ loop-less c = search needs
 loop-again : tie.Need-loop-again Inv-loop μ-loop
 loop-again c = search needs
 
-returns : tie.Need-returns Inv-loop μ-loop
-returns c = search needs
+say-counts-requires : tie.Need-say-counts-requires Inv-loop μ-loop
+say-counts-requires c κs = search needs
+
+returns-2 : tie.Need-returns-2 Inv-loop μ-loop
+returns-2 c = search needs
 
 pub play-spec : {M : Type 1} → statement M
 play-spec =
@@ -40,7 +46,9 @@ play-spec =
     loop-holds
     moved-requires
     say-requires
+    returns
     add-i
     loop-less
     loop-again
-    returns)
+    say-counts-requires
+    returns-2)

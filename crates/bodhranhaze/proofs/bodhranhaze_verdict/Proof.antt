@@ -1,5 +1,5 @@
 -- The number of the kernel's verdict.
-use Rattle.kernel.specs.Answers.{verdictNumber}
+use Rattle.questions.specs.Answers.{verdictNumber}
 use Rattle.bodhranhaze.specs.Calls.{by-answer}
 use borrow.Author.Needs.{needs}
 use Rattle.bodhranhaze.proofs.bodhranhaze_verdict.Statement.{statement}

@@ -1,6 +1,6 @@
 -- The mask is asked for against the other solid.
 use Rattle.listing.specs.Hits.{edgeMask}
-use Rattle.edge_masks.specs.Sides.{around}
+use Rattle.narrow.specs.Lent.{around}
 use borrow.Author.Needs.{needs}
 use Rattle.edge_masks.proofs.edge_mask.Statement.{statement}
 use Rattle.edge_masks.proofs.edge_mask.Tie as tie

@@ -4,7 +4,7 @@ use mathlib.Core.Path.{_≡_}
 use native.Mathlib.Omega.{arith}
 use denote.Ref.{now}
 use Rattle.listing.specs.Hits.{seenIn, upTo}
-use Rattle.edge_masks.specs.Edges.{vertexEdges, solidEdges, Filled}
+use Rattle.table.specs.Edges.{vertexEdges, solidEdges, Filled}
 use Rattle.edge_masks.specs.Store.{filled-none, filled-more}
 use Rattle.edge_masks.specs.Room.{room}
 use borrow.Author.Needs.{needs}

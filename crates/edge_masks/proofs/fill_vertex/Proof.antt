@@ -10,8 +10,8 @@ use lib.Pow.{pow-mono}
 use Rattle.laws.specs.Walk.{walk-less}
 use Rattle.links.specs.Bits.{word-first}
 use Rattle.listing.specs.Hits.{seenIn}
-use Rattle.edge_masks.specs.Edges.{bitEdges, vertexEdges}
-use Rattle.edge_masks.specs.Order.{higher}
+use Rattle.table.specs.Edges.{bitEdges, vertexEdges}
+use Rattle.table.specs.Order.{higher}
 use Rattle.edge_masks.specs.Store.{Filling, filling-start, filling-room, filling-turn, filling-end}
 use borrow.Author.Needs.{needs}
 use Rattle.edge_masks.proofs.fill_vertex.Statement.{statement}

@@ -1,5 +1,5 @@
 -- By the judge.
-use Rattle.kernel.specs.Laws.{accepted-so}
+use Rattle.questions.specs.Laws.{accepted-so}
 use borrow.Author.Needs.{needs}
 use Rattle.report.proofs.write_report.Statement.{statement}
 use Rattle.report.proofs.write_report.Tie as tie

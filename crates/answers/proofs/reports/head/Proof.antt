@@ -1,5 +1,5 @@
 -- By the judge: refused, or the four lines.
-use Rattle.kernel.specs.Laws.{accepted-so}
+use Rattle.questions.specs.Laws.{accepted-so}
 use Rattle.lines.specs.Report.{head-refused}
 use borrow.Author.Needs.{needs}
 use Rattle.answers.proofs.reports.head.Statement.{statement}

@@ -1,7 +1,7 @@
 -- The judge decides; an accepted scene is answered.
-use Rattle.kernel.specs.declared.counts.Counted.the-variants.{Refused}
-use Rattle.kernel.specs.Laws.{accepted-so, refused-so, answered-so}
-use Rattle.kernel.specs.Answers.{countedOf}
+use Rattle.questions.specs.declared.Counted.the-variants.{Refused}
+use Rattle.questions.specs.Laws.{accepted-so, refused-so, answered-so}
+use Rattle.questions.specs.Answers.{countedOf}
 use borrow.Author.Needs.{needs}
 use Rattle.kernel.proofs.counts.count.Statement.{statement}
 use Rattle.kernel.proofs.counts.count.Tie as tie

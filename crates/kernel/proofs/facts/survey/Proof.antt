@@ -1,6 +1,6 @@
 -- The judge decides; an accepted scene is answered.
-use Rattle.kernel.specs.Laws.{accepted-so}
-use Rattle.kernel.specs.Facts.{survey-refused, survey-told}
+use Rattle.questions.specs.Laws.{accepted-so}
+use Rattle.readings.specs.Facts.{survey-refused, survey-told}
 use borrow.Author.Needs.{needs}
 use Rattle.kernel.proofs.facts.survey.Statement.{statement}
 use Rattle.kernel.proofs.facts.survey.Tie as tie

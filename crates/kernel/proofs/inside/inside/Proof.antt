@@ -3,9 +3,9 @@ use mathlib.Core.Path.{_≡_, ap}
 use denote.Ref.{now}
 use Rattle.judge.specs.Judge.{judged}
 use Rattle.judge.specs.declared.Judged.the-variants.{Accepted}
-use Rattle.kernel.specs.Answers.{insideFault, enclosingIn, insideOf}
-use Rattle.kernel.specs.Laws.{accepted-so, refused-so, own-refused, both-accept}
-use Rattle.kernel.specs.declared.inside.Enclosing.the-variants.{Refused, Count}
+use Rattle.questions.specs.Answers.{insideFault, enclosingIn, insideOf}
+use Rattle.questions.specs.Laws.{accepted-so, refused-so, own-refused, both-accept}
+use Rattle.questions.specs.declared.Enclosing.the-variants.{Refused, Count}
 use borrow.Author.Needs.{needs}
 use Rattle.kernel.proofs.inside.inside.Statement.{statement}
 use Rattle.kernel.proofs.inside.inside.Tie as tie

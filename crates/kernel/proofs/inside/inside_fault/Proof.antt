@@ -1,6 +1,6 @@
 -- 1 is A and 2 is B.
 use Rattle.judge.specs.Laws.{rules}
-use Rattle.kernel.specs.Answers.{isSolid, insideFault}
+use Rattle.questions.specs.Answers.{isSolid, insideFault}
 use borrow.Author.Needs.{needs}
 use Rattle.kernel.proofs.inside.inside_fault.Statement.{statement}
 use Rattle.kernel.proofs.inside.inside_fault.Tie as tie

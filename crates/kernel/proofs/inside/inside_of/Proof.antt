@@ -1,6 +1,6 @@
 -- The solid can be surveyed, and what is told of the arrays is so of the scene.
-use Rattle.kernel.specs.Ready.{rows-fit, faces-fit, decoded}
-use Rattle.kernel.specs.Surveys.{to-survey, inside-is}
+use Rattle.readings.specs.Ready.{rows-fit, faces-fit, decoded}
+use Rattle.readings.specs.Surveys.{to-survey, inside-is}
 use borrow.Author.Needs.{needs}
 use Rattle.kernel.proofs.inside.inside_of.Statement.{statement}
 use Rattle.kernel.proofs.inside.inside_of.Tie as tie

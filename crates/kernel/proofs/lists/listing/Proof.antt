@@ -1,6 +1,6 @@
 -- The judge decides; then the room.
-use Rattle.kernel.specs.Laws.{accepted-so}
-use Rattle.kernel.specs.Listings.{list-refused, list-short, list-told}
+use Rattle.questions.specs.Laws.{accepted-so}
+use Rattle.questions.specs.Listings.{list-refused, list-short, list-told}
 use borrow.Author.Needs.{needs}
 use Rattle.kernel.proofs.lists.listing.Statement.{statement}
 use Rattle.kernel.proofs.lists.listing.Tie as tie

@@ -1,6 +1,6 @@
 -- The judge decides.
-use Rattle.kernel.specs.Laws.{accepted-so}
-use Rattle.kernel.specs.Listings.{part-refused, part-told}
+use Rattle.questions.specs.Laws.{accepted-so}
+use Rattle.questions.specs.Listings.{part-refused, part-told}
 use borrow.Author.Needs.{needs}
 use Rattle.kernel.proofs.lists.listing_part.Statement.{statement}
 use Rattle.kernel.proofs.lists.listing_part.Tie as tie

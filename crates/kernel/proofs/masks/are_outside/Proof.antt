@@ -1,6 +1,6 @@
 -- The ends differ, and none is a vertex of the solid.
-use Rattle.kernel.specs.Laws.{nots}
-use Rattle.kernel.specs.Answers.{outside}
+use Rattle.questions.specs.Laws.{nots}
+use Rattle.questions.specs.Answers.{outside}
 use borrow.Author.Needs.{needs}
 use Rattle.kernel.proofs.masks.are_outside.Statement.{statement}
 use Rattle.kernel.proofs.masks.are_outside.Tie as tie

@@ -4,11 +4,11 @@ use denote.Ref.{now}
 use Rattle.judge.specs.Judge.{judged}
 use Rattle.judge.specs.declared.Judged.the-variants.{Accepted}
 use Rattle.scene.specs.View.{viewOf}
-use Rattle.kernel.specs.Answers.{enclosedFault, enclosedIn, enclosedOf}
-use Rattle.kernel.specs.Asked.{enclosed-vertex, far-outside}
-use Rattle.kernel.specs.Laws.{accepted-so, refused-so, own-refused, both-accept, yes-so, no-so}
-use Rattle.kernel.specs.Ready.{enclosed-found}
-use Rattle.kernel.specs.declared.points.Answer.the-variants.{Refused}
+use Rattle.questions.specs.Answers.{enclosedFault, enclosedIn, enclosedOf}
+use Rattle.questions.specs.Asked.{enclosed-vertex, far-outside}
+use Rattle.questions.specs.Laws.{accepted-so, refused-so, own-refused, both-accept, yes-so, no-so}
+use Rattle.readings.specs.Ready.{enclosed-found}
+use Rattle.questions.specs.declared.Answer.the-variants.{Refused}
 use borrow.Author.Needs.{needs}
 use Rattle.kernel.proofs.masks.enclosed.Statement.{statement}
 use Rattle.kernel.proofs.masks.enclosed.Tie as tie

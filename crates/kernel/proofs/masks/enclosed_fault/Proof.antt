@@ -1,8 +1,8 @@
 -- 11.
 use mathlib.Core.Path.{refl}
 use Rattle.judge.specs.Laws.{rules}
-use Rattle.kernel.specs.Answers.{isVertex, enclosedFault}
-use Rattle.kernel.specs.Laws.{within-so}
+use Rattle.questions.specs.Answers.{isVertex, enclosedFault}
+use Rattle.questions.specs.Laws.{within-so}
 use borrow.Author.Needs.{needs}
 use Rattle.kernel.proofs.masks.enclosed_fault.Statement.{statement}
 use Rattle.kernel.proofs.masks.enclosed_fault.Tie as tie

@@ -1,6 +1,6 @@
 -- Each number that the scene lacks decides; the last one is the answer.
 use Rattle.laws.specs.Tests.{ands}
-use Rattle.kernel.specs.Answers.{isSolid, edgeAndSolid}
+use Rattle.questions.specs.Answers.{isSolid, edgeAndSolid}
 use borrow.Author.Needs.{needs}
 use Rattle.kernel.proofs.masks.has_edge_and_solid.Statement.{statement}
 use Rattle.kernel.proofs.masks.has_edge_and_solid.Tie as tie

@@ -2,8 +2,8 @@
 use mathlib.Core.Path.{ap}
 use Prim.Native.Nat.{_+_}
 use Rattle.scene.specs.declared.Solid.{Solid}
-use Rattle.kernel.specs.Answers.{isVertexOf}
-use Rattle.kernel.specs.Laws.{within-so}
+use Rattle.questions.specs.Answers.{isVertexOf}
+use Rattle.questions.specs.Laws.{within-so}
 use borrow.Author.Needs.{needs}
 use Rattle.kernel.proofs.masks.is_vertex_of.Statement.{statement}
 use Rattle.kernel.proofs.masks.is_vertex_of.Tie as tie

@@ -4,10 +4,10 @@ use denote.Ref.{now}
 use Rattle.judge.specs.Judge.{judged}
 use Rattle.judge.specs.declared.Judged.the-variants.{Accepted}
 use Rattle.scene.specs.View.{viewOf}
-use Rattle.kernel.specs.Answers.{maskFault, maskedIn, maskedOf, refused}
-use Rattle.kernel.specs.Asked.{mask-outside}
-use Rattle.kernel.specs.Laws.{accepted-so, refused-so, own-refused, both-accept}
-use Rattle.kernel.specs.Ready.{mask-said}
+use Rattle.questions.specs.Answers.{maskFault, maskedIn, maskedOf, refused}
+use Rattle.questions.specs.Asked.{mask-outside}
+use Rattle.questions.specs.Laws.{accepted-so, refused-so, own-refused, both-accept}
+use Rattle.readings.specs.Ready.{mask-said}
 use borrow.Author.Needs.{needs}
 use Rattle.kernel.proofs.masks.mask.Statement.{statement}
 use Rattle.kernel.proofs.masks.mask.Tie as tie

@@ -1,6 +1,6 @@
 -- 11, then 12.
 use Rattle.judge.specs.Laws.{rules}
-use Rattle.kernel.specs.Answers.{maskFault}
+use Rattle.questions.specs.Answers.{maskFault}
 use borrow.Author.Needs.{needs}
 use Rattle.kernel.proofs.masks.mask_fault.Statement.{statement}
 use Rattle.kernel.proofs.masks.mask_fault.Tie as tie

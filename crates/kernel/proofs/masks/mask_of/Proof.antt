@@ -1,7 +1,7 @@
 -- The solid's faces are beside an edge of two points that are none of its vertices.
 use denote.Ref.{now}
-use Rattle.kernel.specs.Ready.{rows-fit, faces-fit, far-fits, point-fits, rows-are, corners-are}
-use Rattle.kernel.specs.Ready.{solid-fits, weighted-are, outside-beside, decoded, mask-found}
+use Rattle.readings.specs.Ready.{rows-fit, faces-fit, far-fits, point-fits, rows-are, corners-are}
+use Rattle.readings.specs.Ready.{solid-fits, weighted-are, outside-beside, decoded, mask-found}
 use borrow.Author.Needs.{needs}
 use Rattle.kernel.proofs.masks.mask_of.Statement.{statement}
 use Rattle.kernel.proofs.masks.mask_of.Tie as tie

@@ -3,7 +3,7 @@ use denote.Ref.{now}
 use Rattle.scene.specs.View.{viewOf}
 use mathlib.Core.Path.{ap}
 use Rattle.scene.specs.declared.Scene.{Scene}
-use Rattle.kernel.specs.Laws.{other-a, other-b}
+use Rattle.questions.specs.Laws.{other-a, other-b}
 use borrow.Author.Needs.{needs}
 use Rattle.kernel.proofs.masks.other_solid.Statement.{statement}
 use Rattle.kernel.proofs.masks.other_solid.Tie as tie

@@ -1,6 +1,6 @@
 -- Each number that is no point decides; the last one is the answer.
 use Rattle.laws.specs.Tests.{ands}
-use Rattle.kernel.specs.Answers.{arePoints}
+use Rattle.questions.specs.Answers.{arePoints}
 use borrow.Author.Needs.{needs}
 use Rattle.kernel.proofs.points.are_points.Statement.{statement}
 use Rattle.kernel.proofs.points.are_points.Tie as tie

@@ -1,6 +1,6 @@
 -- Each two that are the same decide; the last pair is the answer.
 use Rattle.laws.specs.Tests.{ands}
-use Rattle.kernel.specs.Answers.{differ}
+use Rattle.questions.specs.Answers.{differ}
 use Rattle.kernel.proofs.points.differ.Statement.{statement}
 use Rattle.kernel.proofs.points.differ.Tie as tie
 

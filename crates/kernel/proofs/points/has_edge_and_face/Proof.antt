@@ -1,8 +1,8 @@
 -- Each number that the scene lacks decides; the last one is the answer.
 use mathlib.Core.Path.{refl}
 use Rattle.laws.specs.Tests.{ands}
-use Rattle.kernel.specs.Answers.{isFace, edgeAndFace}
-use Rattle.kernel.specs.Laws.{within-so}
+use Rattle.questions.specs.Answers.{isFace, edgeAndFace}
+use Rattle.questions.specs.Laws.{within-so}
 use borrow.Author.Needs.{needs}
 use Rattle.kernel.proofs.points.has_edge_and_face.Statement.{statement}
 use Rattle.kernel.proofs.points.has_edge_and_face.Tie as tie

@@ -1,6 +1,6 @@
 -- The ends differ, and none is a corner.
-use Rattle.kernel.specs.Laws.{nots}
-use Rattle.kernel.specs.Answers.{clear}
+use Rattle.questions.specs.Laws.{nots}
+use Rattle.questions.specs.Answers.{clear}
 use borrow.Author.Needs.{needs}
 use Rattle.kernel.proofs.points.is_clear.Statement.{statement}
 use Rattle.kernel.proofs.points.is_clear.Tie as tie

@@ -1,7 +1,7 @@
 -- By the corners that are read.
 use mathlib.Core.Path.{ap, _∙_}
 use Rattle.scene.specs.declared.Face.{Face}
-use Rattle.kernel.specs.Answers.{clear}
+use Rattle.questions.specs.Answers.{clear}
 use borrow.Author.Needs.{needs}
 use Rattle.kernel.proofs.points.is_clear_of.Statement.{statement}
 use Rattle.kernel.proofs.points.is_clear_of.Tie as tie

@@ -1,7 +1,7 @@
 -- The points are numbered from 1.
 use mathlib.Core.Path.{refl}
-use Rattle.kernel.specs.Answers.{isPoint}
-use Rattle.kernel.specs.Laws.{within-so}
+use Rattle.questions.specs.Answers.{isPoint}
+use Rattle.questions.specs.Laws.{within-so}
 use borrow.Author.Needs.{needs}
 use Rattle.kernel.proofs.points.is_point.Statement.{statement}
 use Rattle.kernel.proofs.points.is_point.Tie as tie

@@ -4,11 +4,11 @@ use denote.Ref.{now}
 use Rattle.judge.specs.Judge.{judged}
 use Rattle.judge.specs.declared.Judged.the-variants.{Accepted}
 use Rattle.scene.specs.View.{viewOf}
-use Rattle.kernel.specs.Answers.{piercesFault, piercesIn, piercesOf}
-use Rattle.kernel.specs.Asked.{pierces-ends}
-use Rattle.kernel.specs.Laws.{accepted-so, refused-so, own-refused, both-accept, yes-so, no-so}
-use Rattle.kernel.specs.Ready.{rows-fit, rows-are, far-fits, face-fits, point-fits, weighted-are, ends-beside, pierces-found}
-use Rattle.kernel.specs.declared.points.Answer.the-variants.{Refused}
+use Rattle.questions.specs.Answers.{piercesFault, piercesIn, piercesOf}
+use Rattle.questions.specs.Asked.{pierces-ends}
+use Rattle.questions.specs.Laws.{accepted-so, refused-so, own-refused, both-accept, yes-so, no-so}
+use Rattle.readings.specs.Ready.{rows-fit, rows-are, far-fits, face-fits, point-fits, weighted-are, ends-beside, pierces-found}
+use Rattle.questions.specs.declared.Answer.the-variants.{Refused}
 use borrow.Author.Needs.{needs}
 use Rattle.kernel.proofs.points.pierces.Statement.{statement}
 use Rattle.kernel.proofs.points.pierces.Tie as tie

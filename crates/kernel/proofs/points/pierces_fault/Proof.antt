@@ -1,6 +1,6 @@
 -- 11, then 12.
 use Rattle.judge.specs.Laws.{rules}
-use Rattle.kernel.specs.Answers.{piercesFault}
+use Rattle.questions.specs.Answers.{piercesFault}
 use borrow.Author.Needs.{needs}
 use Rattle.kernel.proofs.points.pierces_fault.Statement.{statement}
 use Rattle.kernel.proofs.points.pierces_fault.Tie as tie

@@ -4,11 +4,11 @@ use denote.Ref.{now}
 use Rattle.judge.specs.Judge.{judged}
 use Rattle.judge.specs.declared.Judged.the-variants.{Accepted}
 use Rattle.scene.specs.View.{viewOf}
-use Rattle.kernel.specs.Answers.{signFault, signIn, signOf}
-use Rattle.kernel.specs.Asked.{sign-four}
-use Rattle.kernel.specs.Laws.{accepted-so, refused-so, own-refused, both-accept}
-use Rattle.kernel.specs.Ready.{rows-fit, rows-are, point-fits, four-are, sign-found}
-use Rattle.kernel.specs.declared.points.Signed.the-variants.{Refused}
+use Rattle.questions.specs.Answers.{signFault, signIn, signOf}
+use Rattle.questions.specs.Asked.{sign-four}
+use Rattle.questions.specs.Laws.{accepted-so, refused-so, own-refused, both-accept}
+use Rattle.readings.specs.Ready.{rows-fit, rows-are, point-fits, four-are, sign-found}
+use Rattle.questions.specs.declared.Signed.the-variants.{Refused}
 use borrow.Author.Needs.{needs}
 use Rattle.kernel.proofs.points.sign.Statement.{statement}
 use Rattle.kernel.proofs.points.sign.Tie as tie

@@ -1,8 +1,8 @@
 -- The judge decides; an accepted scene is answered.
-use Rattle.kernel.specs.declared.verdict.Verdict.the-variants.{Refused}
-use Rattle.kernel.specs.Laws.{accepted-so, refused-so, answered-so}
-use Rattle.kernel.specs.Answers.{verdictOf}
-use Rattle.kernel.specs.Surveys.{sought-settles}
+use Rattle.questions.specs.declared.Verdict.the-variants.{Refused}
+use Rattle.questions.specs.Laws.{accepted-so, refused-so, answered-so}
+use Rattle.questions.specs.Answers.{verdictOf}
+use Rattle.readings.specs.Surveys.{sought-settles}
 use borrow.Author.Needs.{needs}
 use Rattle.kernel.proofs.verdict.verdict_of.Statement.{statement}
 use Rattle.kernel.proofs.verdict.verdict_of.Tie as tie

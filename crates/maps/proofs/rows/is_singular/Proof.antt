@@ -15,7 +15,10 @@ dot-requires : tie.Need-dot-requires
 dot-requires c κs = let s = c .before .before .before .before .before .pre in (rw (c .plane .ensures) (plane-size (s .x) (s .y) (s .z)), s .w)
 
 returns : tie.Need-returns
-returns c = zero-test (c .dot .ok) (c .dot .ensures ∙ ap (λ (p : Row). dotOf p (c .before .before .before .before .before .before .args .m .w)) (c .before .plane .ensures) ∙ plane-det _ _ _ _)
+returns c =
+    zero-test (c .dot .ok)
+    (c .dot .ensures ∙ ap (λ (p : Row). dotOf p (c .before .before .before .before .before .before .args .m .w)) (c .before .plane .ensures)
+    ∙ plane-det _ _ _ _)
 
 pub is-singular-spec : {M : Type 1} → statement M
 is-singular-spec = tie.close (tie.spec plane-requires dot-requires returns)

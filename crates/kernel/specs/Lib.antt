@@ -1,9 +1,0 @@
-pub mod Answers
-pub mod Laws
-pub mod Asked
-pub mod Ready
-pub mod Surveys
-pub mod Both
-pub mod Listings
-pub mod Facts
-pub mod Readings

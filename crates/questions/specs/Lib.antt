@@ -1,0 +1,5 @@
+pub mod Answers
+pub mod Laws
+pub mod Asked
+pub mod Both
+pub mod Listings

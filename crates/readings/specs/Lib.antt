@@ -1,0 +1,4 @@
+pub mod Ready
+pub mod Surveys
+pub mod Facts
+pub mod Readings

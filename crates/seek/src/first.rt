@@ -1,0 +1,105 @@
+// The first pierced pair of a solid's edges, asked one after another: nothing behind it is asked.
+ghost use mathlib.Core.Path.{_≡_};
+ghost use mathlib.Core.List.{[]};
+ghost use Prim.Native.Nat.{_+_, _≤_, _<_};
+ghost use Rattle.table.specs.Edges.{Within, AreLinks, Higher, entry, vertexEdges};
+ghost use Rattle.sides.specs.Lent.{Told};
+ghost use Rattle.narrow.specs.Lent.{Parted};
+ghost use Rattle.listing.specs.First.{firstOf};
+ghost use Rattle.listing.specs.Hits.{seenIn, Sound};
+ghost use Rattle.scene.specs.Faces.{Vertex};
+ghost use Rattle.table.specs.Table.{entryHits, each};
+ghost use Rattle.seek.specs.First.{hitsTo};
+use edge_masks::edge_mask;
+use engine::Engine;
+use links::Words;
+use listing::find::Found;
+use narrow::cuts::Cuts;
+use scene::Corners;
+use scene::Rows;
+use scene::Solid;
+use table::first::first_of_mask;
+
+// Of the edge u, v.
+fn first_of_edge(
+    engine: Engine,
+    rows: &Rows,
+    corners: &Corners,
+    n: usize,
+    k: Solid,
+    words: &sides::words::Words,
+    own: &sides::words::Words,
+    cuts: &Cuts,
+    u: usize,
+    v: usize,
+) -> Found
+    requires solid { ⌜ Sound (seenIn n (now rows) (now corners)) k × Vertex (k .low) (k .low + k .verts) u × Vertex (k .low) (k .low + k .verts) v × (u < v) ⌝ }
+    requires sides { ⌜ Told (seenIn n (now rows) (now corners)) k (now words) × Parted (seenIn n (now rows) (now corners)) k (now own) (now cuts) ⌝ }
+    ensures { λ r. ⌜ r ≡ firstOf (entryHits (k .other) (entry (seenIn n (now (rows .entry)) (now (corners .entry))) k u v)) ⌝ }
+{
+    let m = edge_mask(engine, rows, corners, n, k, words, own, cuts, u, v);
+    first_of_mask(u, v, m, k.other)
+}
+
+// Of the edges from u to its higher neighbours.
+fn first_of_vertex(
+    engine: Engine,
+    rows: &Rows,
+    corners: &Corners,
+    n: usize,
+    k: Solid,
+    words: &sides::words::Words,
+    own: &sides::words::Words,
+    cuts: &Cuts,
+    u: usize,
+    higher: u64,
+) -> Found
+    requires solid { ⌜ Sound (seenIn n (now rows) (now corners)) k × Vertex (k .low) (k .low + k .verts) u
+        × Higher (seenIn n (now rows) (now corners)) k u higher ⌝ }
+    requires sides { ⌜ Told (seenIn n (now rows) (now corners)) k (now words) × Parted (seenIn n (now rows) (now corners)) k (now own) (now cuts) ⌝ }
+    ensures { λ r. ⌜ r ≡ firstOf (each (entryHits (k .other)) (vertexEdges (seenIn n (now (rows .entry)) (now (corners .entry))) k u)) ⌝ }
+{
+    let mut left = higher;
+    while left != 0 {
+        let v = u + 1 + u64::trailing_zeros(left) as usize;
+        let found = first_of_edge(engine, rows, corners, n, k, words, own, cuts, u, v);
+        if let Found::Pair(a, b, f) = found {
+            return Found::Pair(a, b, f);
+        }
+        left = left & (left - 1);
+    }
+    Found::Nothing
+}
+
+// Of the edges from the solid's first `upto` vertices, where those from the first `from` of them pierce nothing.
+pub fn first_of(
+    engine: Engine,
+    rows: &Rows,
+    corners: &Corners,
+    n: usize,
+    k: Solid,
+    links: &Words,
+    words: &sides::words::Words,
+    own: &sides::words::Words,
+    cuts: &Cuts,
+    from: usize,
+    upto: usize,
+) -> Found
+    requires solid { ⌜ Within (seenIn n (now rows) (now corners)) k × AreLinks (seenIn n (now rows) (now corners)) k (now links) ⌝ }
+    requires sides { ⌜ Told (seenIn n (now rows) (now corners)) k (now words) × Parted (seenIn n (now rows) (now corners)) k (now own) (now cuts) ⌝ }
+    requires range { ⌜ (from ≤ upto) × (upto ≤ k .verts) × ([] ≡ hitsTo (seenIn n (now rows) (now corners)) k from) ⌝ }
+    ensures { λ r. ⌜ r ≡ firstOf (hitsTo (seenIn n (now (rows .entry)) (now (corners .entry))) k upto) ⌝ }
+{
+    let low = k.low;
+    let mut i = from;
+    while i < upto {
+        let u = low + 1 + i;
+        let higher = links[u] >> (i + 1);
+        let found = first_of_vertex(engine, rows, corners, n, k, words, own, cuts, u, higher);
+        if let Found::Pair(a, b, f) = found {
+            return Found::Pair(a, b, f);
+        }
+        i += 1;
+    }
+    Found::Nothing
+}

@@ -1,0 +1,211 @@
+-- The tables that narrow the questions about a solid's edges: told by the other solid's words, or left empty. The entries of two solids do
+-- not meet. Assumes nothing.
+use mathlib.Core.Path.{_≡_, refl, ap, _∙_}
+use mathlib.Core.Bool.{Bool, true, false, cond, _&&_}
+use mathlib.Core.List.{List}
+use Prim.Native.Nat.{ℕ, zero, suc, _+_, _*_, _≤_, _<_}
+use native.Mathlib.Omega.{arith}
+use borrow.Author.Tests.{eqb-true}
+use lib.Dec.{eqb}
+use lib.ListN.{length, getD, replicate, length-replicate}
+use Rattle.laws.specs.Lists.{each-run}
+use Rattle.laws.specs.Mask.{maskOf}
+use Rattle.scene.specs.Limits.{limits, mostPoints}
+use Rattle.scene.specs.Arrays.{FacesWithin}
+use Rattle.scene.specs.Faces.{FaceOf}
+use Rattle.scene.specs.declared.Face.{Face}
+use Rattle.scene.specs.declared.Solid.{Solid}
+use Rattle.face_masks.specs.declared.Mask.{Mask}
+use Rattle.listing.specs.Hits.{Seen, Own}
+use Rattle.sides.specs.Sides.{sidesOf, masksBy}
+use Rattle.sides.specs.Tables.{maskIn, masksFrom, masks-at, masks-kept, masks-length}
+use Rattle.narrow.specs.Cover.{cutIn, cut-is}
+use Rattle.narrow.specs.Marks.{ownMarked, own-at, own-kept, own-length}
+use Rattle.sides.specs.Lent.{Told}
+use Rattle.narrow.specs.Lent.{Parted}
+use Rattle.spread.specs.Ready.{Ready}
+
+-- each of the two has the other's faces opposite
+abbrev pub mirrors : (k o : Solid) → Bool
+mirrors k o = eqb (o .other) (k .first) && (eqb (o .others) (k .count) && (eqb (o .first) (k .other) && eqb (o .count) (k .others)))
+
+-- the faces at each vertex of k, and those of them that part each face of o; where the two are no mirrors the tables stay as they are
+abbrev pub ownTold : (ℕ → Face) → (k o : Solid) → List ℕ → List ℕ
+ownTold face k o own = cond (mirrors k o) (ownMarked face (k .first) (k .count) own) own
+
+abbrev pub cutsTold : (ℕ → Face) → (k o : Solid) → (words : List ℕ) → List ℕ → List ℕ
+cutsTold face k o words cuts = cond (mirrors k o) (masksFrom (λ i. cutIn words (face i)) (k .other) (k .others) cuts) cuts
+
+abbrev noFaces : Mask
+noFaces = record { low = 0; high = 0 }
+
+-- tables that are empty where the solid's questions look: at its vertices, and at the faces opposite
+pub record Blank (s : Seen) (k : Solid) (own cuts : List ℕ) : Type 0 where
+  pub own-size : length own ≡ 2 * (mostPoints limits + 1)
+  pub cuts-size : length cuts ≡ 2 * (2 * limits .mostFaces + 1)
+  pub at : (u : ℕ) → Own s k u → maskIn own u ≡ noFaces
+  pub cut : (j : ℕ) → j < k .others → maskIn cuts (k .other + 1 + j) ≡ noFaces
+
+abbrev pub BothBlank : Seen → (a b : Solid) → (own cuts : List ℕ) → Type 0
+BothBlank s a b own cuts = Blank s a own cuts × Blank s b own cuts
+
+pub zeros : (m i : ℕ) → _≡_ {A = ℕ} (getD (replicate m 0) i 0) 0
+zeros zero i = refl
+zeros (suc m) zero = refl
+zeros (suc m) (suc i) = zeros m i
+
+-- new tables are
+pub blank-new : (s : Seen) (k : Solid) →
+    Blank s k (replicate (2 * (mostPoints limits + 1)) 0) (replicate (2 * (2 * limits .mostFaces + 1)) 0)
+blank-new s k =
+    let m = 2 * (mostPoints limits + 1) in
+    let n = 2 * (2 * limits .mostFaces + 1) in
+    record {
+      own-size = length-replicate {A = ℕ} m 0;
+      cuts-size = length-replicate {A = ℕ} n 0;
+      at = λ u o. λ t. record { low = zeros m (2 * u) t; high = zeros m (2 * u + 1) t };
+      cut = λ j b. λ t. record { low = zeros n (2 * (k .other + 1 + j)) t; high = zeros n (2 * (k .other + 1 + j) + 1) t };
+    }
+
+-- empty tables say nothing
+pub parted-none : (s : Seen) (k : Solid) {own cuts : List ℕ} → Blank s k own cuts → Parted s k own cuts
+unfolding masksBy maskOf
+parted-none s k e = record {
+  low = 0;
+  high = 0;
+  owned = 0;
+  owns = 0;
+  at = e .at;
+  cut = e .cut;
+  across = λ j b. record {
+    within = omega arith;
+    faces = λ i h. absurd (omega arith);
+    p = λ h. omega arith;
+    q = λ h. omega arith;
+    r = λ h. omega arith;
+  };
+}
+
+-- what telling them asks for
+pub parts-asked : (s : Seen) (k : Solid) → Ready s k → FacesWithin limits (s .face)
+    × ((k .first + k .count ≤ 2 * limits .mostFaces) × (k .count ≤ limits .mostFaces) × (k .other + k .others ≤ 2 * limits .mostFaces))
+parts-asked s k r = let w = r .within in (w .sound .faces, (w .sound .own, w .few, w .sound .other .0))
+
+both : (a b : Bool) → (a && b) ≡ true → (a ≡ true) × (b ≡ true)
+both true b e = (refl, e)
+both false b e = let z : _≡_ {A = ℕ} 0 1 = cc in absurd (omega arith)
+
+record Mirrored (k o : Solid) : Type 0 where
+  first : o .other ≡ k .first
+  count : o .others ≡ k .count
+  other : o .first ≡ k .other
+  others : o .count ≡ k .others
+
+mirrored : (k o : Solid) → mirrors k o ≡ true → Mirrored k o
+mirrored k o e =
+    let a = both _ _ e in
+    let b = both _ _ (a .1) in
+    let c = both _ _ (b .1) in
+    record {
+      first = eqb-true (o .other) (k .first) (a .0);
+      count = eqb-true (o .others) (k .count) (b .0);
+      other = eqb-true (o .first) (k .other) (c .0);
+      others = eqb-true (o .count) (k .others) (c .1);
+    }
+
+module _ (s : Seen) (k o : Solid) (r : Ready s k) (q : Ready s o) (h : mirrors k o ≡ true) {words : List ℕ} (t : Told s o words) where
+  abbrev f : ℕ → Face
+  f j = s .face (k .other + 1 + j)
+
+  theirs : (j : ℕ) → j < k .others → FaceOf (o .low) (o .low + o .verts) (f j)
+  theirs j b =
+      let e = mirrored k o h in
+      q .within .sound .corners (k .other + 1 + j) (omega (arith, e .other)) (omega (arith, e .other, e .others))
+
+  other-faces : (j : ℕ) → j < k .others → FaceOf (r .low) (r .high) (f j)
+  other-faces j b = each-run (FaceOf (r .low) (r .high)) (s .face) (k .other + 1) (k .others) (r .closed .faces) (k .other + 1 + j)
+      (omega arith) (omega arith)
+
+  side : (u : ℕ) → Own s o u → maskIn words u ≡ sidesOf (s .row) (s .face) (k .first) (k .count) u
+  side u a = let e = mirrored k o h in t .own u a ∙ (λ i. sidesOf (s .row) (s .face) (e .first i) (e .count i) u)
+
+  own-faces : (j : ℕ) → j < k .count → FaceOf (q .low) (q .high) (s .face (k .first + 1 + j))
+  own-faces j b =
+      let e = mirrored k o h in
+      each-run (FaceOf (q .low) (q .high)) (s .face) (o .other + 1) (o .others) (q .closed .faces) (k .first + 1 + j)
+      (omega (arith, e .first)) (omega (arith, e .first, e .count))
+
+  -- no face is both solids'
+  faces-apart : (j : ℕ) → k .first < j → j ≤ k .first + k .count → k .other < j → j ≤ k .other + k .others → ⊥
+  faces-apart j a b c d =
+      let f = r .within .sound .corners j a b in
+      let g = each-run (FaceOf (r .low) (r .high)) (s .face) (k .other + 1) (k .others) (r .closed .faces) j (omega arith) (omega arith) in
+      r .apart _ (f .p) (g .p)
+
+  module _ {own cuts own′ cuts′ : List ℕ} (e : own′ ≡ ownMarked (s .face) (k .first) (k .count) own)
+      (d : cuts′ ≡ masksFrom (λ i. cutIn words (s .face i)) (k .other) (k .others) cuts) where
+    parted-by : Blank s k own cuts → Parted s k own′ cuts′
+    parted-by z =
+        let v = r .within .sound .vertices in
+        let w = r .within .sound .other in
+        record {
+          low = k .low;
+          high = k .low + k .verts;
+          owned = k .first;
+          owns = k .count;
+          at = λ u a.
+              ap (λ (x : List ℕ). maskIn x u) e
+              ∙ own-at (s .face) (k .first) (k .count) u own (omega (arith, z .own-size, v, a))
+              (λ i. (z .at u a i) .low) (λ i. (z .at u a i) .high);
+          cut = λ j b.
+              let c = theirs j b in
+              ap (λ (x : List ℕ). maskIn x (k .other + 1 + j)) d
+              ∙ masks-at (λ i. cutIn words (s .face i)) (k .other) (k .others) cuts (omega (arith, z .cuts-size, w))
+              (k .other + 1 + j) (omega arith) (omega arith)
+              ∙ cut-is (s .row) (s .face) (k .first) (k .count) words (f j) (side _ (c .p)) (side _ (c .q)) (side _ (c .r));
+          across = λ j b.
+              let c = other-faces j b in
+              record {
+                within = omega (arith, r .before);
+                faces = λ i l. r .within .sound .corners (k .first + 1 + i) (omega arith) (omega arith);
+                p = λ a. r .apart _ a (c .p);
+                q = λ a. r .apart _ a (c .q);
+                r = λ a. r .apart _ a (c .r);
+              };
+        }
+
+    -- what is empty for the other stays so
+    blank-kept : Blank s o own cuts → Blank s o own′ cuts′
+    blank-kept z =
+        let m = mirrored k o h in
+        record {
+          own-size = ap length e ∙ own-length (s .face) (k .first) (k .count) own ∙ z .own-size;
+          cuts-size = ap length d ∙ masks-length (λ i. cutIn words (s .face i)) (k .other) (k .others) cuts ∙ z .cuts-size;
+          at = λ u a.
+              ap (λ (x : List ℕ). maskIn x u) e
+              ∙ own-kept (s .face) (k .first) (k .count) (q .low) (q .high) u own own-faces (q .apart u a) ∙ z .at u a;
+          cut = λ j b.
+              ap (λ (x : List ℕ). maskIn x (o .other + 1 + j)) d
+              ∙ masks-kept (λ i. cutIn words (s .face i)) (k .other) (k .others) cuts (o .other + 1 + j)
+              (faces-apart (o .other + 1 + j) (omega (arith, m .first)) (omega (arith, m .first, m .count))) ∙ z .cut j b;
+        }
+
+-- told or not, the tables narrow the questions about k, and stay empty for o
+abbrev Promised : Seen → (k o : Solid) → (own cuts own′ cuts′ : List ℕ) → Type 0
+Promised s k o own cuts own′ cuts′ = (Blank s k own cuts → Parted s k own′ cuts′) × (Blank s o own cuts → Blank s o own′ cuts′)
+
+module _ (s : Seen) (k o : Solid) (r : Ready s k) (q : Ready s o) {words own cuts own′ cuts′ : List ℕ} (t : Told s o words)
+    (e : own′ ≡ ownTold (s .face) k o own) (d : cuts′ ≡ cutsTold (s .face) k o words cuts) where
+  promised : Promised s k o own cuts own′ cuts′
+  promised = by (mirrors k o) refl e d
+    where
+      by : (b : Bool) → mirrors k o ≡ b → own′ ≡ cond b (ownMarked (s .face) (k .first) (k .count) own) own →
+          cuts′ ≡ cond b (masksFrom (λ i. cutIn words (s .face i)) (k .other) (k .others) cuts) cuts → Promised s k o own cuts own′ cuts′
+      by true h x y = (parted-by s k o r q h t x y, blank-kept s k o r q h t x y)
+      by false h x y = (λ z. rw (x, y) (parted-none s k z), λ z. rw (x, y) z)
+
+  pub parts-told : Blank s k own cuts → Parted s k own′ cuts′
+  parts-told = promised .0
+
+  pub blank-told : Blank s o own cuts → Blank s o own′ cuts′
+  blank-told = promised .1

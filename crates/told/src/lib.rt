@@ -1,0 +1,96 @@
+// What the masks of a solid's edges are read off: the sides of the other solid's faces on which its vertices and the far point lie, and
+// what narrows the questions.
+ghost use Rattle.sides.specs.Lent.{Told};
+ghost use Rattle.listing.specs.Hits.{seenIn};
+ghost use Rattle.spread.specs.Ready.{Ready};
+ghost use Rattle.told.specs.Told.{farOf, noPlanes, Made};
+ghost use Rattle.told.specs.Parted.{mirrors, ownTold, cutsTold};
+ghost use mathlib.Core.Path.{_≡_};
+ghost use Prim.Native.Nat.{_+_, _*_, _≤_};
+ghost use lib.ListN.{length};
+ghost use Rattle.scene.specs.Limits.{limits, mostPoints};
+ghost use Rattle.scene.specs.Arrays.{rowIn, faceIn, AllWithin, FacesWithin};
+use narrow::cuts::Cuts;
+use scene::Corners;
+use scene::Rows;
+use scene::Solid;
+use sides::planes::Planes;
+use sides::words::Words;
+
+// The far point as a solid of one vertex.
+fn far(n: usize, k: Solid) -> Solid
+    requires { ⌜ 1 ≤ n ⌝ }
+    ensures { λ r. ⌜ r ≡ farOf n k ⌝ }
+{
+    Solid {
+        low: n - 1,
+        verts: 1,
+        first: k.first,
+        count: k.count,
+        other: k.other,
+        others: k.others,
+    }
+}
+
+// The planes of all faces up to the last that either solid has opposite.
+pub fn make_planes(rows: &Rows, corners: &Corners, a: Solid, b: Solid, planes: &mut Planes)
+    requires rows { ⌜ AllWithin limits (rowIn (now rows)) × FacesWithin limits (faceIn (now corners)) ⌝ }
+    requires faces { ⌜ (a .other + a .others ≤ 2 * limits .mostFaces) × (b .other + b .others ≤ 2 * limits .mostFaces) ⌝ }
+    requires empty { ⌜ now planes ≡ noPlanes ⌝ }
+    ensures { λ _. ⌜ Made (rowIn (now (rows .entry))) (faceIn (now (corners .entry))) a (now (planes .exit)) ⌝ }
+    ensures { λ _. ⌜ Made (rowIn (now (rows .entry))) (faceIn (now (corners .entry))) b (now (planes .exit)) ⌝ }
+{
+    let x = a.other + a.others;
+    let y = b.other + b.others;
+    if x < y {
+        sides::planes::fill(rows, corners, y, planes);
+    } else {
+        sides::planes::fill(rows, corners, x, planes);
+    }
+}
+
+// By the planes of the other solid's faces.
+pub fn tell_sides(
+    rows: &Rows,
+    corners: &Corners,
+    planes: &Planes,
+    n: usize,
+    k: Solid,
+    words: &mut Words,
+)
+    requires solid { ⌜ Ready (seenIn n (now rows) (now corners)) k × (length (now words) ≡ 2 * (mostPoints limits + 1)) ⌝ }
+    requires made { ⌜ Made (rowIn (now rows)) (faceIn (now corners)) k (now planes) ⌝ }
+    ensures { λ _. ⌜ Told (seenIn n (now (rows .entry)) (now (corners .entry))) k (now (words .exit)) ⌝ }
+{
+    sides::words::fill(rows, corners, planes, far(n, k), words);
+    sides::words::fill(rows, corners, planes, k, words);
+}
+
+// Each of the two has the other's faces opposite.
+fn mirrors(k: Solid, o: Solid) -> bool
+    ensures { λ r. ⌜ r ≡ mirrors k o ⌝ }
+{
+    (o.other == k.first) & ((o.others == k.count) & ((o.first == k.other) & (o.count == k.others)))
+}
+
+// What narrows the questions about the solid k beside the other one, o, whose words are `others`; told where each has the other's faces
+// opposite.
+pub fn tell_parts(
+    corners: &Corners,
+    k: Solid,
+    o: Solid,
+    others: &Words,
+    own: &mut Words,
+    cuts: &mut Cuts,
+)
+    requires corners { ⌜ FacesWithin limits (faceIn (now corners)) ⌝ }
+    requires faces { ⌜ (k .first + k .count ≤ 2 * limits .mostFaces) × (k .count ≤ limits .mostFaces)
+        × (k .other + k .others ≤ 2 * limits .mostFaces) ⌝ }
+    ensures { λ _. ⌜ now (own .exit) ≡ ownTold (faceIn (now (corners .entry))) k o (now (own .entry)) ⌝ }
+    ensures { λ _. ⌜ now (cuts .exit) ≡ cutsTold (faceIn (now (corners .entry))) k o (now (others .entry)) (now (cuts .entry)) ⌝ }
+{
+    if mirrors(k, o) {
+        narrow::own::fill(corners, k.first, k.count, own);
+        narrow::cuts::fill(corners, others, k.other, k.others, cuts);
+    }
+}
