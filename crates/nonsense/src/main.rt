@@ -21,8 +21,8 @@ mod strings;
 
 const STRINGS: usize = 120000;
 
-// Room for a name and fifteen numbers.
-const LINE: usize = 512;
+// Room for the head and eleven rows, each a name and fifteen numbers.
+const TEXT: usize = 4096;
 
 // The first n bytes of s through every question; the next random number.
 fn ask_all(s: &[u8], n: usize, x: u64, tally: &mut [u64; ROWS]) -> u64 {
@@ -54,18 +54,12 @@ fn turns(base: &[u8], tally: &mut [u64; ROWS]) {
     }
 }
 
-fn write(out: &[u8], n: usize)
-    requires { ⌜ n ≤ length (now out) ⌝ }
-{
-    io::write_all(STDOUT_FILENO, &out[..n]);
-}
-
 // The row of question q: its name, then how often it was answered and refused 1 to 14.
-fn row(name: &[u8], q: usize, tally: &[u64; ROWS], out: &mut [u8]) -> usize
+fn row(name: &[u8], q: usize, tally: &[u64; ROWS], out: &mut [u8], at: usize) -> usize
     requires { ⌜ q ≤ 10 ⌝ }
     ensures { λ p. ⌜ p ≤ length (now (out .exit)) ⌝ }
 {
-    let mut p = word(out, 0, name);
+    let mut p = word(out, at, name);
     let mut k = 0;
     while k < 15 {
         p = next_number(out, p, tally[15 * q + k] as usize);
@@ -74,41 +68,45 @@ fn row(name: &[u8], q: usize, tally: &[u64; ROWS], out: &mut [u8]) -> usize
     newline(out, p)
 }
 
-fn write_row(name: &[u8], q: usize, tally: &[u64; ROWS])
-    requires { ⌜ q ≤ 10 ⌝ }
+fn head(out: &mut [u8]) -> usize
+    ensures { λ p. ⌜ p ≤ length (now (out .exit)) ⌝ }
 {
-    let mut out = [0u8; LINE];
-    let n = row(name, q, tally, &mut out);
-    write(&out, n);
-}
-
-fn write_head() {
-    let mut out = [0u8; LINE];
-    let p = word(&mut out, 0, b"strings");
-    let q = next_number(&mut out, p, STRINGS);
-    let n = word(
-        &mut out,
+    let p = word(out, 0, b"strings");
+    let q = next_number(out, p, STRINGS);
+    word(
+        out,
         q,
         b"\nquestion answered 1 2 3 4 5 6 7 8 9 10 11 12 13 14\n",
-    );
-    write(&out, n);
+    )
 }
 
-fn write_points(tally: &[u64; ROWS]) {
-    write_row(b"judge", 0, tally);
-    write_row(b"sign", 1, tally);
-    write_row(b"pierces", 2, tally);
-    write_row(b"mask", 3, tally);
-    write_row(b"enclosed", 4, tally);
+fn points(tally: &[u64; ROWS], out: &mut [u8], at: usize) -> usize
+    ensures { λ p. ⌜ p ≤ length (now (out .exit)) ⌝ }
+{
+    let a = row(b"judge", 0, tally, out, at);
+    let b = row(b"sign", 1, tally, out, a);
+    let c = row(b"pierces", 2, tally, out, b);
+    let d = row(b"mask", 3, tally, out, c);
+    row(b"enclosed", 4, tally, out, d)
 }
 
-fn write_rest(tally: &[u64; ROWS]) {
-    write_row(b"verdict", 5, tally);
-    write_row(b"counts", 6, tally);
-    write_row(b"listing", 7, tally);
-    write_row(b"part", 8, tally);
-    write_row(b"record", 9, tally);
-    write_row(b"shown", 10, tally);
+fn rest(tally: &[u64; ROWS], out: &mut [u8], at: usize) -> usize
+    ensures { λ p. ⌜ p ≤ length (now (out .exit)) ⌝ }
+{
+    let a = row(b"verdict", 5, tally, out, at);
+    let b = row(b"counts", 6, tally, out, a);
+    let c = row(b"listing", 7, tally, out, b);
+    let d = row(b"part", 8, tally, out, c);
+    let e = row(b"record", 9, tally, out, d);
+    row(b"shown", 10, tally, out, e)
+}
+
+// All in one write, the last thing that the program does.
+fn write_table(tally: &[u64; ROWS], out: &mut [u8]) {
+    let p = head(out);
+    let q = points(tally, out, p);
+    let end = rest(tally, out, q);
+    io::write_all(STDOUT_FILENO, &out[..end]);
 }
 
 fn main() {
@@ -116,7 +114,6 @@ fn main() {
     let n = io::read_full(STDIN_FILENO, &mut s);
     let mut tally = [0u64; ROWS];
     turns(&s[..n], &mut tally);
-    write_head();
-    write_points(&tally);
-    write_rest(&tally);
+    let mut out = [0u8; TEXT];
+    write_table(&tally, &mut out);
 }

@@ -7,10 +7,10 @@ use Rattle.nonsense.proofs.row.Statement.{statement}
 use Rattle.nonsense.proofs.row.Tie as tie
 
 abbrev Inv-loop : tie.InvT-loop
-Inv-loop name q tally out₀ p₀ k₀ out p k = (k ≤ 15) × (length out ≡ length out₀)
+Inv-loop name q tally out₀ at p₀ k₀ out p k = (k ≤ 15) × (length out ≡ length out₀)
 
 abbrev μ-loop : tie.MeasureT-loop
-μ-loop name q tally out₀ p₀ k₀ out p k = 15 - k
+μ-loop name q tally out₀ at p₀ k₀ out p k = 15 - k
 
 word-requires : tie.Need-word-requires Inv-loop μ-loop
 word-requires c κs = search needs
