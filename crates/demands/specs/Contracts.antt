@@ -6,7 +6,6 @@ use mathlib.Core.List.{List}
 use Prim.Native.Nat.{ℕ}
 use lib.ListN.{length}
 use denote.Ref.{now}
-use Rattle.scene.specs.Records.{vertsA, vertsB}
 use Rattle.scene.specs.View.{viewOf}
 use Rattle.scene.specs.declared.Refusal.{Refusal}
 use Rattle.judge.specs.Judge.{judged}
@@ -37,8 +36,8 @@ use Rattle.kernel.proofs.verdict.verdict_of.Reads as verdict
 use Rattle.kernel.proofs.lists.listing.Reads as listing
 use Rattle.kernel.proofs.lists.listing_part.Reads as listing-part
 use Rattle.kernel.proofs.facts.survey.Reads as survey
-use Rattle.demands.specs.Surveys.{IsWord, word-a, word-b}
-use Rattle.demands.specs.Said.{judgedSays, signSays, answerSays, facesSay, maskSays, countsSay, insideSays, listedSays, verdictSays}
+use Rattle.demands.specs.Surveys.{AreWords, are-words}
+use Rattle.demands.specs.Said.{Said}
 
 pub judge-is : (κs a r e : _) → judge.Post κs a r e → r ≡ judged (now (a .0))
 judge-is κs a r e x = x
@@ -87,8 +86,7 @@ listing-part-is κs a r e x = x
 pub record AtOnce (s d d′ : List ℕ) (f : Facts) : Type 0 where
   pub verdict : f .verdict ≡ verdictOf s
   pub counts : counted.Counts (f .counts) ≡ countedOf s
-  pub a-inside : IsWord s 0 (vertsA s) (f .«a_inside»)
-  pub b-inside : IsWord s (vertsA s) (vertsB s) (f .«b_inside»)
+  pub inside : AreWords s (f .«a_inside») (f .«b_inside»)
   pub listed : (l : Listed) × IsListed s d d′ l
 
 pub survey-refused : (κs a r e : _) → survey.Post κs a r e → (q : Refusal) → judged (now (a .1 .0)) ≡ judgement.Refused q →
@@ -113,48 +111,12 @@ survey-told κs a r e x ok =
       record {
         verdict = answered-so verdicts.Refused (verdictIn v) refl ok refl;
         counts = answered-so counted.Refused (counted.Counts (countsIn v)) refl ok refl;
-        a-inside = word-a s refl;
-        b-inside = word-b s refl;
+        inside = are-words s refl refl;
         listed = (answered Refused (judged s) (listedIn v d), record { answer = refl; held = x .held });
       },
     )
 
--- ---- the same by the number and the values of what each answer enum says
+-- ---- each of these is an equation of answers: so what an answer says, its number and its values, is what the definition's says
 
-pub judge-says : (κs a r e : _) → judge.Post κs a r e → judgedSays r ≡ judgedSays (judged (now (a .0)))
-judge-says κs a r e x = ap judgedSays x
-
-pub record-refusal-says : (κs a r e : _) → record-refusal.Post κs a r e → judgedSays r ≡ judgedSays (refusal (now (a .0)) (a .1 .0))
-record-refusal-says κs a r e x = ap judgedSays x
-
-pub sign-says : (κs a r e : _) → sign.Post κs a r e →
-    signSays r ≡ signSays (signOf (now (a .0)) (a .1 .0) (a .1 .1 .0) (a .1 .1 .1 .0) (a .1 .1 .1 .1 .0))
-sign-says κs a r e x = ap signSays x
-
-pub pierces-says : (κs a r e : _) → pierces.Post κs a r e →
-    answerSays r ≡ answerSays (piercesOf (now (a .1 .0)) (a .1 .1 .0) (a .1 .1 .1 .0) (a .1 .1 .1 .1 .0))
-pierces-says κs a r e x = ap answerSays x
-
-pub mask-says : (κs a r e : _) → mask.Post κs a r e →
-    maskSays r ≡ facesSay (maskedOf (now (a .1 .0)) (a .1 .1 .0) (a .1 .1 .1 .0) (a .1 .1 .1 .1 .0))
-mask-says κs a r e x = ap facesSay x
-
-pub enclosed-says : (κs a r e : _) → enclosed.Post κs a r e → answerSays r ≡ answerSays (enclosedOf (now (a .1 .0)) (a .1 .1 .0))
-enclosed-says κs a r e x = ap answerSays x
-
-pub count-says : (κs a r e : _) → count.Post κs a r e → countsSay r ≡ countsSay (countedOf (now (a .1 .0)))
-count-says κs a r e x = ap countsSay x
-
-pub inside-says : (κs a r e : _) → inside.Post κs a r e → insideSays r ≡ insideSays (insideOf (now (a .1 .0)) (a .1 .1 .0))
-inside-says κs a r e x = ap insideSays x
-
-pub verdict-says : (κs a r e : _) → verdict.Post κs a r e → verdictSays r ≡ verdictSays (verdictOf (now (a .1 .0)))
-verdict-says κs a r e x = ap verdictSays x
-
-pub listing-says : (κs a r e : _) → listing.Post κs a r e →
-    listedSays r ≡ listedSays (answered Refused (judged (now (a .1 .0))) (listedIn (viewOf (now (a .1 .0))) (now (a .1 .1 .0))))
-listing-says κs a r e x = ap listedSays (x .answer)
-
-pub listing-part-says : (κs a r e : _) → listing-part.Post κs a r e →
-    listedSays r ≡ listedSays (answered Refused (judged (now (a .1 .0))) (Count (length (listingIn (viewOf (now (a .1 .0)))))))
-listing-part-says κs a r e x = ap listedSays (x .answer)
+pub says-same : {A : Type 0} (says : A → Said) {r x : A} → r ≡ x → says r ≡ says x
+says-same says e = ap says e

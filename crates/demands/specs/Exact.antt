@@ -38,8 +38,7 @@ use Rattle.demands.specs.Words.{FourPoints, TwoAlike, EdgeAndFace, Alike
 -- ---- an order of numbers in a row: by the first in which they differ
 
 abbrev pub Less : List ℕ → List ℕ → Type 0
-Less [] [] = ⊥
-Less [] (b ∷ m) = ⊥
+Less [] m = ⊥
 Less (a ∷ l) [] = ⊥
 Less (a ∷ l) (b ∷ m) = (a < b) ⊎ ((a ≡ b) × Less l m)
 

@@ -2,7 +2,6 @@ pub mod Words
 pub mod Solids
 pub mod Answers
 pub mod Numbers
-pub mod AnswersGiven
 pub mod Exact
 pub mod Parity
 pub mod Sign
@@ -23,7 +22,7 @@ pub mod Engines
 pub mod AnswersTests
 pub mod AnswersProof
 pub mod NumbersProof
-pub mod AnswersGivenProof
+pub mod NumbersGiven
 pub mod ExactRuns
 pub mod ExactListing
 pub mod ExactPairs

@@ -4,11 +4,11 @@
 -- Assumes nothing.
 use mathlib.Core.Path.{_≡_}
 use mathlib.Core.Logic.{_≢_}
-use mathlib.Core.List.{List}
+use mathlib.Core.List.{List, [], _∷_}
 use Prim.Native.Nat.{ℕ, _+_, _%_}
 use lib.Count.{ones}
 use Rattle.laws.specs.Bools.{_⊕_}
-use Rattle.laws.specs.Lists.{Number}
+use Rattle.laws.specs.Lists.{Each, Number}
 use Rattle.scene.specs.Limits.{Limits, limits}
 use Rattle.scene.specs.View.{viewOf, solid}
 use Rattle.judge.specs.Judge.{judgedAt}
@@ -20,15 +20,8 @@ use Rattle.demands.specs.Exact.{numbered}
 
 -- three different numbers from 1 to a+b+1, none of which is a vertex of solid k
 pub record Outside (s : List ℕ) (k u v w : ℕ) : Type 0 where
-  pub u-point : Point s u
-  pub v-point : Point s v
-  pub w-point : Point s w
-  pub uv : u ≢ v
-  pub uw : u ≢ w
-  pub vw : v ≢ w
-  pub u-out : ¬ VertexOf s k u
-  pub v-out : ¬ VertexOf s k v
-  pub w-out : ¬ VertexOf s k w
+  pub each : Each (λ i. Point s i × ¬ VertexOf s k i) (u ∷ v ∷ w ∷ [])
+  pub different : (u ≢ v) × (u ≢ w) × (v ≢ w)
 
 -- X, of every scene that is accepted with the limits l, either solid and three such numbers
 abbrev Always : Limits → (List ℕ → (k u v w : ℕ) → Type 0) → Type 0

@@ -49,15 +49,15 @@ module _ (s : List ℕ) where
     triangle : Triangle (points v) (solid v k .low) (solid v k .low + solid v k .verts) a b c
     triangle =
         record {
-          u-in = h .u-point;
-          v-in = h .v-point;
-          w-in = h .w-point;
-          uv = h .uv;
-          uw = h .uw;
-          vw = h .vw;
-          u-out = λ x. h .u-out (vertex-of s k n a .0 x);
-          v-out = λ x. h .v-out (vertex-of s k n b .0 x);
-          w-out = λ x. h .w-out (vertex-of s k n c .0 x);
+          u-in = h .each .0 .0;
+          v-in = h .each .1 .0 .0;
+          w-in = h .each .1 .1 .0 .0;
+          uv = h .different .0;
+          uw = h .different .1;
+          vw = h .different .2;
+          u-out = λ x. h .each .0 .1 (vertex-of s k n a .0 x);
+          v-out = λ x. h .each .1 .0 .1 (vertex-of s k n b .0 x);
+          w-out = λ x. h .each .1 .1 .0 .1 (vertex-of s k n c .0 x);
         }
 
 module _ (l : Limits) where
@@ -107,10 +107,10 @@ unfolding maskedOf maskedIn maskFault edgeAndSolid isSolid outside answered rule
 asked s ok k n a b c h =
     rw (
       ok,
-      point s k a (h .u-point),
-      point s k b (h .v-point),
+      point s k a (h .each .0 .0),
+      point s k b (h .each .1 .0 .0),
       within-iff 1 2 k .1 n,
-      ne-eqb a b (h .uv),
-      out s k a n (h .u-out),
-      out s k b n (h .v-out),
+      ne-eqb a b (h .different .0),
+      out s k a n (h .each .0 .1),
+      out s k b n (h .each .1 .0 .1),
     )

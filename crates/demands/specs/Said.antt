@@ -9,12 +9,11 @@ use Rattle.scene.specs.Refusal.{numberOf, placeOf}
 use Rattle.scene.specs.declared.Refusal.{Refusal}
 use Rattle.judge.specs.declared.Judged.{Judged}
 use Rattle.judge.specs.declared.Judged.the-variants as judge
-use Rattle.questions.specs.Answers.{MaskSaid, refused, faces-are, saidMask, verdictNumber, verdictValues}
+use Rattle.questions.specs.Answers.{MaskSaid, refused, faces-are, verdictNumber, verdictValues}
 use Rattle.questions.specs.declared.Signed.{Signed}
 use Rattle.questions.specs.declared.Signed.the-variants as sign
 use Rattle.questions.specs.declared.Answer.{Answer}
 use Rattle.questions.specs.declared.Answer.the-variants as answer
-use Rattle.questions.specs.declared.Masked.{Masked}
 use Rattle.questions.specs.declared.Counted.{Counted}
 use Rattle.questions.specs.declared.Counted.the-variants as counted
 use Rattle.questions.specs.declared.Enclosing.{Enclosing}
@@ -54,9 +53,6 @@ answerSays (answer.Refused r) = refusal 2 r
 abbrev pub facesSay : MaskSaid → Said
 facesSay (faces-are mask ones) = case 0 (mask ∷ ones ∷ [])
 facesSay (refused r) = refusal 1 r
-
-abbrev pub maskSays : Masked → Said
-maskSays m = facesSay (saidMask m)
 
 -- "vertices of A enclosed by B, then of B by A", "the listing's count"
 abbrev pub countsSay : Counted → Said

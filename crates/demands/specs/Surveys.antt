@@ -1,6 +1,5 @@
--- The demands speak of the code (`Contracts`), of the functions too that survey a scene once and read answers off its tables: what each
--- one's own contract states, and that this is what the demands are about. The arguments are in the function's own order; κs are its
--- lifetimes. Assumes nothing.
+-- The demands speak of the code (`Contracts`), of the functions too that survey a scene once and read answers off its tables: what each one's
+-- own contract says, in the words of the demands. The arguments are in the function's own order; κs are its lifetimes. Assumes nothing.
 use mathlib.Core.Path.{_≡_, refl, sym, ap, _∙_}
 use mathlib.Core.Bool.{Bool, true, cond}
 use mathlib.Core.List.{List}
@@ -11,24 +10,28 @@ use lib.ListN.{length}
 use denote.Ref.{now}
 use Rattle.laws.specs.Mask.{maskOf, testBit, mask-lt, mask-test}
 use Rattle.scene.specs.Records.{vertsA, vertsB}
-use Rattle.scene.specs.View.{View, viewOf, solid, solidA, solidB}
+use Rattle.scene.specs.View.{viewOf, solid, solidA, solidB}
 use Rattle.judge.specs.Judge.{judged}
 use Rattle.judge.specs.declared.Judged.the-variants.{Accepted}
 use Rattle.listing.specs.Hits.{Hit, isInside}
+use Rattle.listing.specs.First.{firstOf}
 use Rattle.listing.specs.Pour.{partIn}
 use Rattle.listing.specs.Poured.{poured-part}
-use Rattle.listing.specs.declared.find.Found.the-variants.{Nothing}
+use Rattle.listing.specs.declared.find.Found.{Found}
+use Rattle.listing.specs.declared.find.Found.the-variants.{Nothing, Pair}
+use Rattle.table.specs.Table.{entriesIn}
+use Rattle.table.specs.Edges.{solidEdges}
 use Rattle.spread.specs.Walk.{insideWord}
 use Rattle.survey.specs.Survey.{pairsOf}
 use Rattle.survey.specs.Laws.{surveyed-pairs}
 use Rattle.survey.specs.declared.Survey.{Survey}
+use Rattle.seek.specs.Seek.{unlessPair}
 use Rattle.seek.specs.declared.Sought.{Sought}
 use Rattle.questions.specs.Answers.{seen, isEnclosed, verdictIn, verdictOf, listingIn}
-use Rattle.readings.specs.Facts.{IsSurvey}
 use Rattle.questions.specs.Laws.{answered-so}
-use Rattle.questions.specs.Listings.{lacksRoom, PouredIf}
+use Rattle.questions.specs.Listings.{lacksRoom}
 use Rattle.readings.specs.Ready.{sound}
-use Rattle.readings.specs.Surveys.{SurveyIs, SoughtIs, sought-settles}
+use Rattle.readings.specs.Surveys.{SoughtIs, sought-settles}
 use Rattle.questions.specs.declared.Verdict.{Verdict}
 use Rattle.questions.specs.declared.Verdict.the-variants.{Refused}
 use Rattle.readings.proofs.survey_of.Reads as survey-of
@@ -36,81 +39,105 @@ use Rattle.readings.proofs.sought_of.Reads as sought-of
 use Rattle.readings.proofs.verdict_by.Reads as verdict-by
 use Rattle.readings.proofs.verdict_read.Reads as verdict-read
 use Rattle.readings.proofs.pour_read.Reads as pour-read
-use Rattle.kernel.proofs.facts.survey.Reads as survey
 use Rattle.demands.specs.Words.{Enclosed}
 use Rattle.demands.specs.ExactVerdict.{inside-a, inside-b}
 
--- ---- by contract
-
--- the tables are the four arguments behind the bytes
-pub survey-of-is : (κs a r e : _) → survey-of.Post κs a r e →
-    SurveyIs (viewOf (now (a .1 .0))) (now (e .1 .1 .0)) (now (e .1 .1 .1 .0)) (now (e .1 .1 .1 .1 .0)) (now (e .1 .1 .1 .1 .1 .0)) r
-survey-of-is κs a r e x = x
-
-pub sought-of-is : (κs a r e : _) → sought-of.Post κs a r e → SoughtIs (viewOf (now (a .1 .0))) r
-sought-of-is κs a r e x = x
-
-pub verdict-by-is : (κs a r e : _) → verdict-by.Post κs a r e → r ≡ verdictIn (viewOf (now (a .0)))
-verdict-by-is κs a r e x = x
-
-pub verdict-read-is : (κs a r e : _) → verdict-read.Post κs a r e → r ≡ verdictIn (viewOf (now (a .1 .0)))
-verdict-read-is κs a r e x = x
-
--- the pair to start from, whether all are asked for, and the lent list are the last arguments
-pub pour-read-is : (κs a r e : _) → pour-read.Post κs a r e →
-    PouredIf (listingIn (viewOf (now (a .1 .0)))) (a .1 .1 .1 .1 .1 .1 .0) (a .1 .1 .1 .1 .1 .1 .1 .0)
-    (now (a .1 .1 .1 .1 .1 .1 .1 .1 .0)) (now (e .1 .1 .1 .1 .1 .1 .1 .1 .0)) r
-pour-read-is κs a r e x = x
-
-pub survey-is : (κs a r e : _) → survey.Post κs a r e → IsSurvey (now (a .1 .0)) (now (a .1 .1 .0)) (now (e .1 .1 .0)) r
-survey-is κs a r e x = x
-
--- ---- in the words of the demands
+-- ---- the words of A's and of B's enclosed vertices
 
 -- the word w of the n vertices above low has a bit for each, set exactly when the other solid encloses it
 pub record IsWord (s : List ℕ) (low n w : ℕ) : Type 0 where
   pub small : w < 2 ^ n
   pub bits : (j : ℕ) → j < n → (testBit w j ≡ true) ↔ Enclosed s (low + 1 + j)
 
-module _ (s : List ℕ) where
-  abbrev v : View
-  v = viewOf s
+abbrev pub AreWords : List ℕ → (a b : ℕ) → Type 0
+AreWords s a b = IsWord s 0 (vertsA s) a × IsWord s (vertsA s) (vertsB s) b
 
-  by-bit : {low n : ℕ} (g : ℕ → Bool) → ((j : ℕ) → j < n → g j ≡ isEnclosed v (low + 1 + j)) → IsWord s low n (maskOf g n)
-  by-bit {low} {n} g h =
-      record {
-        small = mask-lt g n;
-        bits = λ j b. let e = mask-test g n j b ∙ h j b in (λ t. sym e ∙ t, λ t. e ∙ t);
-      }
+by-bit : (s : List ℕ) {low n : ℕ} (g : ℕ → Bool) → ((j : ℕ) → j < n → g j ≡ isEnclosed (viewOf s) (low + 1 + j)) →
+    IsWord s low n (maskOf g n)
+by-bit s {low} {n} g h =
+    record {
+      small = mask-lt g n;
+      bits = λ j b. let e = mask-test g n j b ∙ h j b in (λ t. sym e ∙ t, λ t. e ∙ t);
+    }
 
-  pub word-a : {w : ℕ} → w ≡ insideWord (seen v) (solid v 1) → IsWord s 0 (vertsA s) w
-  unfolding insideWord solid
-  word-a e = rw e (by-bit (λ m. isInside (seen v) (solidA v) (0 + 1 + m)) (λ j b. inside-a s (0 + 1 + j) (omega arith)))
+pub are-words : (s : List ℕ) {a b : ℕ} → a ≡ insideWord (seen (viewOf s)) (solid (viewOf s) 1) →
+    b ≡ insideWord (seen (viewOf s)) (solid (viewOf s) 2) → AreWords s a b
+unfolding insideWord solid
+are-words s d e =
+    let v = viewOf s in (
+      rw d (by-bit s (λ m. isInside (seen v) (solidA v) (0 + 1 + m)) (λ j b. inside-a s (0 + 1 + j) (omega arith))),
+      rw e (by-bit s (λ m. isInside (seen v) (solidB v) (vertsA s + 1 + m)) (λ j b. inside-b s (vertsA s + 1 + j) (omega arith))),
+    )
 
-  pub word-b : {w : ℕ} → w ≡ insideWord (seen v) (solid v 2) → IsWord s (vertsA s) (vertsB s) w
-  unfolding insideWord solid
-  word-b e = rw e (by-bit (λ m. isInside (seen v) (solidB v) (vertsA s + 1 + m)) (λ j b. inside-b s (vertsA s + 1 + j) (omega arith)))
+-- ---- `survey_of`, which leaves the tables that are lent to it
 
-  module _ {ends-a masks-a ends-b masks-b : List ℕ} {t : Survey} (x : SurveyIs v ends-a masks-a ends-b masks-b t) where
-    pub survey-words : IsWord s 0 (vertsA s) (t .a .inside) × IsWord s (vertsA s) (vertsB s) (t .b .inside)
-    survey-words = (word-a (x .of-a .inside), word-b (x .of-b .inside))
+-- the words; each solid's edges with their masks; and the pairs of both tables, which are the listing
+pub record TablesAre (s ends-a masks-a ends-b masks-b : List ℕ) (t : Survey) : Type 0 where
+  pub inside : AreWords s (t .a .inside) (t .b .inside)
+  pub of-a : entriesIn ends-a masks-a (t .a .edges) ≡ solidEdges (seen (viewOf s)) (solid (viewOf s) 1)
+  pub of-b : entriesIn ends-b masks-b (t .b .edges) ≡ solidEdges (seen (viewOf s)) (solid (viewOf s) 2)
+  pub pairs : pairsOf t (solid (viewOf s) 1 .other) (solid (viewOf s) 2 .other) ends-a masks-a ends-b masks-b ≡ listingIn (viewOf s)
 
-    -- the pairs of the tables are the listing
-    pub survey-pairs : judged s ≡ Accepted → pairsOf t (solid v 1 .other) (solid v 2 .other) ends-a masks-a ends-b masks-b ≡ listingIn v
-    unfolding listingIn
-    survey-pairs ok =
-        surveyed-pairs (seen v) (solid v 1) (solid v 2) t ends-a masks-a ends-b masks-b (sound s ok 1) (sound s ok 2) (x .of-a) (x .of-b)
+pub survey-of-is : (κs a r e : _) → survey-of.Post κs a r e → judged (now (a .1 .0)) ≡ Accepted →
+    TablesAre (now (a .1 .0)) (now (e .1 .1 .0)) (now (e .1 .1 .1 .0)) (now (e .1 .1 .1 .1 .0)) (now (e .1 .1 .1 .1 .1 .0)) r
+unfolding listingIn
+survey-of-is κs a r e x ok =
+    let s = now (a .1 .0) in
+    let v = viewOf s in
+    record {
+      inside = are-words s (x .of-a .inside) (x .of-b .inside);
+      of-a = x .of-a .edges;
+      of-b = x .of-b .edges;
+      pairs = surveyed-pairs (seen v) (solid v 1) (solid v 2) r _ _ _ _ (sound s ok 1) (sound s ok 2) (x .of-a) (x .of-b);
+    }
 
-  module _ {t : Sought} (x : SoughtIs v t) (none : t .first ≡ Nothing) where
-    pub sought-words : IsWord s 0 (vertsA s) (t .a) × IsWord s (vertsA s) (vertsB s) (t .b)
-    sought-words = let h = sought-settles x in (word-a (h .a-inside none), word-b (h .b-inside none))
+-- ---- `sought_of`: the first pair; where there is none the words, and where there is one 0
 
-  -- of an accepted scene the verdict is the question's
-  pub verdict-asked : judged s ≡ Accepted → {r : Verdict} → r ≡ verdictIn v → r ≡ verdictOf s
-  unfolding verdictOf
-  verdict-asked ok e = answered-so Refused (verdictIn v) refl ok e
+pub record FirstOrWords (s : List ℕ) (t : Sought) : Type 0 where
+  pub first : t .first ≡ firstOf (listingIn (viewOf s))
+  pub none : t .first ≡ Nothing → AreWords s (t .a) (t .b)
+  pub some : (u v f : ℕ) → t .first ≡ Pair u v f → (t .a ≡ 0) × (t .b ≡ 0)
 
--- what is left of the list d: the part of the hits l; where all are asked for and have no room, as it was
-pub poured-is : {l : List Hit} {from : ℕ} {all : Bool} {d d′ : List ℕ} {r : ℕ} → PouredIf l from all d d′ r →
-    d′ ≡ cond (lacksRoom all (length l) (length d)) d (partIn l from d)
-poured-is {l} {from} {all} {d} x = x .held ∙ ap (cond (lacksRoom all (length l) (length d)) d) (poured-part l d from)
+first-or-words : (s : List ℕ) {t : Sought} → SoughtIs (viewOf s) t → FirstOrWords s t
+first-or-words s {t} x =
+    let v = viewOf s in
+    let word : (k : ℕ) → Found → ℕ = λ k y. unlessPair y (insideWord (seen v) (solid v k)) in
+    let h = sought-settles x in
+    record {
+      first = x .first;
+      none = λ n. are-words s (h .a-inside n) (h .b-inside n);
+      some = λ u v f p. (x .a-inside ∙ ap (word 1) p, x .b-inside ∙ ap (word 2) p);
+    }
+
+pub sought-of-is : (κs a r e : _) → sought-of.Post κs a r e → FirstOrWords (now (a .1 .0)) r
+sought-of-is κs a r e x = first-or-words (now (a .1 .0)) x
+
+-- ---- `verdict_by` and `verdict_read`: of an accepted scene, the question's verdict
+
+asked : (s : List ℕ) {r : Verdict} → r ≡ verdictIn (viewOf s) → judged s ≡ Accepted → r ≡ verdictOf s
+unfolding verdictOf
+asked s e ok = answered-so Refused (verdictIn (viewOf s)) refl ok e
+
+pub verdict-by-is : (κs a r e : _) → verdict-by.Post κs a r e → judged (now (a .0)) ≡ Accepted → r ≡ verdictOf (now (a .0))
+verdict-by-is κs a r e x = asked (now (a .0)) x
+
+pub verdict-read-is : (κs a r e : _) → verdict-read.Post κs a r e → judged (now (a .1 .0)) ≡ Accepted → r ≡ verdictOf (now (a .1 .0))
+verdict-read-is κs a r e x = asked (now (a .1 .0)) x
+
+-- ---- `pour_read`: the part of the hits l from the one numbered `from` on; where all are asked for and have no room, what the list held
+
+pub record PartPoured (l : List Hit) (from : ℕ) (all : Bool) (d d′ : List ℕ) (r : ℕ) : Type 0 where
+  pub count : r ≡ length l
+  pub held : d′ ≡ cond (lacksRoom all (length l) (length d)) d (partIn l from d)
+
+-- the pair to start from, whether all are asked for, and the lent list are the last arguments
+pub pour-read-is : (κs a r e : _) → pour-read.Post κs a r e →
+    PartPoured (listingIn (viewOf (now (a .1 .0)))) (a .1 .1 .1 .1 .1 .1 .0) (a .1 .1 .1 .1 .1 .1 .1 .0)
+    (now (a .1 .1 .1 .1 .1 .1 .1 .1 .0)) (now (e .1 .1 .1 .1 .1 .1 .1 .1 .0)) r
+pour-read-is κs a r e x =
+    let l = listingIn (viewOf (now (a .1 .0))) in
+    let d = now (a .1 .1 .1 .1 .1 .1 .1 .1 .0) in
+    record {
+      count = x .count;
+      held = x .held ∙ ap (cond (lacksRoom (a .1 .1 .1 .1 .1 .1 .1 .0) (length l) (length d)) d) (poured-part l d (a .1 .1 .1 .1 .1 .1 .0));
+    }

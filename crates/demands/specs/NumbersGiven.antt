@@ -31,16 +31,18 @@ use Rattle.questions.specs.Answers.{answered, IsListed, IsPart, listingIn, list
 use Rattle.questions.specs.declared.Listed.{Listed}
 use Rattle.questions.specs.declared.Listed.the-variants as listed
 use Rattle.demands.specs.Words.{Pierces, CornerOf}
-use Rattle.demands.specs.AnswersGiven.{Given, ofScene, BySign, ByPierces, ByMask, ByEnclosed, ByRecord}
-use Rattle.demands.specs.AnswersGiven.{ByVerdict, ByCounts, ByListing, ByPart, AllGiven, ByInside}
-use Rattle.demands.specs.AnswersProof.{answers}
+use Rattle.demands.specs.Numbers.{ofScene, Gives}
 use Rattle.demands.specs.Answers.{OfScene}
 use Rattle.demands.specs.ExactPairs.{members}
+
+-- a refusal with the number n is given
+abbrev Given : (List ℕ → Refusal → Type 0) → ℕ → Type 0
+Given Refuses n = (r : Refusal) × (numberOf r ≡ n) × (s : List ℕ) × Refuses s r
 
 -- ---- the bytes of two scenes. In `base` both solids have two faces on the same three corners, and B's edge from 4 to 5 pierces A's faces; in `four` A has
 -- a fourth vertex, which is in no face
 
-abbrev base : List ℕ
+abbrev pub base : List ℕ
 base =
     83 ∷ 67 ∷ 3 ∷ 2 ∷ 3 ∷ 2 ∷
     70 ∷ 80 ∷ 100 ∷ 0 ∷ 101 ∷ 0 ∷ 103 ∷ 0 ∷ 1 ∷
@@ -77,36 +79,36 @@ base-accepted : judged base ≡ Accepted
 unfolding judgedAt andThen rule headerFault opens countsOk within recordsFault firstOf over recordFault pointFault coordinateOk weightOk nowhere somewhereOk faceFault cornersOk areCorners vertsAt endFault unusedsFault unusedFault isUsed isCornerOf isCorner anyOf edgesFault edgeFault closedAt sidesOk edgeOk isEdge hasBoth countOf cornerAt twoAt coordinateAt weightAt
 base-accepted = refl
 
-keeps : FileOk limits base
+pub keeps : FileOk limits base
 keeps = accepted limits base .0 base-accepted
 
 -- ---- 1 to 9 and 14: no bytes; two vertices; a byte too many; no mark; coordinate 4,096; weight 17; corner 0; the fourth vertex, in no face and in one;
 -- and a far point of four zeros
 
-abbrev ByScene : Refusal → Type 0
-ByScene r = (s : List ℕ) × (judged s ≡ Refused r)
+abbrev ByScene : List ℕ → Refusal → Type 0
+ByScene s r = judged s ≡ Refused r
 
 ten : Each (Given ByScene) ofScene
 unfolding judgedAt andThen rule headerFault opens countsOk within recordsFault firstOf over recordFault pointFault coordinateOk weightOk nowhere somewhereOk faceFault cornersOk areCorners vertsAt endFault unusedsFault unusedFault isUsed isCornerOf isCorner anyOf edgesFault edgeFault closedAt sidesOk edgeOk isEdge hasBoth countOf cornerAt twoAt coordinateAt weightAt
 ten = (
-  (Opening, refl, ([], refl)),
+  (Opening, refl, [], refl),
   (
-    (Counts, refl, (set base 2 2, refl)),
+    (Counts, refl, set base 2 2, refl),
     (
-      (Length, refl, (base ++ 0 ∷ [], refl)),
+      (Length, refl, base ++ 0 ∷ [], refl),
       (
-        (Mark 1, refl, (set base 6 0, refl)),
+        (Mark 1, refl, set base 6 0, refl),
         (
-          (Coordinate 1, refl, (set (set base 8 0) 9 16, refl)),
+          (Coordinate 1, refl, set (set base 8 0) 9 16, refl),
           (
-            (Weight 1, refl, (set base 14 17, refl)),
+            (Weight 1, refl, set base 14 17, refl),
             (
-              (Corner 8, refl, (set base 71 0, refl)),
+              (Corner 8, refl, set base 71 0, refl),
               (
-                (Unused 4, refl, (four, refl)),
+                (Unused 4, refl, four, refl),
                 (
-                  (Edge 9, refl, (set four 87 4, refl)),
-                  ((Nowhere 1, refl, (set (set (set (set base 8 0) 10 0) 12 0) 14 0, refl)), tt),
+                  (Edge 9, refl, set four 87 4, refl),
+                  ((Nowhere 1, refl, set (set (set (set base 8 0) 10 0) 12 0) 14 0, refl), tt),
                 ),
               ),
             ),
@@ -118,13 +120,13 @@ ten = (
 )
 
 -- so each question gives them
-to-each : (Q : Refusal → Type 0) → ((r : Refusal) (s : List ℕ) → OfScene (numberOf r) → Grounds limits s r → Q r) → (l : List ℕ) → Each OfScene l →
+to-each : (Q : List ℕ → Refusal → Type 0) → ((r : Refusal) (s : List ℕ) → OfScene (numberOf r) → Grounds limits s r → Q s r) → (l : List ℕ) → Each OfScene l →
     Each (Given ByScene) l → Each (Given Q) l
 to-each Q h [] b e = tt
 to-each Q h (n ∷ l) b e =
     let g = e .0 in
-    let s = g .2 .0 in
-    ((g .0, g .1, h (g .0) s (subst OfScene (sym (g .1)) (b .0)) (table.refused limits s (g .0) .0 (g .2 .1))), to-each Q h l (b .1) (e .1))
+    let s = g .2 in
+    ((g .0, g .1, s, h (g .0) s (subst OfScene (sym (g .1)) (b .0)) (table.refused limits s (g .0) .0 (g .3))), to-each Q h l (b .1) (e .1))
 
 small : Each OfScene ofScene
 small = (
@@ -150,7 +152,7 @@ small = (
   ),
 )
 
-all-of-scene : (Q : Refusal → Type 0) → ((r : Refusal) (s : List ℕ) → OfScene (numberOf r) → Grounds limits s r → Q r) → Each (Given Q) ofScene
+all-of-scene : (Q : List ℕ → Refusal → Type 0) → ((r : Refusal) (s : List ℕ) → OfScene (numberOf r) → Grounds limits s r → Q s r) → Each (Given Q) ofScene
 all-of-scene Q h = to-each Q h ofScene small ten
 
 -- ---- 10: the listing of `base` is not empty
@@ -171,77 +173,32 @@ some-length : {A : Type 0} (P : A → Type 0) (l : List A) → Some P l → 0 < 
 some-length P [] h = absurd h
 some-length P (x ∷ l) h = omega arith
 
-not-empty : 0 < length (listingIn (viewOf base))
+pub not-empty : 0 < length (listingIn (viewOf base))
 not-empty =
     some-length _ (listingIn (viewOf base))
     (members base base-accepted (record { low = 4; high = 5; face = 1 }) .1
     (inr (record { lower-first = omega arith; on = (3, (omega arith, omega arith), on-4, on-5) }, (omega arith, omega arith), through)))
 
-abbrev listedOf : (s d : List ℕ) → Listed
+abbrev pub listedOf : (s d : List ℕ) → Listed
 listedOf s d = answered listed.Refused (judged s) (listedIn (viewOf s) d)
 
-abbrev heldOf : (s d : List ℕ) → List ℕ
+abbrev pub heldOf : (s d : List ℕ) → List ℕ
 heldOf s d = answered (λ _. d) (judged s) (heldIn (viewOf s) d)
 
-is-listed : (s d : List ℕ) → IsListed s d (heldOf s d) (listedOf s d)
+pub is-listed : (s d : List ℕ) → IsListed s d (heldOf s d) (listedOf s d)
 is-listed s d = record { answer = refl; held = refl }
 
-abbrev partOf : List ℕ → Listed
+abbrev pub partOf : List ℕ → Listed
 partOf s = answered listed.Refused (judged s) (listed.Count (length (listingIn (viewOf s))))
 
-abbrev partHeld : List ℕ → List ℕ
+abbrev pub partHeld : List ℕ → List ℕ
 partHeld s = answered (λ _. []) (judged s) (partIn (listingIn (viewOf s)) 0 [])
 
-is-part : (s : List ℕ) → IsPart s 0 [] (partHeld s) (partOf s)
+pub is-part : (s : List ℕ) → IsPart s 0 [] (partHeld s) (partOf s)
 is-part s = record { answer = refl; held = refl }
 
--- ---- each question
+-- ---- a question: what a refused scene gives it, what gives each number of its own, and that there is no other
 
-pub all-given : AllGiven
-all-given =
-    record {
-      sign =
-          each-append (Given BySign) ofScene (11 ∷ 12 ∷ []) (all-of-scene BySign (λ r s h g. (s, 0, 0, 0, 0, answers s .sign 0 0 0 0 .scene r h .1 g))) (
-            (Lacking, refl, (base, 0, 0, 0, 0, answers base .sign 0 0 0 0 .lacking .1 (keeps, λ h. omega (arith, h .0)))),
-            ((Same, refl, (base, 1, 1, 1, 1, answers base .sign 1 1 1 1 .same .1 (keeps, omega arith, inl refl))), tt),
-          );
-      pierces =
-          each-append (Given ByPierces) ofScene (11 ∷ 12 ∷ []) (all-of-scene ByPierces (λ r s h g. (s, 0, 0, 0, answers s .pierces 0 0 0 .scene r h .1 g))) (
-            (Lacking, refl, (base, 0, 0, 0, answers base .pierces 0 0 0 .lacking .1 (keeps, λ h. omega (arith, h .0)))),
-            ((Same, refl, (base, 4, 4, 1, answers base .pierces 4 4 1 .same .1 (keeps, omega arith, inl refl))), tt),
-          );
-      mask =
-          each-append (Given ByMask) ofScene (11 ∷ 12 ∷ []) (all-of-scene ByMask (λ r s h g. (s, 0, 0, 0, answers s .mask 0 0 0 .scene r h .1 g))) (
-            (Lacking, refl, (base, 0, 0, 0, answers base .mask 0 0 0 .lacking .1 (keeps, λ h. omega (arith, h .0)))),
-            ((Same, refl, (base, 4, 4, 1, answers base .mask 4 4 1 .same .1 (keeps, omega arith, inl refl))), tt),
-          );
-      enclosed =
-          each-append (Given ByEnclosed) ofScene (11 ∷ []) (all-of-scene ByEnclosed (λ r s h g. (s, 0, answers s .enclosed 0 .scene r h .1 g)))
-          ((Lacking, refl, (base, 7, answers base .enclosed 7 .lacking .1 (keeps, λ h. omega (arith, h .1)))), tt);
-      record-shown =
-          each-append (Given ByRecord) ofScene (11 ∷ []) (all-of-scene ByRecord (λ r s h g. (s, 0, answers s .record-shown 0 .scene r h .1 g)))
-          ((Lacking, refl, (base, 13, answers base .record-shown 13 .lacking .1 (keeps, λ h. omega (arith, h)))), tt);
-      verdict = all-of-scene ByVerdict (λ r s h g. (s, answers s .verdict .scene r h .1 g));
-      counts = all-of-scene ByCounts (λ r s h g. (s, answers s .counts .scene r h .1 g));
-      inside =
-          each-append (Given ByInside) ofScene (11 ∷ []) (all-of-scene ByInside (λ r s h g. (s, 0, answers s .inside 0 .scene r h .1 g)))
-          ((Lacking, refl, (base, 3, answers base .inside 3 .lacking .1 (keeps, λ h. omega (arith, h .1)))), tt);
-      listing =
-          each-append (Given ByListing) ofScene (10 ∷ []) (all-of-scene ByListing (λ r s h g.
-          (s, [], heldOf s [], listedOf s [], is-listed s [], answers s .listing [] _ _ (is-listed s []) .scene r h .1 g))) (
-            (
-              Room (length (listingIn (viewOf base))),
-              refl,
-              (
-                base,
-                [],
-                heldOf base [],
-                listedOf base [],
-                is-listed base [],
-                answers base .listing [] _ _ (is-listed base []) .room (length (listingIn (viewOf base))) .1 (keeps, refl, omega (arith, not-empty)),
-              ),
-            ),
-            tt,
-          );
-      part = all-of-scene ByPart (λ r s h g. (s, 0, [], partHeld s, partOf s, is-part s, answers s .part 0 [] _ _ (is-part s) .scene r h .1 g));
-    }
+pub gives : {Q : List ℕ → Refusal → Type 0} (own : List ℕ) → ((r : Refusal) (s : List ℕ) → OfScene (numberOf r) → Grounds limits s r → Q s r) →
+    Each (Given Q) own → ((s : List ℕ) (r : Refusal) → Q s r → Some (λ n. numberOf r ≡ n) (ofScene ++ own)) → Gives own Q
+gives {Q} own h e n = record { no-other = n; each = each-append (Given Q) ofScene own (all-of-scene Q h) e }
