@@ -36,7 +36,8 @@ use Rattle.kernel.proofs.verdict.verdict_of.Reads as verdict
 use Rattle.kernel.proofs.lists.listing.Reads as listing
 use Rattle.kernel.proofs.lists.listing_part.Reads as listing-part
 use Rattle.kernel.proofs.facts.survey.Reads as survey
-use Rattle.demands.specs.Surveys.{AreWords, are-words}
+use Rattle.demands.specs.Words.{AreWords}
+use Rattle.demands.specs.ExactVerdict.{are-words}
 use Rattle.demands.specs.Said.{Said}
 
 pub judge-is : (κs a r e : _) → judge.Post κs a r e → r ≡ judged (now (a .0))

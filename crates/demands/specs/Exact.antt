@@ -32,7 +32,7 @@ use Rattle.questions.specs.declared.Enclosing.the-variants as enclosing
 use Rattle.questions.specs.declared.Verdict.the-variants as verdict
 use Rattle.questions.specs.declared.Listed.{Listed}
 use Rattle.questions.specs.declared.Listed.the-variants as listed
-use Rattle.demands.specs.Words.{VertexOfA, VertexOfB, Vertex, farPoint, FaceOfA, FaceOfB, EdgeOfA, EdgeOfB, Pierces, Enclosed}
+use Rattle.demands.specs.Words.{VertexOfA, VertexOfB, Vertex, farPoint, FaceOfA, FaceOfB, Edge, Pierces, Enclosed}
 use Rattle.demands.specs.Words.{FourPoints, TwoAlike, EdgeAndFace, AlikeOrCorner, EdgeAndSolid, AlikeOrVertex}
 
 -- ---- an order of numbers in a row: by the first in which they differ
@@ -58,11 +58,12 @@ module _ (s : List ℕ) where
   -- ---- the listing: "every pierced pair once", "Edges of A with faces of B first, then edges of B with faces of A; by lower point, then higher point,
   -- then face"
 
-  -- an edge of a solid and a face of the other that it pierces
+  -- an edge of the solid with the faces Own, and a face of the other that it pierces
+  abbrev pub Crossing : (Own Other : ℕ → Type 0) → Hit → Type 0
+  Crossing Own Other h = Edge s Own (h .low) (h .high) × Other (h .face) × Pierces s (h .low) (h .high) (h .face)
+
   abbrev pub PiercedPair : Hit → Type 0
-  PiercedPair h =
-      (EdgeOfA s (h .low) (h .high) × FaceOfB s (h .face) × Pierces s (h .low) (h .high) (h .face))
-      ⊎ (EdgeOfB s (h .low) (h .high) × FaceOfA s (h .face) × Pierces s (h .low) (h .high) (h .face))
+  PiercedPair h = Crossing (FaceOfA s) (FaceOfB s) h ⊎ Crossing (FaceOfB s) (FaceOfA s) h
 
   -- the solid of a vertex: 1 is A, 2 is B
   abbrev pub solidOf : ℕ → ℕ
@@ -94,9 +95,8 @@ module _ (s : List ℕ) where
     pub pierced : PiercedPair h
     pub none-earlier : (k : Hit) → PiercedPair k → ¬ Before k h
 
-  pub record NonePierced : Type 0 where
-    pub edges-of-a : (u v f : ℕ) → EdgeOfA s u v → FaceOfB s f → ¬ Pierces s u v f
-    pub edges-of-b : (u v f : ℕ) → EdgeOfB s u v → FaceOfA s f → ¬ Pierces s u v f
+  abbrev pub NonePierced : Type 0
+  NonePierced = (h : Hit) → ¬ PiercedPair h
 
   abbrev pub NoneEnclosed : (ℕ → Type 0) → Type 0
   NoneEnclosed Of = (i : ℕ) → Of i → ¬ Enclosed s i

@@ -24,8 +24,8 @@ use Rattle.listing.specs.Hits.{Seen, Hit, faceHits, edgeHits, pairHits, pairsAt
 use Rattle.listing.specs.Pour.{three}
 use Rattle.scene.specs.View.{viewOf, solidA, solidB, solid}
 use Rattle.questions.specs.Answers.{listingIn, seen}
-use Rattle.demands.specs.Words.{FaceOfA, FaceOfB, EdgeOfA, EdgeOfB, Pierces}
-use Rattle.demands.specs.Exact.{Rising, PiercedPair, solidOf, Before, ListingIs}
+use Rattle.demands.specs.Words.{FaceOfA, FaceOfB}
+use Rattle.demands.specs.Exact.{Rising, Crossing, PiercedPair, solidOf, Before, ListingIs}
 use Rattle.demands.specs.ExactRuns.{some-append, some-upTo, some-only, some-run, rising-append, rising-map, rising-once}
 use Rattle.demands.specs.ExactListing.{less-never, Lower, solid-each, solid-rises}
 
@@ -128,7 +128,7 @@ module _ (s : List ℕ) where
   corners-b ok f a b = face-of-b limits s ok f a b
 
   module _ (h : Hit) where
-    hit-of-a : IsHit (seen (viewOf s)) (solidA (viewOf s)) h ↔ (EdgeOfA s (h .low) (h .high) × FaceOfB s (h .face) × Pierces s (h .low) (h .high) (h .face))
+    hit-of-a : IsHit (seen (viewOf s)) (solidA (viewOf s)) h ↔ Crossing s (FaceOfA s) (FaceOfB s) h
     hit-of-a = (
       λ p.
           let o = p .on in
@@ -145,7 +145,7 @@ module _ (s : List ℕ) where
       },
     )
 
-    hit-of-b : IsHit (seen (viewOf s)) (solidB (viewOf s)) h ↔ (EdgeOfB s (h .low) (h .high) × FaceOfA s (h .face) × Pierces s (h .low) (h .high) (h .face))
+    hit-of-b : IsHit (seen (viewOf s)) (solidB (viewOf s)) h ↔ Crossing s (FaceOfB s) (FaceOfA s) h
     hit-of-b = (
       λ p.
           let o = p .on in

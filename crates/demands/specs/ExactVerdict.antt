@@ -11,6 +11,7 @@ use borrow.Author.Tests.{le-leb, lt-leb}
 use Rattle.laws.specs.Range.{fold, over, lowestOf}
 use Rattle.laws.specs.Walk.{First}
 use Rattle.laws.specs.Lists.{Some}
+use Rattle.laws.specs.Mask.{maskOf, mask-lt, mask-test}
 use Rattle.scene.specs.Records.{vertsA, vertsB, verts}
 use Rattle.judge.specs.Judge.{judged}
 use Rattle.judge.specs.declared.Judged.the-variants.{Accepted, Refused}
@@ -22,9 +23,10 @@ use Rattle.listing.specs.Pour.{three}
 use Rattle.listing.specs.declared.find.Found.the-variants.{Nothing, Pair}
 use Rattle.scene.specs.View.{viewOf, solidA, solidB, solid}
 use Rattle.questions.specs.Answers.{maskIn, isEnclosed, enclosureIn, verdictIn, otherSolid, listingIn, seen}
+use Rattle.spread.specs.Walk.{insideWord}
 use Rattle.questions.specs.declared.Verdict.{Verdict}
 use Rattle.questions.specs.declared.Verdict.the-variants as verdict
-use Rattle.demands.specs.Words.{VertexOfA, VertexOfB, Enclosed}
+use Rattle.demands.specs.Words.{VertexOfA, VertexOfB, Enclosed, IsWord, AreWords}
 use Rattle.demands.specs.Exact.{Rising, PiercedPair, solidOf, Before, FirstPair, NonePierced, NoneEnclosed, LowestEnclosed}
 use Rattle.demands.specs.ExactRuns.{each-of}
 use Rattle.demands.specs.ExactListing.{less-never, less-back}
@@ -73,14 +75,10 @@ module _ (s : List ℕ) where
   unfolding firstOf
   none-first [] m n = refl
   none-first (x ∷ l) m n =
-      absurd (⊎-elim (λ q. n .edges-of-a _ _ _ (q .0) (q .1) (q .2)) (λ q. n .edges-of-b _ _ _ (q .0) (q .1) (q .2)) (m .1 x .0 (inl refl)))
+      absurd (n x (m .1 x .0 (inl refl)))
 
   pair-or-none : (l : List Hit) → Lists l → ((h : Hit) × FirstPair s h) ⊎ NonePierced s
-  pair-or-none [] m =
-      inr (record {
-        edges-of-a = λ u v f e g p. m .1 (record { low = u; high = v; face = f }) .1 (inl (e, g, p));
-        edges-of-b = λ u v f e g p. m .1 (record { low = u; high = v; face = f }) .1 (inr (e, g, p));
-      })
+  pair-or-none [] m = inr (λ h p. m .1 h .1 p)
   pair-or-none (x ∷ l) m = inl (x, record { pierced = m .1 x .0 (inl refl); none-earlier = λ k p b. ⊎-elim (same k b) (later k b) (m .1 k .1 p) })
     where
       same : (k : Hit) → Before s k x → x ≡ k → ⊥
@@ -212,3 +210,22 @@ module _ (s : List ℕ) where
 
     pub verdict-iff : (v : Verdict) → (verdictIn (viewOf s) ≡ v) ↔ Says v
     verdict-iff v = (λ e. subst Says e says, given v)
+
+-- ---- the words of enclosed vertices
+
+by-bit : (s : List ℕ) {low n : ℕ} (g : ℕ → Bool) → ((j : ℕ) → j < n → g j ≡ isEnclosed (viewOf s) (low + 1 + j)) →
+    IsWord s low n (maskOf g n)
+by-bit s {low} {n} g h =
+    record {
+      small = mask-lt g n;
+      bits = λ j b. let e = mask-test g n j b ∙ h j b in (λ t. sym e ∙ t, λ t. e ∙ t);
+    }
+
+pub are-words : (s : List ℕ) {a b : ℕ} → a ≡ insideWord (seen (viewOf s)) (solid (viewOf s) 1) →
+    b ≡ insideWord (seen (viewOf s)) (solid (viewOf s) 2) → AreWords s a b
+unfolding insideWord solid
+are-words s d e =
+    let v = viewOf s in (
+      rw d (by-bit s (λ m. isInside (seen v) (solidA v) (0 + 1 + m)) (λ j b. inside-a s (0 + 1 + j) (omega arith))),
+      rw e (by-bit s (λ m. isInside (seen v) (solidB v) (vertsA s + 1 + m)) (λ j b. inside-b s (vertsA s + 1 + j) (omega arith))),
+    )

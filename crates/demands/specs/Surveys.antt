@@ -1,19 +1,15 @@
 -- The demands speak of the code (`Contracts`), of the functions too that survey a scene once and read answers off its tables: what each one's
 -- own contract says, in the words of the demands. The arguments are in the function's own order; κs are its lifetimes. Assumes nothing.
-use mathlib.Core.Path.{_≡_, refl, sym, ap, _∙_}
-use mathlib.Core.Bool.{Bool, true, cond}
+use mathlib.Core.Path.{_≡_, refl, ap, _∙_}
+use mathlib.Core.Bool.{Bool, cond}
 use mathlib.Core.List.{List}
-use mathlib.Core.Logic.{_↔_}
-use Prim.Native.Nat.{ℕ, _+_, _^_, _<_}
-use native.Mathlib.Omega.{arith}
+use Prim.Native.Nat.{ℕ}
 use lib.ListN.{length}
 use denote.Ref.{now}
-use Rattle.laws.specs.Mask.{maskOf, testBit, mask-lt, mask-test}
-use Rattle.scene.specs.Records.{vertsA, vertsB}
-use Rattle.scene.specs.View.{viewOf, solid, solidA, solidB}
+use Rattle.scene.specs.View.{viewOf, solid}
 use Rattle.judge.specs.Judge.{judged}
 use Rattle.judge.specs.declared.Judged.the-variants.{Accepted}
-use Rattle.listing.specs.Hits.{Hit, isInside}
+use Rattle.listing.specs.Hits.{Hit}
 use Rattle.listing.specs.First.{firstOf}
 use Rattle.listing.specs.Pour.{partIn}
 use Rattle.listing.specs.Poured.{poured-part}
@@ -27,7 +23,7 @@ use Rattle.survey.specs.Laws.{surveyed-pairs}
 use Rattle.survey.specs.declared.Survey.{Survey}
 use Rattle.seek.specs.Seek.{unlessPair}
 use Rattle.seek.specs.declared.Sought.{Sought}
-use Rattle.questions.specs.Answers.{seen, isEnclosed, verdictIn, verdictOf, listingIn}
+use Rattle.questions.specs.Answers.{seen, verdictIn, verdictOf, listingIn}
 use Rattle.questions.specs.Laws.{answered-so}
 use Rattle.questions.specs.Listings.{lacksRoom}
 use Rattle.readings.specs.Ready.{sound}
@@ -39,35 +35,8 @@ use Rattle.readings.proofs.sought_of.Reads as sought-of
 use Rattle.readings.proofs.verdict_by.Reads as verdict-by
 use Rattle.readings.proofs.verdict_read.Reads as verdict-read
 use Rattle.readings.proofs.pour_read.Reads as pour-read
-use Rattle.demands.specs.Words.{Enclosed}
-use Rattle.demands.specs.ExactVerdict.{inside-a, inside-b}
-
--- ---- the words of A's and of B's enclosed vertices
-
--- the word w of the n vertices above low has a bit for each, set exactly when the other solid encloses it
-pub record IsWord (s : List ℕ) (low n w : ℕ) : Type 0 where
-  pub small : w < 2 ^ n
-  pub bits : (j : ℕ) → j < n → (testBit w j ≡ true) ↔ Enclosed s (low + 1 + j)
-
-abbrev pub AreWords : List ℕ → (a b : ℕ) → Type 0
-AreWords s a b = IsWord s 0 (vertsA s) a × IsWord s (vertsA s) (vertsB s) b
-
-by-bit : (s : List ℕ) {low n : ℕ} (g : ℕ → Bool) → ((j : ℕ) → j < n → g j ≡ isEnclosed (viewOf s) (low + 1 + j)) →
-    IsWord s low n (maskOf g n)
-by-bit s {low} {n} g h =
-    record {
-      small = mask-lt g n;
-      bits = λ j b. let e = mask-test g n j b ∙ h j b in (λ t. sym e ∙ t, λ t. e ∙ t);
-    }
-
-pub are-words : (s : List ℕ) {a b : ℕ} → a ≡ insideWord (seen (viewOf s)) (solid (viewOf s) 1) →
-    b ≡ insideWord (seen (viewOf s)) (solid (viewOf s) 2) → AreWords s a b
-unfolding insideWord solid
-are-words s d e =
-    let v = viewOf s in (
-      rw d (by-bit s (λ m. isInside (seen v) (solidA v) (0 + 1 + m)) (λ j b. inside-a s (0 + 1 + j) (omega arith))),
-      rw e (by-bit s (λ m. isInside (seen v) (solidB v) (vertsA s + 1 + m)) (λ j b. inside-b s (vertsA s + 1 + j) (omega arith))),
-    )
+use Rattle.demands.specs.Words.{AreWords}
+use Rattle.demands.specs.ExactVerdict.{are-words}
 
 -- ---- `survey_of`, which leaves the tables that are lent to it
 

@@ -1,11 +1,12 @@
 -- The words of document 01 that the demands use, as facts about the numbers of a scene: its points, vertices, faces, solids and records, the edges
 -- of a solid, an edge that pierces a face, and a vertex that is enclosed. Assumes nothing.
 use mathlib.Core.Path.{_≡_}
-use mathlib.Core.Logic.{_⊎_}
+use mathlib.Core.Logic.{_⊎_, _↔_}
 use mathlib.Core.Bool.{true}
 use mathlib.Core.List.{List}
-use Prim.Native.Nat.{ℕ, _+_, _≤_, _<_}
-use Rattle.scene.specs.Records.{vertsA, facesA, verts, faces, lastRecord}
+use Prim.Native.Nat.{ℕ, _+_, _^_, _≤_, _<_}
+use Rattle.laws.specs.Mask.{testBit}
+use Rattle.scene.specs.Records.{vertsA, vertsB, facesA, verts, faces, lastRecord}
 use Rattle.scene.specs.View.{viewOf}
 use Rattle.scene.specs.Tables.{tablesOf, row, face}
 use Rattle.scene.specs.Faces.{Corner}
@@ -65,12 +66,6 @@ module _ (s : List ℕ) where
     pub lower-first : u < v
     pub on : (f : ℕ) × Face f × CornerOf u f × CornerOf v f
 
-  abbrev pub EdgeOfA : (u v : ℕ) → Type 0
-  EdgeOfA = Edge FaceOfA
-
-  abbrev pub EdgeOfB : (u v : ℕ) → Type 0
-  EdgeOfB = Edge FaceOfB
-
   -- the edge from u to v pierces the face f
   abbrev pub Pierces : (u v f : ℕ) → Type 0
   Pierces u v f = pierced farPoint (row (tablesOf s)) u v (face (tablesOf s) f) ≡ true
@@ -78,6 +73,15 @@ module _ (s : List ℕ) where
   -- the vertex i is enclosed by the other solid
   abbrev pub Enclosed : ℕ → Type 0
   Enclosed i = isEnclosed (viewOf s) i ≡ true
+
+  -- the word w of the n vertices above low has a bit for each, set exactly when the other solid encloses it
+  pub record IsWord (low n w : ℕ) : Type 0 where
+    pub small : w < 2 ^ n
+    pub bits : (j : ℕ) → j < n → (testBit w j ≡ true) ↔ Enclosed (low + 1 + j)
+
+  -- the words of A's and of B's enclosed vertices
+  abbrev pub AreWords : (a b : ℕ) → Type 0
+  AreWords a b = IsWord 0 (vertsA s) a × IsWord (vertsA s) (vertsB s) b
 
   -- ---- the numbers that a question is asked with, and those that must differ and are the same (refusals 11 and 12)
 
