@@ -32,49 +32,46 @@ Never = ⊥
 abbrev pub Always : Type 0
 Always = Unit {0}
 
+abbrev pub NoList : ℕ → Type 0
+NoList n = Never
+
 -- the numbers of a scene's own refusals
 abbrev pub OfScene : ℕ → Type 0
 OfScene n = Between 1 9 n ⊎ (n ≡ 14)
 
--- a question with numbers that the scene has (Has) or lacks, and with points that must differ and are the same (Alike) or not: 1 to 9 and 14 exactly where the
--- scene is refused so; 10 and 13 never; and, of a scene that keeps the rules, 11 where it lacks a number, and 12 where it has them all and points are the same
-pub record Refusals (s : List ℕ) (Refuses : Refusal → Type 0) (Has Alike : Type 0) : Type 0 where
+-- a question with numbers that the scene has (Has) or lacks, with points that must differ and are the same (Alike) or not, and with a lent list
+-- that may be too short for n pairs (Short n): 1 to 9 and 14 exactly where the scene is refused so; 13 never; and, of a scene that keeps the rules,
+-- 10 where the list is too short, 11 where the scene lacks a number, and 12 where it has them all and points are the same
+pub record Refusals (s : List ℕ) (Refuses : Refusal → Type 0) (Short : ℕ → Type 0) (Has Alike : Type 0) : Type 0 where
   pub scene : (r : Refusal) → OfScene (numberOf r) → Refuses r ↔ Grounds limits s r
-  pub room : (n : ℕ) → ¬ Refuses (Room n)
+  pub room : (n : ℕ) → Refuses (Room n) ↔ (FileOk limits s × Short n)
   pub buffer : (n : ℕ) → ¬ Refuses (Buffer n)
   pub lacking : Refuses Lacking ↔ (FileOk limits s × ¬ Has)
   pub same : Refuses Same ↔ (FileOk limits s × Has × Alike)
 
--- the listing, with the lent list d, afterwards d′, and the answer x: 10 of a scene that keeps the rules where d has fewer than 3 × count places; never
--- 11 to 13; a refusal of any number leaves every lent place as it was
-pub record ListingRefusals (s d d′ : List ℕ) (x : Listed) : Type 0 where
-  pub scene : (r : Refusal) → OfScene (numberOf r) → (x ≡ listed.Refused r) ↔ Grounds limits s r
-  pub room : (n : ℕ) → (x ≡ listed.Refused (Room n)) ↔ (FileOk limits s × (n ≡ length (listingIn (viewOf s))) × (length d < 3 * n))
-  pub lacking : ¬ (x ≡ listed.Refused Lacking)
-  pub same : ¬ (x ≡ listed.Refused Same)
-  pub buffer : (n : ℕ) → ¬ (x ≡ listed.Refused (Buffer n))
-  pub kept : (r : Refusal) → x ≡ listed.Refused r → d′ ≡ d
-
 pub record Answers (s : List ℕ) : Type 0 where
   -- four points, which must differ
   pub sign : (a b c d : ℕ) →
-      Refusals s (λ r. signOf s a b c d ≡ sign.Refused r) (FourPoints s a b c d) (TwoAlike a b c d)
+      Refusals s (λ r. signOf s a b c d ≡ sign.Refused r) NoList (FourPoints s a b c d) (TwoAlike a b c d)
   -- two points, which must differ, neither of them a corner of the face
   pub pierces : (u v f : ℕ) →
-      Refusals s (λ r. piercesOf s u v f ≡ answer.Refused r) (EdgeAndFace s u v f) (AlikeOrCorner s u v f)
+      Refusals s (λ r. piercesOf s u v f ≡ answer.Refused r) NoList (EdgeAndFace s u v f) (AlikeOrCorner s u v f)
   -- two points, which must differ, neither of them a vertex of the solid
   pub mask : (u v k : ℕ) →
-      Refusals s (λ r. maskedOf s u v k ≡ refused r) (EdgeAndSolid s u v k) (AlikeOrVertex s u v k)
+      Refusals s (λ r. maskedOf s u v k ≡ refused r) NoList (EdgeAndSolid s u v k) (AlikeOrVertex s u v k)
   -- a vertex, not the far point
-  pub enclosed : (i : ℕ) → Refusals s (λ r. enclosedOf s i ≡ answer.Refused r) (Vertex s i) Never
+  pub enclosed : (i : ℕ) → Refusals s (λ r. enclosedOf s i ≡ answer.Refused r) NoList (Vertex s i) Never
   -- a record; "Under refusals 1 to 9 and 11 the part shown has length 0", and under 14
-  pub record-shown : (k : ℕ) → Refusals s (λ r. refusal s k ≡ Refused r) (RecordNumber s k) Never
+  pub record-shown : (k : ℕ) → Refusals s (λ r. refusal s k ≡ Refused r) NoList (RecordNumber s k) Never
   pub shown-none : (k : ℕ) (r : Refusal) → refusal s k ≡ Refused r → shown s k ≡ []
-  pub verdict : Refusals s (λ r. verdictOf s ≡ verdict.Refused r) Always Never
-  pub counts : Refusals s (λ r. countedOf s ≡ counted.Refused r) Always Never
+  pub verdict : Refusals s (λ r. verdictOf s ≡ verdict.Refused r) NoList Always Never
+  pub counts : Refusals s (λ r. countedOf s ≡ counted.Refused r) NoList Always Never
   -- a solid
-  pub inside : (k : ℕ) → Refusals s (λ r. insideOf s k ≡ enclosing.Refused r) (SolidNumber k) Never
-  pub listing : (d d′ : List ℕ) (x : Listed) → IsListed s d d′ x → ListingRefusals s d d′ x
+  pub inside : (k : ℕ) → Refusals s (λ r. insideOf s k ≡ enclosing.Refused r) NoList (SolidNumber k) Never
+  -- the listing, with the lent list d, afterwards d′: 10 where it has fewer than 3 × count places; a refusal leaves every lent place as it was
+  pub listing : (d d′ : List ℕ) (x : Listed) → IsListed s d d′ x →
+      Refusals s (λ r. x ≡ listed.Refused r) (λ n. (n ≡ length (listingIn (viewOf s))) × (length d < 3 * n)) Always Never
+  pub listing-kept : (d d′ : List ℕ) (x : Listed) → IsListed s d d′ x → (r : Refusal) → x ≡ listed.Refused r → d′ ≡ d
   -- the listing from one of its pairs on, as far as there is room
-  pub part : (from : ℕ) (d d′ : List ℕ) (x : Listed) → IsPart s from d d′ x → Refusals s (λ r. x ≡ listed.Refused r) Always Never
+  pub part : (from : ℕ) (d d′ : List ℕ) (x : Listed) → IsPart s from d d′ x → Refusals s (λ r. x ≡ listed.Refused r) NoList Always Never
   pub part-kept : (from : ℕ) (d d′ : List ℕ) (x : Listed) → IsPart s from d d′ x → (r : Refusal) → x ≡ listed.Refused r → d′ ≡ d

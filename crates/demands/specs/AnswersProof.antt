@@ -43,7 +43,7 @@ use Rattle.questions.specs.declared.Verdict.the-variants as verdict
 use Rattle.questions.specs.declared.Listed.{Listed}
 use Rattle.questions.specs.declared.Listed.the-variants as listed
 use Rattle.demands.specs.Words.{Vertex, RecordNumber, FourPoints, TwoAlike, EdgeAndFace, AlikeOrCorner, EdgeAndSolid, AlikeOrVertex, SolidNumber}
-use Rattle.demands.specs.Answers.{Refusals, ListingRefusals, Never, Always, Answers}
+use Rattle.demands.specs.Answers.{Refusals, Never, Always, NoList, Answers}
 use Rattle.demands.specs.AnswersTests.{scene-turn, asked, plain, told, nonsense, answered-iff, twice-iff}
 use Rattle.demands.specs.AnswersTests.{points-iff, edge-iff, mask-iff, alike-points, alike-corner, alike-vertex}
 
@@ -71,31 +71,31 @@ no-alike : (true ≡ false) ↔ Never
 no-alike = (true≢false, absurd)
 
 module _ (s : List ℕ) where
-  of-sign : (a b c d : ℕ) → Refusals s (λ r. signOf s a b c d ≡ sign.Refused r) (FourPoints s a b c d) (TwoAlike a b c d)
+  of-sign : (a b c d : ℕ) → Refusals s (λ r. signOf s a b c d ≡ sign.Refused r) NoList (FourPoints s a b c d) (TwoAlike a b c d)
   unfolding signOf signIn signFault
   of-sign a b c d =
       told s (twice-iff sign.Refused (λ q r e. cc) _ (λ r e. nonsense (cc)) (judged s) (signFault (viewOf s) a b c d))
       (asked s _ _ (points-iff s a b c d) (λ h. alike-points s a b c d))
 
-  of-pierces : (u v f : ℕ) → Refusals s (λ r. piercesOf s u v f ≡ answer.Refused r) (EdgeAndFace s u v f) (AlikeOrCorner s u v f)
+  of-pierces : (u v f : ℕ) → Refusals s (λ r. piercesOf s u v f ≡ answer.Refused r) NoList (EdgeAndFace s u v f) (AlikeOrCorner s u v f)
   unfolding piercesOf piercesIn piercesFault
   of-pierces u v f = told s
       (twice-iff answer.Refused (λ q r e. cc) _ (no-refusal (pierced (verts s + 1) (row (tablesOf s)) u v (face (tablesOf s) f)))
       (judged s) (piercesFault (viewOf s) u v f))
       (asked s _ _ (edge-iff s u v f) (λ h. alike-corner s u v f))
 
-  of-mask : (u v k : ℕ) → Refusals s (λ r. maskedOf s u v k ≡ refused r) (EdgeAndSolid s u v k) (AlikeOrVertex s u v k)
+  of-mask : (u v k : ℕ) → Refusals s (λ r. maskedOf s u v k ≡ refused r) NoList (EdgeAndSolid s u v k) (AlikeOrVertex s u v k)
   unfolding maskedOf maskedIn maskFault
   of-mask u v k =
       told s (twice-iff refused (λ q r e. cc) _ (λ r e. nonsense (cc)) (judged s) (maskFault (viewOf s) u v k))
       (asked s _ _ (mask-iff s u v k) (alike-vertex s u v k))
 
-  of-enclosed : (i : ℕ) → Refusals s (λ r. enclosedOf s i ≡ answer.Refused r) (Vertex s i) Never
+  of-enclosed : (i : ℕ) → Refusals s (λ r. enclosedOf s i ≡ answer.Refused r) NoList (Vertex s i) Never
   unfolding enclosedOf enclosedIn enclosedFault isVertex rule
   of-enclosed i = told s (twice-iff answer.Refused (λ q r e. cc) _ (no-refusal (isEnclosed (viewOf s) i)) (judged s) (enclosedFault (viewOf s) i))
       (asked s (within 1 (verts s) i) true (within-iff 1 (verts s) i) (λ h. no-alike))
 
-  of-record : (k : ℕ) → Refusals s (λ r. refusal s k ≡ Refused r) (RecordNumber s k) Never
+  of-record : (k : ℕ) → Refusals s (λ r. refusal s k ≡ Refused r) NoList (RecordNumber s k) Never
   unfolding refusal rule
   of-record k = asked s (leb k (lastRecord s)) true (leb-iff k (lastRecord s)) (λ h. no-alike)
 
@@ -103,15 +103,15 @@ module _ (s : List ℕ) where
   unfolding shown ifAccepted
   none-shown k r e = rw e
 
-  of-verdict : Refusals s (λ r. verdictOf s ≡ verdict.Refused r) Always Never
+  of-verdict : Refusals s (λ r. verdictOf s ≡ verdict.Refused r) NoList Always Never
   unfolding verdictOf
   of-verdict = told s (answered-iff verdict.Refused (λ q r e. cc) _ (no-verdict s) (judged s)) (plain s)
 
-  of-counts : Refusals s (λ r. countedOf s ≡ counted.Refused r) Always Never
+  of-counts : Refusals s (λ r. countedOf s ≡ counted.Refused r) NoList Always Never
   unfolding countedOf
   of-counts = told s (answered-iff counted.Refused (λ q r e. cc) _ (λ r e. nonsense (cc)) (judged s)) (plain s)
 
-  of-inside : (k : ℕ) → Refusals s (λ r. insideOf s k ≡ enclosing.Refused r) (SolidNumber k) Never
+  of-inside : (k : ℕ) → Refusals s (λ r. insideOf s k ≡ enclosing.Refused r) NoList (SolidNumber k) Never
   unfolding insideOf enclosingIn insideFault isSolid rule
   of-inside k = told s (twice-iff enclosing.Refused (λ q r e. cc) _ (λ r e. nonsense (cc)) (judged s) (insideFault k))
       (asked s (within 1 2 k) true (within-iff 1 2 k) (λ h. no-alike))
@@ -135,36 +135,41 @@ module _ (s : List ℕ) where
           λ h. let e = h .0 in (lt-leb _ _ (rw e at (h .1)), ap Room (sym e)),
         )
 
-    of-listing : (d′ : List ℕ) (x : Listed) → IsListed s d d′ x → ListingRefusals s d d′ x
-    unfolding listedIn heldIn listFault answered
-    of-listing d′ x h =
-        record {
-          scene = λ r l. Iff·trans (at r) (Iff·trans (then-here (judged s) fits r 11
-              (gives-wider (suc (turnOf r)) 11 (omega (arith, scene-turn r l)) (omega arith) fits-gives)) (table.refused limits s r));
-          room = λ n.
-              Iff·trans (at (Room n)) (Iff·trans (then-next (judged s) fits (Room n) 1 10 (refused-by limits s) (omega arith))
-              (Iff·trans (Iff·and (accepted limits s) (room-iff n))
-              (λ k. let l = k .1 .1 in (k .0, k .1 .0, omega arith), λ k. let l = k .2 in (k .0, (k .1, omega arith)))));
-          lacking = λ e. never-by Lacking (omega arith) (at Lacking .0 e);
-          same = λ e. never-by Same (omega arith) (at Same .0 e);
-          buffer = λ n e. never-by (Buffer n) (omega arith) (at (Buffer n) .0 e);
-          kept = λ r e. h .held ∙ kept-by (at r .0 e) (allIn (listingIn (viewOf s)) d);
-        }
-      where
-        at : (r : Refusal) → (x ≡ listed.Refused r) ↔ (andThen (judged s) fits ≡ Refused r)
-        at r = rw (h .answer) (twice-iff listed.Refused (λ q r e. cc) (listed.Count count) (λ r e. nonsense (cc)) (judged s) fits r)
+    module _ (d′ : List ℕ) (x : Listed) (h : IsListed s d d′ x) where
+      at : (r : Refusal) → (x ≡ listed.Refused r) ↔ (andThen (judged s) fits ≡ Refused r)
+      unfolding listedIn listFault
+      at r = rw (h .answer) (twice-iff listed.Refused (λ q r e. cc) (listed.Count count) (λ r e. nonsense (cc)) (judged s) fits r)
 
-        never-by : (r : Refusal) → 11 < turnOf r → ¬ (andThen (judged s) fits ≡ Refused r)
-        never-by r l e = ⊎-elim (λ k. omega (arith, refused-by limits s r k)) (λ k. omega (arith, fits-gives r (k .1))) (then-refused (judged s) fits r .0 e)
+      never-by : (r : Refusal) → 11 < turnOf r → ¬ (x ≡ listed.Refused r)
+      never-by r l e =
+          ⊎-elim (λ k. omega (arith, refused-by limits s r k)) (λ k. omega (arith, fits-gives r (k .1))) (then-refused (judged s) fits r .0 (at r .0 e))
 
-        kept-by : {r : Refusal} → andThen (judged s) fits ≡ Refused r → (l : List ℕ) → answered (λ _. d) (judged s) (answered (λ _. d) fits l) ≡ d
-        kept-by e l = answered-then (λ _. d) (judged s) fits l ∙ rw e
+      of-listing : Refusals s (λ r. x ≡ listed.Refused r) (λ n. (n ≡ count) × (length d < 3 * n)) Always Never
+      of-listing =
+          record {
+            scene = λ r l. Iff·trans (at r) (Iff·trans (then-here (judged s) fits r 11
+                (gives-wider (suc (turnOf r)) 11 (omega (arith, scene-turn r l)) (omega arith) fits-gives)) (table.refused limits s r));
+            room = λ n.
+                Iff·trans (at (Room n)) (Iff·trans (then-next (judged s) fits (Room n) 1 10 (refused-by limits s) (omega arith))
+                (Iff·and (accepted limits s) (room-iff n)));
+            buffer = λ n. never-by (Buffer n) (omega arith);
+            lacking = (λ e. absurd (never-by Lacking (omega arith) e), λ h. absurd (h .1 tt));
+            same = (λ e. absurd (never-by Same (omega arith) e), λ h. absurd (h .2));
+          }
+
+      listing-kept : (r : Refusal) → x ≡ listed.Refused r → d′ ≡ d
+      unfolding heldIn listFault answered
+      listing-kept r e = h .held ∙ kept-by (at r .0 e) (allIn (listingIn (viewOf s)) d)
+        where
+          kept-by : {r : Refusal} → andThen (judged s) fits ≡ Refused r → (l : List ℕ) →
+              answered (λ _. d) (judged s) (answered (λ _. d) fits l) ≡ d
+          kept-by e l = answered-then (λ _. d) (judged s) fits l ∙ rw e
 
   module _ (from : ℕ) (d d′ : List ℕ) (x : Listed) (h : IsPart s from d d′ x) where
     part-at : (r : Refusal) → (x ≡ listed.Refused r) ↔ (judged s ≡ Refused r)
     part-at r = rw (h .answer) (answered-iff listed.Refused (λ q r e. cc) (listed.Count (length (listingIn (viewOf s)))) (λ r e. nonsense (cc)) (judged s) r)
 
-    of-part : Refusals s (λ r. x ≡ listed.Refused r) Always Never
+    of-part : Refusals s (λ r. x ≡ listed.Refused r) NoList Always Never
     of-part = told s part-at (plain s)
 
     part-kept : (r : Refusal) → x ≡ listed.Refused r → d′ ≡ d
@@ -184,6 +189,7 @@ answers s =
       counts = of-counts s;
       inside = of-inside s;
       listing = of-listing s;
+      listing-kept = listing-kept s;
       part = of-part s;
       part-kept = part-kept s;
     }

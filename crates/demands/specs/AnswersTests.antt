@@ -31,7 +31,7 @@ use Rattle.questions.specs.Answers.{answered, isPoint, isFace, other, differ, a
 use Rattle.questions.specs.Answers.{isVertexOf, edgeAndSolid, outside, refused, isSolid}
 use Rattle.demands.specs.Words.{SolidNumber, VertexOf, FourPoints, TwoAlike, EdgeAndFace, AlikeOrCorner, EdgeAndSolid, AlikeOrVertex}
 use Rattle.demands.specs.Solids.{vertex-of}
-use Rattle.demands.specs.Answers.{OfScene, Refusals, Never, Always}
+use Rattle.demands.specs.Answers.{OfScene, Refusals, Never, Always, NoList}
 
 -- a scene's own refusals come first
 pub scene-turn : (r : Refusal) → OfScene (numberOf r) → turnOf r ≤ 10
@@ -82,13 +82,16 @@ module _ (s : List ℕ) where
     alone-gives : Gives 13 13 alone
     alone-gives = gives-rule 13 13 q Same Accepted (omega arith) (gives-none 13 13)
 
-    pub asked : Refusals s (λ r. andThen (judged s) own ≡ Refused r) Has Alike
+    pub asked : Refusals s (λ r. andThen (judged s) own ≡ Refused r) NoList Has Alike
     asked =
         record {
           scene = λ r h. Iff·trans (then-here (judged s) own r 13
               (gives-wider (suc (turnOf r)) 13 (omega (arith, scene-turn r h)) (omega arith) own-gives)) (table.refused limits s r);
-          room = λ n e. ⊎-elim (λ k. omega (arith, refused-by limits s (Room n) k)) (λ k. omega (arith, own-gives (Room n) (k .1)))
-              (then-refused (judged s) own (Room n) .0 e);
+          room = λ n. (
+            λ e. ⊎-elim (λ k. absurd (omega (arith, refused-by limits s (Room n) k))) (λ k. absurd (omega (arith, own-gives (Room n) (k .1))))
+                (then-refused (judged s) own (Room n) .0 e),
+            λ h. absurd (h .1),
+          );
           buffer = λ n e. ⊎-elim (λ k. omega (arith, refused-by limits s (Buffer n) k)) (λ k. omega (arith, own-gives (Buffer n) (k .1)))
               (then-refused (judged s) own (Buffer n) .0 e);
           lacking =
@@ -118,22 +121,23 @@ module _ (s : List ℕ) where
         passes false e n = absurd (n (e .0 refl))
 
   -- no rules of its own
-  pub plain : Refusals s (λ r. judged s ≡ Refused r) Always Never
+  pub plain : Refusals s (λ r. judged s ≡ Refused r) NoList Always Never
   plain =
       record {
         scene = λ r h. table.refused limits s r;
-        room = λ n e. omega (arith, refused-by limits s (Room n) e);
+        room = λ n. (λ e. absurd (omega (arith, refused-by limits s (Room n) e)), λ h. absurd (h .1));
         buffer = λ n e. omega (arith, refused-by limits s (Buffer n) e);
         lacking = (λ e. absurd (omega (arith, refused-by limits s Lacking e)), λ h. absurd (h .1 tt));
         same = (λ e. absurd (omega (arith, refused-by limits s Same e)), λ h. absurd (h .2));
       }
 
   -- said otherwise
-  pub told : {R S : Refusal → Type 0} {Has Alike : Type 0} → ((r : Refusal) → S r ↔ R r) → Refusals s R Has Alike → Refusals s S Has Alike
+  pub told : {R S : Refusal → Type 0} {Short : ℕ → Type 0} {Has Alike : Type 0} → ((r : Refusal) → S r ↔ R r) → Refusals s R Short Has Alike →
+      Refusals s S Short Has Alike
   told e t =
       record {
         scene = λ r h. Iff·trans (e r) (t .scene r h);
-        room = λ n x. t .room n (e (Room n) .0 x);
+        room = λ n. Iff·trans (e (Room n)) (t .room n);
         buffer = λ n x. t .buffer n (e (Buffer n) .0 x);
         lacking = Iff·trans (e Lacking) (t .lacking);
         same = Iff·trans (e Same) (t .same);

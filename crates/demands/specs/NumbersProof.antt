@@ -14,7 +14,7 @@ use Rattle.scene.specs.View.{viewOf}
 use Rattle.questions.specs.Answers.{IsListed, listingIn}
 use Rattle.questions.specs.declared.Listed.{Listed}
 use Rattle.questions.specs.declared.Listed.the-variants as listed
-use Rattle.demands.specs.Answers.{Refusals}
+use Rattle.demands.specs.Answers.{Refusals, NoList}
 use Rattle.demands.specs.AnswersProof.{answers}
 use Rattle.demands.specs.Numbers.{Places, ofScene, Numbers}
 use Rattle.demands.specs.NumbersGiven.{gives, base, keeps, not-empty, heldOf, listedOf, is-listed, partHeld, partOf, is-part}
@@ -46,15 +46,15 @@ by own R buffer room lacking same Lacking e = behind own Lacking (lacking e)
 by own R buffer room lacking same Same e = behind own Same (same e)
 by own R buffer room lacking same (Buffer n) e = absurd (buffer n e)
 
-module _ {s : List ℕ} {R : Refusal → Type 0} {Has Alike : Type 0} (t : Refusals s R Has Alike) where
+module _ {s : List ℕ} {R : Refusal → Type 0} {Has Alike : Type 0} (t : Refusals s R NoList Has Alike) where
   by-both : (r : Refusal) → R r → By (11 ∷ 12 ∷ []) r
-  by-both = by (11 ∷ 12 ∷ []) R (t .buffer) (λ n e. absurd (t .room n e)) (λ e. inl refl) (λ e. inr (inl refl))
+  by-both = by (11 ∷ 12 ∷ []) R (t .buffer) (λ n e. absurd (t .room n .0 e .1)) (λ e. inl refl) (λ e. inr (inl refl))
 
   by-lacking : ¬ Alike → (r : Refusal) → R r → By (11 ∷ []) r
-  by-lacking n = by (11 ∷ []) R (t .buffer) (λ n e. absurd (t .room n e)) (λ e. inl refl) (λ e. absurd (n (t .same .0 e .2)))
+  by-lacking n = by (11 ∷ []) R (t .buffer) (λ n e. absurd (t .room n .0 e .1)) (λ e. inl refl) (λ e. absurd (n (t .same .0 e .2)))
 
   by-scene : Has → ¬ Alike → (r : Refusal) → R r → By [] r
-  by-scene h n = by [] R (t .buffer) (λ n e. absurd (t .room n e)) (λ e. absurd (t .lacking .0 e .1 h)) (λ e. absurd (n (t .same .0 e .2)))
+  by-scene h n = by [] R (t .buffer) (λ n e. absurd (t .room n .0 e .1)) (λ e. absurd (t .lacking .0 e .1 h)) (λ e. absurd (n (t .same .0 e .2)))
 
 pub numbers : Numbers
 numbers =
@@ -93,7 +93,8 @@ numbers =
           (λ r s h g. ([], heldOf s [], listedOf s [], is-listed s [], answers s .listing [] _ _ (is-listed s []) .scene r h .1 g))
           (by-room, tt) (λ s r q.
           let t = answers s .listing (q .0) (q .1) (q .2) (q .3) in
-          by (10 ∷ []) (λ r. q .2 ≡ listed.Refused r) (t .buffer) (λ n e. inl refl) (λ e. absurd (t .lacking e)) (λ e. absurd (t .same e)) r (q .4));
+          by (10 ∷ []) (λ r. q .2 ≡ listed.Refused r) (t .buffer) (λ n e. inl refl) (λ e. absurd (t .lacking .0 e .1 tt))
+          (λ e. absurd (t .same .0 e .2)) r (q .4));
       part =
           gives [] (λ r s h g. (0, [], partHeld s, partOf s, is-part s, answers s .part 0 [] _ _ (is-part s) .scene r h .1 g)) tt
           (λ s r q. by-scene (answers s .part (q .0) (q .1) (q .2) (q .3) (q .4)) tt (λ e. e) r (q .5));
@@ -102,7 +103,7 @@ numbers =
     by-room : (r : Refusal) × (numberOf r ≡ 10) × (s : List ℕ)
         × ((d : List ℕ) × (d′ : List ℕ) × (x : Listed) × IsListed s d d′ x × (x ≡ listed.Refused r))
     by-room =
-        let told = answers base .listing [] _ _ (is-listed base []) .room (length (listingIn (viewOf base))) .1 (keeps, refl, omega (arith, not-empty)) in
+        let told = answers base .listing [] _ _ (is-listed base []) .room (length (listingIn (viewOf base))) .1 (keeps, (refl, omega (arith, not-empty))) in
         (Room (length (listingIn (viewOf base))), refl, base, ([], heldOf base [], listedOf base [], is-listed base [], told))
 
 pub places : Places
