@@ -23,7 +23,9 @@ use Rattle.orient.specs.declared.Terms.{Terms}
 use Rattle.listing.specs.Hits.{Hit}
 use Rattle.listing.specs.Pour.{three, flat, partIn}
 use Rattle.scene.specs.View.{viewOf}
+use Rattle.table.specs.Table.{Entry}
 use Rattle.questions.specs.Answers.{signOf, piercesOf, verdictOf, countedOf, maskedOf, faces-are, enclosedOf, IsListed, listingIn, insideOf, IsPart}
+use Rattle.questions.specs.Answers.{maskIn}
 use Rattle.questions.specs.declared.Signed.the-variants as sign
 use Rattle.questions.specs.declared.Answer.the-variants as answer
 use Rattle.questions.specs.declared.Counts.{Counts}
@@ -156,6 +158,15 @@ module _ (s : List ℕ) where
   pub record PiercesIs (u v f : ℕ) : Type 0 where
     pub yes : (piercesOf s u v f ≡ answer.Yes) ↔ (FileOk limits s × EdgeAndFace s u v f × ¬ AlikeOrCorner s u v f × Pierces s u v f)
     pub no : (piercesOf s u v f ≡ answer.No) ↔ (FileOk limits s × EdgeAndFace s u v f × ¬ AlikeOrCorner s u v f × ¬ Pierces s u v f)
+
+-- ---- a table of edges, as a survey leaves it: the edges of the solid with the faces Own, each once, rising, with its mask against solid k
+
+abbrev pub Earlier : Entry → Entry → Type 0
+Earlier x y = Less (x .low ∷ x .high ∷ []) (y .low ∷ y .high ∷ [])
+
+pub record EdgesAre (s : List ℕ) (Own : ℕ → Type 0) (k : ℕ) (l : List Entry) : Type 0 where
+  pub rising : Rising Earlier l
+  pub members : (e : Entry) → Some (λ x. x ≡ e) l ↔ (Edge s Own (e .low) (e .high) × (e .mask ≡ maskIn (viewOf s) (e .low) (e .high) k))
 
 -- ---- the demand, of any bytes
 

@@ -30,7 +30,7 @@ use Rattle.demands.specs.ExactRuns.{some-append, some-upTo, some-only, s
 use Rattle.demands.specs.ExactListing.{less-never, Lower, solid-each, solid-rises}
 
 -- a corner of one of the solid's faces is one of its vertices
-corner-vertex : {low high i : ℕ} (f : Face) → FaceOf low high f → Corner i f → Vertex low high i
+pub corner-vertex : {low high i : ℕ} (f : Face) → FaceOf low high f → Corner i f → Vertex low high i
 corner-vertex f h (inl e) = subst (Vertex _ _) e (h .p)
 corner-vertex f h (inr (inl e)) = subst (Vertex _ _) e (h .q)
 corner-vertex f h (inr (inr e)) = subst (Vertex _ _) e (h .r)
@@ -39,10 +39,10 @@ corner-vertex f h (inr (inr e)) = subst (Vertex _ _) e (h .r)
 
 module _ (v : Seen) (k : Solid) where
   -- u and w are corners of one face of the solid
-  abbrev Joined : (u w : ℕ) → Type 0
+  abbrev pub Joined : (u w : ℕ) → Type 0
   Joined u w = (f : ℕ) × ((k .first + 1 ≤ f) × (f < k .first + 1 + k .count)) × Both u w (v .face f)
 
-  joined-iff : (u w : ℕ) → (joined (v .face) k u w ≡ true) ↔ Joined u w
+  pub joined-iff : (u w : ℕ) → (joined (v .face) k u w ≡ true) ↔ Joined u w
   unfolding joined
   joined-iff u w =
       Iff·trans (any-iff (λ f. Both u w (v .face f)) (λ f. f) _ (k .first + 1) (k .first + 1 + k .count) (k .count) (omega arith)
@@ -121,10 +121,10 @@ module _ (v : Seen) (k : Solid) where
 -- ---- of a scene
 
 module _ (s : List ℕ) where
-  corners-a : judged s ≡ Accepted → Corners (face (tablesOf s)) (solidA (viewOf s))
+  pub corners-a : judged s ≡ Accepted → Corners (face (tablesOf s)) (solidA (viewOf s))
   corners-a ok f a b = let e : 0 + vertsA s ≡ vertsA s = omega arith in rw e (face-of-a limits s ok f (omega arith) (omega arith))
 
-  corners-b : judged s ≡ Accepted → Corners (face (tablesOf s)) (solidB (viewOf s))
+  pub corners-b : judged s ≡ Accepted → Corners (face (tablesOf s)) (solidB (viewOf s))
   corners-b ok f a b = face-of-b limits s ok f a b
 
   module _ (h : Hit) where

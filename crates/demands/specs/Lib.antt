@@ -11,6 +11,7 @@ pub mod Once
 pub mod Said
 pub mod Contracts
 pub mod Surveys
+pub mod SurveysProof
 pub mod Scenes
 pub mod Computing
 pub mod Marked

@@ -16,7 +16,6 @@ use Rattle.listing.specs.Poured.{poured-part}
 use Rattle.listing.specs.declared.find.Found.{Found}
 use Rattle.listing.specs.declared.find.Found.the-variants.{Nothing, Pair}
 use Rattle.table.specs.Table.{entriesIn}
-use Rattle.table.specs.Edges.{solidEdges}
 use Rattle.spread.specs.Walk.{insideWord}
 use Rattle.survey.specs.Survey.{pairsOf}
 use Rattle.survey.specs.Laws.{surveyed-pairs}
@@ -35,16 +34,18 @@ use Rattle.readings.proofs.sought_of.Reads as sought-of
 use Rattle.readings.proofs.verdict_by.Reads as verdict-by
 use Rattle.readings.proofs.verdict_read.Reads as verdict-read
 use Rattle.readings.proofs.pour_read.Reads as pour-read
-use Rattle.demands.specs.Words.{AreWords}
+use Rattle.demands.specs.Words.{FaceOfA, FaceOfB, AreWords}
+use Rattle.demands.specs.Exact.{EdgesAre}
 use Rattle.demands.specs.ExactVerdict.{are-words}
+use Rattle.demands.specs.SurveysProof.{edges-of-a, edges-of-b}
 
 -- ---- `survey_of`, which leaves the tables that are lent to it
 
--- the words; each solid's edges with their masks; and the pairs of both tables, which are the listing
+-- the words of enclosed vertices; the edges of each solid with their masks against the other; and the pairs of both tables, which are the listing
 pub record TablesAre (s ends-a masks-a ends-b masks-b : List ℕ) (t : Survey) : Type 0 where
   pub inside : AreWords s (t .a .inside) (t .b .inside)
-  pub of-a : entriesIn ends-a masks-a (t .a .edges) ≡ solidEdges (seen (viewOf s)) (solid (viewOf s) 1)
-  pub of-b : entriesIn ends-b masks-b (t .b .edges) ≡ solidEdges (seen (viewOf s)) (solid (viewOf s) 2)
+  pub of-a : EdgesAre s (FaceOfA s) 2 (entriesIn ends-a masks-a (t .a .edges))
+  pub of-b : EdgesAre s (FaceOfB s) 1 (entriesIn ends-b masks-b (t .b .edges))
   pub pairs : pairsOf t (solid (viewOf s) 1 .other) (solid (viewOf s) 2 .other) ends-a masks-a ends-b masks-b ≡ listingIn (viewOf s)
 
 pub survey-of-is : (κs a r e : _) → survey-of.Post κs a r e → judged (now (a .1 .0)) ≡ Accepted →
@@ -55,8 +56,8 @@ survey-of-is κs a r e x ok =
     let v = viewOf s in
     record {
       inside = are-words s (x .of-a .inside) (x .of-b .inside);
-      of-a = x .of-a .edges;
-      of-b = x .of-b .edges;
+      of-a = rw (x .of-a .edges) (edges-of-a s ok);
+      of-b = rw (x .of-b .edges) (edges-of-b s ok);
       pairs = surveyed-pairs (seen v) (solid v 1) (solid v 2) r _ _ _ _ (sound s ok 1) (sound s ok 2) (x .of-a) (x .of-b);
     }
 
