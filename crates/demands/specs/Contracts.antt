@@ -2,13 +2,16 @@
 -- between arguments, answer and lent places that the function is proved to meet, is the definition that `Answers`, `Exact`, `Parity` and `Once`
 -- are about. A contract that says less does not give it. The arguments are in the function's own order; κs are its lifetimes. Assumes nothing.
 use mathlib.Core.Path.{_≡_, refl, ap, _∙_}
+use mathlib.Core.Bool.{true}
 use mathlib.Core.List.{List}
+use mathlib.Core.Logic.{_↔_}
 use Prim.Native.Nat.{ℕ}
 use lib.ListN.{length}
 use denote.Ref.{now}
 use Rattle.scene.specs.View.{viewOf}
 use Rattle.scene.specs.declared.Refusal.{Refusal}
 use Rattle.judge.specs.Judge.{judged}
+use Rattle.judge.specs.Tests.{within-iff}
 use Rattle.judge.specs.declared.Judged.{Judged}
 use Rattle.judge.specs.declared.Judged.the-variants as judgement
 use Rattle.judge.proofs.judge.Reads as judge
@@ -36,7 +39,7 @@ use Rattle.kernel.proofs.verdict.verdict_of.Reads as verdict
 use Rattle.kernel.proofs.lists.listing.Reads as listing
 use Rattle.kernel.proofs.lists.listing_part.Reads as listing-part
 use Rattle.kernel.proofs.facts.survey.Reads as survey
-use Rattle.demands.specs.Words.{AreWords}
+use Rattle.demands.specs.Words.{Point, AreWords}
 use Rattle.demands.specs.ExactVerdict.{are-words}
 use Rattle.demands.specs.Said.{Said}
 
@@ -49,8 +52,9 @@ record-refusal-is κs a r e x = x
 pub record-is : (κs a r e : _) → record-shown.Post κs a r e → now r ≡ shown (now (a .0)) (a .1 .0)
 record-is κs a r e x = x
 
-pub is-point-is : (κs a r e : _) → is-point.Post κs a r e → r ≡ isPoint (viewOf (now (a .0))) (a .1 .0)
-is-point-is κs a r e x = x
+pub is-point-is : (κs a r e : _) → is-point.Post κs a r e → (r ≡ true) ↔ Point (now (a .0)) (a .1 .0)
+unfolding isPoint
+is-point-is κs a r e x = rw x (within-iff 1 _ _)
 
 pub sign-is : (κs a r e : _) → sign.Post κs a r e → r ≡ signOf (now (a .0)) (a .1 .0) (a .1 .1 .0) (a .1 .1 .1 .0) (a .1 .1 .1 .1 .0)
 sign-is κs a r e x = x

@@ -1,9 +1,10 @@
 -- The demands speak of the code (`Contracts`), of the functions too that survey a scene once and read answers off its tables: what each one's
 -- own contract says, in the words of the demands. The arguments are in the function's own order; κs are its lifetimes. Assumes nothing.
 use mathlib.Core.Path.{_≡_, refl, ap, _∙_}
-use mathlib.Core.Bool.{Bool, cond}
+use mathlib.Core.Bool.{Bool, cond, _&&_}
 use mathlib.Core.List.{List}
-use Prim.Native.Nat.{ℕ}
+use Prim.Native.Nat.{ℕ, _/_}
+use lib.Dec.{ltb}
 use lib.ListN.{length}
 use denote.Ref.{now}
 use Rattle.scene.specs.View.{viewOf, solid}
@@ -98,12 +99,13 @@ verdict-read-is κs a r e x = asked (now (a .1 .0)) x
 
 pub record PartPoured (l : List Hit) (from : ℕ) (all : Bool) (d d′ : List ℕ) (r : ℕ) : Type 0 where
   pub count : r ≡ length l
-  pub held : d′ ≡ cond (lacksRoom all (length l) (length d)) d (partIn l from d)
+  pub held : d′ ≡ cond (all && ltb (length d / 3) (length l)) d (partIn l from d)
 
 -- the pair to start from, whether all are asked for, and the lent list are the last arguments
 pub pour-read-is : (κs a r e : _) → pour-read.Post κs a r e →
     PartPoured (listingIn (viewOf (now (a .1 .0)))) (a .1 .1 .1 .1 .1 .1 .0) (a .1 .1 .1 .1 .1 .1 .1 .0)
     (now (a .1 .1 .1 .1 .1 .1 .1 .1 .0)) (now (e .1 .1 .1 .1 .1 .1 .1 .1 .0)) r
+unfolding lacksRoom
 pour-read-is κs a r e x =
     let l = listingIn (viewOf (now (a .1 .0))) in
     let d = now (a .1 .1 .1 .1 .1 .1 .1 .1 .0) in
