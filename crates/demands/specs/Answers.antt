@@ -35,13 +35,17 @@ Always = Unit {0}
 abbrev pub NoList : ℕ → Type 0
 NoList n = Never
 
+-- the count is n, and the lent list d has fewer than 3 × n places
+abbrev pub TooShort : (s d : List ℕ) → ℕ → Type 0
+TooShort s d n = (n ≡ length (listingIn (viewOf s))) × (length d < 3 * n)
+
 -- the numbers of a scene's own refusals
 abbrev pub OfScene : ℕ → Type 0
 OfScene n = Between 1 9 n ⊎ (n ≡ 14)
 
--- a question with numbers that the scene has (Has) or lacks, with points that must differ and are the same (Alike) or not, and with a lent list
--- that may be too short for n pairs (Short n): 1 to 9 and 14 exactly where the scene is refused so; 13 never; and, of a scene that keeps the rules,
--- 10 where the list is too short, 11 where the scene lacks a number, and 12 where it has them all and points are the same
+-- a question with numbers that the scene has (Has) or lacks, with points that must differ and are the same (Alike) or not, and with a lent
+-- list that may be too short for n pairs (Short n): 1 to 9 and 14 exactly where the scene is refused so; 13 never; and, of a scene that keeps
+-- the rules, 10 where the list is too short, 11 where the scene lacks a number, and 12 where it has them all and points are the same
 pub record Refusals (s : List ℕ) (Refuses : Refusal → Type 0) (Short : ℕ → Type 0) (Has Alike : Type 0) : Type 0 where
   pub scene : (r : Refusal) → OfScene (numberOf r) → Refuses r ↔ Grounds limits s r
   pub room : (n : ℕ) → Refuses (Room n) ↔ (FileOk limits s × Short n)
@@ -68,9 +72,8 @@ pub record Answers (s : List ℕ) : Type 0 where
   pub counts : Refusals s (λ r. countedOf s ≡ counted.Refused r) NoList Always Never
   -- a solid
   pub inside : (k : ℕ) → Refusals s (λ r. insideOf s k ≡ enclosing.Refused r) NoList (SolidNumber k) Never
-  -- the listing, with the lent list d, afterwards d′: 10 where it has fewer than 3 × count places; a refusal leaves every lent place as it was
-  pub listing : (d d′ : List ℕ) (x : Listed) → IsListed s d d′ x →
-      Refusals s (λ r. x ≡ listed.Refused r) (λ n. (n ≡ length (listingIn (viewOf s))) × (length d < 3 * n)) Always Never
+  -- the listing, with the lent list d, afterwards d′; a refusal leaves every lent place as it was
+  pub listing : (d d′ : List ℕ) (x : Listed) → IsListed s d d′ x → Refusals s (λ r. x ≡ listed.Refused r) (TooShort s d) Always Never
   pub listing-kept : (d d′ : List ℕ) (x : Listed) → IsListed s d d′ x → (r : Refusal) → x ≡ listed.Refused r → d′ ≡ d
   -- the listing from one of its pairs on, as far as there is room
   pub part : (from : ℕ) (d d′ : List ℕ) (x : Listed) → IsPart s from d d′ x → Refusals s (λ r. x ≡ listed.Refused r) NoList Always Never

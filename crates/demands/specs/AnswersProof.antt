@@ -43,7 +43,7 @@ use Rattle.questions.specs.declared.Verdict.the-variants as verdict
 use Rattle.questions.specs.declared.Listed.{Listed}
 use Rattle.questions.specs.declared.Listed.the-variants as listed
 use Rattle.demands.specs.Words.{Vertex, RecordNumber, FourPoints, TwoAlike, EdgeAndFace, AlikeOrCorner, EdgeAndSolid, AlikeOrVertex, SolidNumber}
-use Rattle.demands.specs.Answers.{Refusals, Never, Always, NoList, Answers}
+use Rattle.demands.specs.Answers.{Refusals, Never, Always, NoList, TooShort, Answers}
 use Rattle.demands.specs.AnswersTests.{scene-turn, asked, plain, told, nonsense, answered-iff, twice-iff}
 use Rattle.demands.specs.AnswersTests.{points-iff, edge-iff, mask-iff, alike-points, alike-corner, alike-vertex}
 
@@ -128,7 +128,7 @@ module _ (s : List ℕ) where
     fits-gives : Gives 11 11 fits
     fits-gives = gives-rule 11 11 _ (Room count) Accepted (omega arith) (gives-none 11 11)
 
-    room-iff : (n : ℕ) → (fits ≡ Refused (Room n)) ↔ ((n ≡ count) × (length d < 3 * n))
+    room-iff : (n : ℕ) → (fits ≡ Refused (Room n)) ↔ TooShort s d n
     room-iff n =
         Iff·trans (rule-here (leb (3 * count) (length d)) (Room count) (Room n) Accepted 12 (gives-none 12 12)) (
           λ h. let e : n ≡ count = cc in (e, rw e (leb-false _ _ (h .0))),
@@ -142,9 +142,10 @@ module _ (s : List ℕ) where
 
       never-by : (r : Refusal) → 11 < turnOf r → ¬ (x ≡ listed.Refused r)
       never-by r l e =
-          ⊎-elim (λ k. omega (arith, refused-by limits s r k)) (λ k. omega (arith, fits-gives r (k .1))) (then-refused (judged s) fits r .0 (at r .0 e))
+          ⊎-elim (λ k. omega (arith, refused-by limits s r k)) (λ k. omega (arith, fits-gives r (k .1)))
+          (then-refused (judged s) fits r .0 (at r .0 e))
 
-      of-listing : Refusals s (λ r. x ≡ listed.Refused r) (λ n. (n ≡ count) × (length d < 3 * n)) Always Never
+      of-listing : Refusals s (λ r. x ≡ listed.Refused r) (TooShort s d) Always Never
       of-listing =
           record {
             scene = λ r l. Iff·trans (at r) (Iff·trans (then-here (judged s) fits r 11

@@ -88,8 +88,8 @@ module _ (s : List ℕ) where
           scene = λ r h. Iff·trans (then-here (judged s) own r 13
               (gives-wider (suc (turnOf r)) 13 (omega (arith, scene-turn r h)) (omega arith) own-gives)) (table.refused limits s r);
           room = λ n. (
-            λ e. ⊎-elim (λ k. absurd (omega (arith, refused-by limits s (Room n) k))) (λ k. absurd (omega (arith, own-gives (Room n) (k .1))))
-                (then-refused (judged s) own (Room n) .0 e),
+            λ e. absurd (⊎-elim (λ k. omega (arith, refused-by limits s (Room n) k)) (λ k. omega (arith, own-gives (Room n) (k .1)))
+                (then-refused (judged s) own (Room n) .0 e)),
             λ h. absurd (h .1),
           );
           buffer = λ n e. ⊎-elim (λ k. omega (arith, refused-by limits s (Buffer n) k)) (λ k. omega (arith, own-gives (Buffer n) (k .1)))
@@ -132,8 +132,8 @@ module _ (s : List ℕ) where
       }
 
   -- said otherwise
-  pub told : {R S : Refusal → Type 0} {Short : ℕ → Type 0} {Has Alike : Type 0} → ((r : Refusal) → S r ↔ R r) → Refusals s R Short Has Alike →
-      Refusals s S Short Has Alike
+  pub told : {R S : Refusal → Type 0} {Short : ℕ → Type 0} {Has Alike : Type 0} → ((r : Refusal) → S r ↔ R r) →
+      Refusals s R Short Has Alike → Refusals s S Short Has Alike
   told e t =
       record {
         scene = λ r h. Iff·trans (e r) (t .scene r h);

@@ -29,8 +29,8 @@ Own own r = Some (λ n. numberOf r ≡ n) own
 behind : (own : List ℕ) (r : Refusal) → Own own r → By own r
 behind own r h = inr (inr (inr (inr (inr (inr (inr (inr (inr (inr h)))))))))
 
-by : (own : List ℕ) (R : Refusal → Type 0) → ((n : ℕ) → ¬ R (Buffer n)) → ((n : ℕ) → R (Room n) → Own own (Room n)) → (R Lacking → Own own Lacking) →
-    (R Same → Own own Same) → (r : Refusal) → R r → By own r
+by : (own : List ℕ) (R : Refusal → Type 0) → ((n : ℕ) → ¬ R (Buffer n)) → ((n : ℕ) → R (Room n) → Own own (Room n)) →
+    (R Lacking → Own own Lacking) → (R Same → Own own Same) → (r : Refusal) → R r → By own r
 by own R buffer room lacking same Opening e = inl refl
 by own R buffer room lacking same Counts e = inr (inl refl)
 by own R buffer room lacking same Length e = inr (inr (inl refl))
@@ -54,7 +54,8 @@ module _ {s : List ℕ} {R : Refusal → Type 0} {Has Alike : Type 0} (t : Refus
   by-lacking n = by (11 ∷ []) R (t .buffer) (λ n e. absurd (t .room n .0 e .1)) (λ e. inl refl) (λ e. absurd (n (t .same .0 e .2)))
 
   by-scene : Has → ¬ Alike → (r : Refusal) → R r → By [] r
-  by-scene h n = by [] R (t .buffer) (λ n e. absurd (t .room n .0 e .1)) (λ e. absurd (t .lacking .0 e .1 h)) (λ e. absurd (n (t .same .0 e .2)))
+  by-scene h n =
+      by [] R (t .buffer) (λ n e. absurd (t .room n .0 e .1)) (λ e. absurd (t .lacking .0 e .1 h)) (λ e. absurd (n (t .same .0 e .2)))
 
 pub numbers : Numbers
 numbers =
@@ -103,8 +104,9 @@ numbers =
     by-room : (r : Refusal) × (numberOf r ≡ 10) × (s : List ℕ)
         × ((d : List ℕ) × (d′ : List ℕ) × (x : Listed) × IsListed s d d′ x × (x ≡ listed.Refused r))
     by-room =
-        let told = answers base .listing [] _ _ (is-listed base []) .room (length (listingIn (viewOf base))) .1 (keeps, (refl, omega (arith, not-empty))) in
-        (Room (length (listingIn (viewOf base))), refl, base, ([], heldOf base [], listedOf base [], is-listed base [], told))
+        let n = length (listingIn (viewOf base)) in
+        let told = answers base .listing [] _ _ (is-listed base []) .room n .1 (keeps, (refl, omega (arith, not-empty))) in
+        (Room n, refl, base, ([], heldOf base [], listedOf base [], is-listed base [], told))
 
 pub places : Places
 places = record { room = λ n. refl; lacking = refl; same = refl }

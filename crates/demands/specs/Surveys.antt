@@ -1,5 +1,5 @@
--- The demands speak of the code (`Contracts`), of the functions too that survey a scene once and read answers off its tables: what each one's
--- own contract says, in the words of the demands. The arguments are in the function's own order; κs are its lifetimes. Assumes nothing.
+-- The demands speak of the code (`Contracts`), of the functions too that survey a scene once and read answers off its tables: what each
+-- one's own contract says, in the demands' words. The arguments are in the function's own order; κs are its lifetimes. Assumes nothing.
 use mathlib.Core.Path.{_≡_, refl, ap, _∙_}
 use mathlib.Core.Bool.{Bool, cond, _&&_}
 use mathlib.Core.List.{List}
@@ -42,7 +42,7 @@ use Rattle.demands.specs.SurveysProof.{edges-of-a, edges-of-b}
 
 -- ---- `survey_of`, which leaves the tables that are lent to it
 
--- the words of enclosed vertices; the edges of each solid with their masks against the other; and the pairs of both tables, which are the listing
+-- the words of enclosed vertices; the edges of each solid with their masks against the other; and the pairs of both, which are the listing
 pub record TablesAre (s ends-a masks-a ends-b masks-b : List ℕ) (t : Survey) : Type 0 where
   pub inside : AreWords s (t .a .inside) (t .b .inside)
   pub of-a : EdgesAre s (FaceOfA s) 2 (entriesIn ends-a masks-a (t .a .edges))

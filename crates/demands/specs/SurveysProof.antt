@@ -140,9 +140,11 @@ module _ (s : List ℕ) where
     pub edges-of-a : EdgesAre s (FaceOfA s) 2 (solidEdges v (solid (viewOf s) 1))
     unfolding maskIn edgeMask solid
     edges-of-a =
-        edges-are (solidA (viewOf s)) 2 (λ f. (λ h. (omega arith, omega arith), λ h. (omega arith, omega arith))) (λ u w. refl) (corners-a s ok)
+        edges-are (solidA (viewOf s)) 2 (λ f. (λ h. (omega arith, omega arith), λ h. (omega arith, omega arith))) (λ u w. refl)
+        (corners-a s ok)
 
     pub edges-of-b : EdgesAre s (FaceOfB s) 1 (solidEdges v (solid (viewOf s) 2))
     unfolding maskIn edgeMask solid
     edges-of-b =
-        edges-are (solidB (viewOf s)) 1 (λ f. (λ h. (omega arith, omega arith), λ h. (omega arith, omega arith))) (λ u w. refl) (corners-b s ok)
+        edges-are (solidB (viewOf s)) 1 (λ f. (λ h. (omega arith, omega arith), λ h. (omega arith, omega arith))) (λ u w. refl)
+        (corners-b s ok)
