@@ -6,7 +6,6 @@ use mathlib.Core.Bool.{true}
 use mathlib.Core.List.{List}
 use mathlib.Core.Logic.{_↔_}
 use Prim.Native.Nat.{ℕ}
-use lib.ListN.{length}
 use denote.Ref.{now}
 use Rattle.scene.specs.View.{viewOf}
 use Rattle.scene.specs.declared.Refusal.{Refusal}
@@ -19,14 +18,14 @@ use Rattle.record.specs.Shown.{refusal, shown}
 use Rattle.record.proofs.record.Reads as record-shown
 use Rattle.record.proofs.record_refusal.Reads as record-refusal
 use Rattle.questions.specs.Answers.{answered, isPoint, signOf, piercesOf, saidMask, maskedOf, enclosedOf, countedOf}
-use Rattle.questions.specs.Answers.{insideOf, verdictIn, verdictOf, countsIn, listingIn, listedIn, heldIn, IsListed, IsPart}
+use Rattle.questions.specs.Answers.{insideOf, verdictIn, verdictOf, countsIn, listedIn, heldIn, IsListed, IsPart}
 use Rattle.readings.specs.Facts.{factsIn}
 use Rattle.questions.specs.Laws.{answered-so}
 use Rattle.questions.specs.declared.Counted.the-variants as counted
 use Rattle.questions.specs.declared.Facts.{Facts}
 use Rattle.questions.specs.declared.Surveyed.the-variants as surveyed
 use Rattle.questions.specs.declared.Listed.{Listed}
-use Rattle.questions.specs.declared.Listed.the-variants.{Refused, Count}
+use Rattle.questions.specs.declared.Listed.the-variants.{Refused}
 use Rattle.questions.specs.declared.Verdict.the-variants as verdicts
 use Rattle.kernel.proofs.points.is_point.Reads as is-point
 use Rattle.kernel.proofs.points.sign.Reads as sign

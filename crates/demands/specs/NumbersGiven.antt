@@ -14,7 +14,7 @@ use Rattle.scene.specs.Refusal.{numberOf}
 use Rattle.scene.specs.Tables.{cornerAt, row, face}
 use Rattle.scene.specs.Faces.{isCorner, hasBoth}
 use Rattle.scene.specs.declared.Refusal.{Refusal}
-use Rattle.scene.specs.declared.Refusal.the-variants.{Opening, Counts, Length, Mark, Coordinate, Weight, Corner, Unused, Edge, Room, Lacking, Same, Nowhere}
+use Rattle.scene.specs.declared.Refusal.the-variants.{Opening, Counts, Length, Mark, Coordinate, Weight, Corner, Unused, Edge, Nowhere}
 use Rattle.judge.specs.Judge.{rule, andThen, opens, countsOk, headerFault, coordinateOk, weightOk, nowhere, somewhereOk, pointFault, areCorners}
 use Rattle.judge.specs.Judge.{vertsAt, cornersOk, faceFault, endFault, recordFault, recordsFault, isCornerOf, isEdge, isUsed, unusedFault}
 use Rattle.judge.specs.Judge.{unusedsFault, edgeOk, sidesOk, closedAt, edgeFault, edgesFault, judgedAt, judged}
