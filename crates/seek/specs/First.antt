@@ -1,20 +1,22 @@
--- The pairs of a solid's edges, vertex by vertex and edge by edge, and the first of them; and a solid none of whose edges pierces. Assumes nothing.
+-- The pairs of a solid's edges, vertex by vertex and edge by edge, and the first of them. Assumes nothing.
 use mathlib.Core.Path.{_≡_, refl, sym, ap, _∙_}
-use mathlib.Core.List.{List, _++_}
-use Prim.Native.Nat.{ℕ, _+_, _-_, _^_, _<_}
+use mathlib.Core.List.{List, [], _++_}
+use Prim.Native.Nat.{ℕ, _+_, _-_, _^_, _≤_, _<_}
+use native.Mathlib.Nat.{lt-of-le-of-lt}
+use native.Mathlib.Omega.{arith}
 use lib.Bits.{bitAnd}
 use lib.Count.{trailingZeros}
+use Rattle.links.specs.Bits.{word-first}
 use Rattle.scene.specs.declared.Solid.{Solid}
-use Rattle.listing.specs.Hits.{Seen, Hit, Sound, upTo, solidHits}
-use Rattle.listing.specs.First.{firstOf}
+use Rattle.listing.specs.Hits.{Seen, Hit, Own, Sound, upTo, solidHits}
+use Rattle.listing.specs.First.{firstOf, first-left, first-right, first-found, first-end}
 use Rattle.listing.specs.declared.find.Found.{Found}
 use Rattle.listing.specs.declared.find.Found.the-variants.{Nothing, Pair}
 use Rattle.table.specs.Table.{Entry, entryHits, each}
 use Rattle.table.specs.Runs.{each-upTo}
-use Rattle.table.specs.Edges.{entry, bitEdges, vertexEdges, solidEdges}
+use Rattle.table.specs.Edges.{Higher, entry, bitEdges, vertexEdges, solidEdges}
 use Rattle.table.specs.Order.{edges-hits}
 use Rattle.edge_masks.specs.Store.{edges-turn, edges-none}
-use Rattle.listing.specs.First.{first-left, first-right}
 
 module _ (s : Seen) (k : Solid) where
   -- the pairs of the edges l
@@ -25,14 +27,30 @@ module _ (s : Seen) (k : Solid) where
   abbrev pub hitsTo : ℕ → List Hit
   hitsTo = upTo (λ i. hitsOf (vertexEdges s k (k .low + 1 + i)))
 
-  pub hits-all : Sound s k → hitsTo (k .verts) ≡ solidHits s k
+  hits-all : Sound s k → hitsTo (k .verts) ≡ solidHits s k
   unfolding solidEdges
   hits-all sound = sym (each-upTo (entryHits (k .other)) (λ i. vertexEdges s k (k .low + 1 + i)) (k .verts)) ∙ edges-hits s k sound
+
+  -- the first of a vertex's pairs, where those before it have none; and none up to the last
+  module _ (sound : Sound s k) where
+    pub all-found : (i : ℕ) {o : Found} {a b f : ℕ} → i < k .verts → [] ≡ hitsTo i →
+        o ≡ firstOf (hitsOf (vertexEdges s k (k .low + 1 + i))) → o ≡ Pair a b f → Pair a b f ≡ firstOf (solidHits s k)
+    all-found i h e p q = first-found _ i (k .verts) h e p q ∙ ap firstOf (hits-all sound)
+
+    pub all-end : {i : ℕ} → i ≤ k .verts → k .verts ≤ i → [] ≡ hitsTo i → Nothing ≡ firstOf (solidHits s k)
+    all-end a b e = first-end _ a b e ∙ ap firstOf (hits-all sound)
 
   -- ---- along the bits of a word: what is left has the first of all
 
   abbrev pub Left : (u w : ℕ) → Type 0
   Left u w = firstOf (hitsOf (bitEdges s k u w)) ≡ firstOf (hitsOf (vertexEdges s k u))
+
+  -- the lowest bit is a vertex
+  pub left-own : (u w : ℕ) {h : ℕ} → Sound s k → Own s k u → Higher s k u h → w ≤ h → 0 < w → Own s k (u + 1 + trailingZeros 64 w)
+  left-own u w sound own high l some =
+      let n : k .low + k .verts - u ≤ 64 = omega (arith, sound .vertices .0) in
+      let t = word-first 64 (k .low + k .verts - u) n (lt-of-le-of-lt l (high .small)) some .below in
+      (omega arith, omega (arith, t))
 
   module _ (u w : ℕ) {v : ℕ} {o : Found} (some : 0 < w) (small : w < 2 ^ 64) (is-v : v ≡ u + 1 + trailingZeros 64 w)
       (is-o : o ≡ firstOf (entryHits (k .other) (entry s k u v))) (left : Left u w) where

@@ -1,3 +1,4 @@
 pub mod First
+pub mod Look
 pub mod Seek
 pub mod Still

@@ -1,17 +1,14 @@
 -- The first pair of both solids, and where there is none what is enclosed. Assumes nothing.
-use mathlib.Core.Path.{_≡_, refl, sym, ap, _∙_}
+use mathlib.Core.Path.{_≡_, refl, sym, _∙_}
 use mathlib.Core.List.{List, [], _++_}
-use Prim.Native.Nat.{ℕ, _+_, _-_, _≤_}
-use native.Mathlib.Omega.{arith}
+use Prim.Native.Nat.{ℕ}
 use Rattle.scene.specs.declared.Solid.{Solid}
-use Rattle.listing.specs.Hits.{Seen, Hit, Sound, solidHits}
-use Rattle.listing.specs.First.{firstOf, empty-next, first-start}
+use Rattle.listing.specs.Hits.{Seen, Hit, solidHits}
+use Rattle.listing.specs.First.{firstOf, empty-next, first-left, first-right}
 use Rattle.listing.specs.declared.find.Found.{Found}
 use Rattle.listing.specs.declared.find.Found.the-variants.{Nothing, Pair}
-use Rattle.table.specs.Runs.{upTo-join}
 use Rattle.spread.specs.Walk.{insideWord}
-use Rattle.seek.specs.First.{hitsTo, hits-all}
-use Rattle.listing.specs.First.{first-left, first-right}
+use Rattle.seek.specs.Look.{Glimpsed, glimpsed-pair}
 use Rattle.seek.specs.declared.Sought.{Sought}
 
 -- a word is told where there is no pair, and is 0 where there is one
@@ -31,13 +28,6 @@ crossedBy u v f = record { first = Pair u v f; a = 0; b = 0 }
 pub none-first : (l : List Hit) {o : Found} → o ≡ firstOf l → o ≡ Nothing → [] ≡ l
 none-first l p q = empty-next {l = []} l refl p q
 
-module _ (s : Seen) (k : Solid) where
-  pub none-begun : [] ≡ hitsTo s k 0
-  none-begun = first-start _
-
-  pub first-all : Sound s k → {o : Found} → o ≡ firstOf (hitsTo s k (k .verts)) → o ≡ firstOf (solidHits s k)
-  first-all sound e = e ∙ ap firstOf (hits-all s k sound)
-
 module _ (s : Seen) (a b : Solid) {r : Sought} {x : Found} {u v f : ℕ} (pair : x ≡ Pair u v f) (is-r : r ≡ crossedBy u v f) where
   sought-pair : Pair u v f ≡ firstOf (solidHits s a ++ solidHits s b) → IsSought s a b r
   sought-pair e = rw is-r (record { first = e; a-inside = refl; b-inside = refl })
@@ -45,17 +35,15 @@ module _ (s : Seen) (a b : Solid) {r : Sought} {x : Found} {u v f : ℕ} (pair :
   pub sought-in-a : x ≡ firstOf (solidHits s a) → IsSought s a b r
   sought-in-a e = sought-pair (first-left (solidHits s a) (solidHits s b) e pair)
 
-  -- found among A's first m vertices
-  pub sought-early : Sound s a → (m : ℕ) → m ≤ a .verts → x ≡ firstOf (hitsTo s a m) → IsSought s a b r
-  sought-early sound m h e =
-      let d : m + (a .verts - m) ≡ a .verts = omega arith in
-      sought-in-a (pair ∙ first-left (hitsTo s a m) _ e pair ∙ ap firstOf (sym (upTo-join _ m (a .verts - m)) ∙ ap (hitsTo s a) d ∙ hits-all s a sound))
+  pub sought-early : Glimpsed (solidHits s a) x → IsSought s a b r
+  sought-early g = sought-in-a (glimpsed-pair (solidHits s a) x pair g)
 
   pub sought-in-b : {y : Found} → y ≡ firstOf (solidHits s a) → y ≡ Nothing → x ≡ firstOf (solidHits s b) → IsSought s a b r
   sought-in-b of-a none-a e = sought-pair (first-right (solidHits s a) (solidHits s b) of-a none-a (sym pair ∙ e))
 
-pub sought-none : (s : Seen) (a b : Solid) {x y : Found} {p q : ℕ} → x ≡ firstOf (solidHits s a) → x ≡ Nothing → y ≡ firstOf (solidHits s b) → y ≡ Nothing →
-    p ≡ insideWord s a → q ≡ insideWord s b → IsSought s a b (record { first = Nothing; a = p; b = q })
+pub sought-none : (s : Seen) (a b : Solid) {x y : Found} {p q : ℕ} → x ≡ firstOf (solidHits s a) → x ≡ Nothing →
+    y ≡ firstOf (solidHits s b) → y ≡ Nothing → p ≡ insideWord s a → q ≡ insideWord s b →
+    IsSought s a b (record { first = Nothing; a = p; b = q })
 sought-none s a b of-a none-a of-b none-b e f = record {
   first = first-right (solidHits s a) (solidHits s b) of-a none-a (sym none-b ∙ of-b);
   a-inside = e;

@@ -58,7 +58,9 @@ module _ (s : Seen) (k : Solid) (none : [] ≡ solidHits s k) where
 
   mask-zero : (u v : ℕ) → [] ≡ edgeHits s k u v → edgeMask s k u v ≡ 0
   unfolding edgeHits faceHits edgeMask
-  mask-zero u v e = mask-none _ (k .others) (λ i b. passed-none (pierced (s .points) (s .row) u v (s .face (k .other + 1 + i))) _ (part _ (k .others) i b e))
+  mask-zero u v e =
+      mask-none _ (k .others)
+      (λ i b. passed-none (pierced (s .points) (s .row) u v (s .face (k .other + 1 + i))) _ (part _ (k .others) i b e))
 
   even : (u v : ℕ) → Own s k u → Own s k v → u < v → joined (s .face) k u v ≡ true → isOdd (edgeMask s k u v) ≡ false
   unfolding isOdd ones

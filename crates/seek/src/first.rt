@@ -1,15 +1,13 @@
 // The first pierced pair of a solid's edges, asked one after another: nothing behind it is asked.
 ghost use mathlib.Core.Path.{_≡_};
-ghost use mathlib.Core.List.{[]};
-ghost use Prim.Native.Nat.{_+_, _≤_, _<_};
-ghost use Rattle.table.specs.Edges.{Within, AreLinks, Higher, entry, vertexEdges};
+ghost use Prim.Native.Nat.{_+_, _<_};
+ghost use Rattle.table.specs.Edges.{AreLinks, Higher, entry, vertexEdges};
 ghost use Rattle.sides.specs.Lent.{Told};
 ghost use Rattle.narrow.specs.Lent.{Parted};
 ghost use Rattle.listing.specs.First.{firstOf};
-ghost use Rattle.listing.specs.Hits.{seenIn, Sound};
+ghost use Rattle.listing.specs.Hits.{seenIn, solidHits, Sound};
 ghost use Rattle.scene.specs.Faces.{Vertex};
 ghost use Rattle.table.specs.Table.{entryHits, each};
-ghost use Rattle.seek.specs.First.{hitsTo};
 use edge_masks::edge_mask;
 use engine::Engine;
 use links::Words;
@@ -33,8 +31,10 @@ fn first_of_edge(
     u: usize,
     v: usize,
 ) -> Found
-    requires solid { ⌜ Sound (seenIn n (now rows) (now corners)) k × Vertex (k .low) (k .low + k .verts) u × Vertex (k .low) (k .low + k .verts) v × (u < v) ⌝ }
-    requires sides { ⌜ Told (seenIn n (now rows) (now corners)) k (now words) × Parted (seenIn n (now rows) (now corners)) k (now own) (now cuts) ⌝ }
+    requires solid { ⌜ Sound (seenIn n (now rows) (now corners)) k ⌝ }
+    requires edge { ⌜ Vertex (k .low) (k .low + k .verts) u × Vertex (k .low) (k .low + k .verts) v × (u < v) ⌝ }
+    requires sides { ⌜ Told (seenIn n (now rows) (now corners)) k (now words)
+        × Parted (seenIn n (now rows) (now corners)) k (now own) (now cuts) ⌝ }
     ensures { λ r. ⌜ r ≡ firstOf (entryHits (k .other) (entry (seenIn n (now (rows .entry)) (now (corners .entry))) k u v)) ⌝ }
 {
     let m = edge_mask(engine, rows, corners, n, k, words, own, cuts, u, v);
@@ -56,7 +56,8 @@ fn first_of_vertex(
 ) -> Found
     requires solid { ⌜ Sound (seenIn n (now rows) (now corners)) k × Vertex (k .low) (k .low + k .verts) u
         × Higher (seenIn n (now rows) (now corners)) k u higher ⌝ }
-    requires sides { ⌜ Told (seenIn n (now rows) (now corners)) k (now words) × Parted (seenIn n (now rows) (now corners)) k (now own) (now cuts) ⌝ }
+    requires sides { ⌜ Told (seenIn n (now rows) (now corners)) k (now words)
+        × Parted (seenIn n (now rows) (now corners)) k (now own) (now cuts) ⌝ }
     ensures { λ r. ⌜ r ≡ firstOf (each (entryHits (k .other)) (vertexEdges (seenIn n (now (rows .entry)) (now (corners .entry))) k u)) ⌝ }
 {
     let mut left = higher;
@@ -71,7 +72,7 @@ fn first_of_vertex(
     Found::Nothing
 }
 
-// Of the edges from the solid's first `upto` vertices, where those from the first `from` of them pierce nothing.
+// Of all edges of the solid.
 pub fn first_of(
     engine: Engine,
     rows: &Rows,
@@ -82,17 +83,16 @@ pub fn first_of(
     words: &sides::words::Words,
     own: &sides::words::Words,
     cuts: &Cuts,
-    from: usize,
-    upto: usize,
 ) -> Found
-    requires solid { ⌜ Within (seenIn n (now rows) (now corners)) k × AreLinks (seenIn n (now rows) (now corners)) k (now links) ⌝ }
-    requires sides { ⌜ Told (seenIn n (now rows) (now corners)) k (now words) × Parted (seenIn n (now rows) (now corners)) k (now own) (now cuts) ⌝ }
-    requires range { ⌜ (from ≤ upto) × (upto ≤ k .verts) × ([] ≡ hitsTo (seenIn n (now rows) (now corners)) k from) ⌝ }
-    ensures { λ r. ⌜ r ≡ firstOf (hitsTo (seenIn n (now (rows .entry)) (now (corners .entry))) k upto) ⌝ }
+    requires solid { ⌜ Sound (seenIn n (now rows) (now corners)) k × AreLinks (seenIn n (now rows) (now corners)) k (now links) ⌝ }
+    requires sides { ⌜ Told (seenIn n (now rows) (now corners)) k (now words)
+        × Parted (seenIn n (now rows) (now corners)) k (now own) (now cuts) ⌝ }
+    ensures { λ r. ⌜ r ≡ firstOf (solidHits (seenIn n (now (rows .entry)) (now (corners .entry))) k) ⌝ }
 {
     let low = k.low;
-    let mut i = from;
-    while i < upto {
+    let verts = k.verts;
+    let mut i: usize = 0;
+    while i < verts {
         let u = low + 1 + i;
         let higher = links[u] >> (i + 1);
         let found = first_of_vertex(engine, rows, corners, n, k, words, own, cuts, u, higher);

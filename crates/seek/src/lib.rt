@@ -1,20 +1,16 @@
-// The first pierced pair of a scene, and where there is none the words of enclosed vertices: all that a verdict asks. No table of edges is made.
+// The first pierced pair of a scene, and where there is none the words of enclosed vertices: all that a verdict asks. No table of edges is
+// made.
 ghost use mathlib.Core.Path.{_≡_};
 ghost use mathlib.Core.List.{[]};
-ghost use Prim.Native.Nat.{_+_, _≤_};
 ghost use Rattle.table.specs.Edges.{AreLinks};
 ghost use Rattle.sides.specs.Lent.{Told};
-ghost use Rattle.narrow.specs.Lent.{Parted};
-ghost use Rattle.listing.specs.First.{firstOf};
 ghost use Rattle.listing.specs.Hits.{seenIn, solidHits};
-ghost use Rattle.scene.specs.Limits.{limits, mostPoints};
 ghost use Rattle.spread.specs.Ready.{Ready};
 ghost use Rattle.spread.specs.Walk.{insideWord};
-ghost use Rattle.seek.specs.First.{hitsTo};
-ghost use Rattle.told.specs.Parted.{BothBlank};
 ghost use Rattle.seek.specs.Seek.{IsSought, crossedBy};
 ghost use Rattle.told.specs.Told.{Begun};
 use crate::first::first_of;
+use crate::look::look;
 use engine::Engine;
 use links::WORDS;
 use links::Words;
@@ -32,6 +28,7 @@ use told::tell_parts;
 use told::tell_sides;
 
 mod first;
+mod look;
 
 // The first pair; where there is none, the words of A's vertices that B encloses and of B's that A does.
 pub struct Sought {
@@ -48,61 +45,6 @@ fn crossed(u: usize, v: usize, f: usize) -> Sought
         a: 0,
         b: 0,
     }
-}
-
-// A vertex that is joined with so many, itself among them, is not looked at first.
-const MANY: u32 = 10;
-
-// How many vertices are looked at first, before anything is told of the other solid: two, unless many edges meet in one of them.
-fn looked(links: &Words, low: usize, verts: usize) -> usize
-    requires { ⌜ low + verts ≤ mostPoints limits ⌝ }
-    ensures { λ r. ⌜ r ≤ verts ⌝ }
-{
-    if verts < 2 {
-        return 0;
-    }
-    if u64::count_ones(links[low + 1]) > MANY {
-        return 0;
-    }
-    if u64::count_ones(links[low + 2]) > MANY {
-        return 0;
-    }
-    2
-}
-
-// Of all edges, where those from the first `from` vertices pierce nothing.
-fn first_from(
-    engine: Engine,
-    rows: &Rows,
-    corners: &Corners,
-    n: usize,
-    k: Solid,
-    links: &Words,
-    words: &sides::words::Words,
-    own: &sides::words::Words,
-    cuts: &Cuts,
-    from: usize,
-) -> Found
-    requires solid { ⌜ Ready (seenIn n (now rows) (now corners)) k × AreLinks (seenIn n (now rows) (now corners)) k (now links) ⌝ }
-    requires sides { ⌜ Told (seenIn n (now rows) (now corners)) k (now words)
-        × Parted (seenIn n (now rows) (now corners)) k (now own) (now cuts) ⌝ }
-    requires none { ⌜ (from ≤ k .verts) × ([] ≡ hitsTo (seenIn n (now rows) (now corners)) k from) ⌝ }
-    ensures { λ r. ⌜ r ≡ firstOf (solidHits (seenIn n (now (rows .entry)) (now (corners .entry))) k) ⌝ }
-{
-    let verts = k.verts;
-    first_of(
-        engine,
-        rows,
-        corners,
-        n,
-        k,
-        links,
-        words,
-        own,
-        cuts,
-        from,
-        verts,
-    )
 }
 
 // The word of the enclosed vertices of a solid none of whose edges pierces: no edge is odd.
@@ -124,50 +66,8 @@ fn inside_still(
     enclosed_word(engine, rows, corners, n, k, links, &odds, words)
 }
 
-// The rest, where the edges from A's first `from` vertices pierce nothing; own and cuts are empty where A and B look.
-fn seek_rest(
-    engine: Engine,
-    rows: &Rows,
-    corners: &Corners,
-    n: usize,
-    a: Solid,
-    b: Solid,
-    planes: &Planes,
-    links: &Words,
-    words: &sides::words::Words,
-    own: &mut sides::words::Words,
-    cuts: &mut Cuts,
-    from: usize,
-) -> Sought
-    requires begun { ⌜ Begun (seenIn n (now rows) (now corners)) a b (now planes) (now links) (now words) ⌝ }
-    requires empty { ⌜ BothBlank (seenIn n (now rows) (now corners)) a b (now own) (now cuts) ⌝ }
-    requires none { ⌜ (from ≤ a .verts) × ([] ≡ hitsTo (seenIn n (now rows) (now corners)) a from) ⌝ }
-    ensures { λ r. ⌜ IsSought (seenIn n (now (rows .entry)) (now (corners .entry))) a b r ⌝ }
-{
-    let mut others: sides::words::Words = [0; 2 * (Scene::MOST_POINTS + 1)];
-    let mut blinks: Words = [0; WORDS];
-    tell_sides(rows, corners, planes, n, b, &mut others);
-    tell_parts(corners, a, b, &others, own, cuts);
-    let of_a = first_from(engine, rows, corners, n, a, links, words, own, cuts, from);
-    if let Found::Pair(u, v, f) = of_a {
-        return crossed(u, v, f);
-    }
-    fill_links(corners, b, &mut blinks);
-    tell_parts(corners, b, a, words, own, cuts);
-    let of_b = first_from(engine, rows, corners, n, b, &blinks, &others, own, cuts, 0);
-    if let Found::Pair(u, v, f) = of_b {
-        return crossed(u, v, f);
-    }
-    Sought {
-        first: Found::Nothing,
-        a: inside_still(engine, rows, corners, n, a, links, words),
-        b: inside_still(engine, rows, corners, n, b, &blinks, &others),
-    }
-}
-
-// By A's links and words. The edges from its first vertices are asked before anything is told of B: where solids cross, one of them often
-// pierces.
-fn seek_begun(
+// By A's links and words: all edges.
+fn seek_told(
     engine: Engine,
     rows: &Rows,
     corners: &Corners,
@@ -181,39 +81,43 @@ fn seek_begun(
     requires { ⌜ Begun (seenIn n (now rows) (now corners)) a b (now planes) (now links) (now words) ⌝ }
     ensures { λ r. ⌜ IsSought (seenIn n (now (rows .entry)) (now (corners .entry))) a b r ⌝ }
 {
+    let mut others: sides::words::Words = [0; 2 * (Scene::MOST_POINTS + 1)];
     let mut own: sides::words::Words = [0; 2 * (Scene::MOST_POINTS + 1)];
     let mut cuts: Cuts = [0; 2 * (2 * Scene::MOST_FACES + 1)];
-    let m = looked(links, a.low, a.verts);
-    let found = first_of(engine, rows, corners, n, a, links, words, &own, &cuts, 0, m);
-    if let Found::Pair(u, v, f) = found {
+    let mut blinks: Words = [0; WORDS];
+    tell_sides(rows, corners, planes, n, b, &mut others);
+    tell_parts(corners, a, b, &others, &mut own, &mut cuts);
+    let of_a = first_of(engine, rows, corners, n, a, links, words, &own, &cuts);
+    if let Found::Pair(u, v, f) = of_a {
         return crossed(u, v, f);
     }
-    seek_rest(
-        engine,
-        rows,
-        corners,
-        n,
-        a,
-        b,
-        planes,
-        links,
-        words,
-        &mut own,
-        &mut cuts,
-        m,
-    )
+    fill_links(corners, b, &mut blinks);
+    tell_parts(corners, b, a, words, &mut own, &mut cuts);
+    let of_b = first_of(engine, rows, corners, n, b, &blinks, &others, &own, &cuts);
+    if let Found::Pair(u, v, f) = of_b {
+        return crossed(u, v, f);
+    }
+    Sought {
+        first: Found::Nothing,
+        a: inside_still(engine, rows, corners, n, a, links, words),
+        b: inside_still(engine, rows, corners, n, b, &blinks, &others),
+    }
 }
 
-// The first pair of both solids; where there is none, what is enclosed.
+// The first pair of both solids; where there is none, what is enclosed. A few edges are looked at before anything is told of the vertices.
 pub fn seek(engine: Engine, rows: &Rows, corners: &Corners, n: usize, a: Solid, b: Solid) -> Sought
     requires { ⌜ Ready (seenIn n (now rows) (now corners)) a × Ready (seenIn n (now rows) (now corners)) b ⌝ }
     ensures { λ r. ⌜ IsSought (seenIn n (now (rows .entry)) (now (corners .entry))) a b r ⌝ }
 {
     let mut planes: Planes = [0; 4 * (2 * Scene::MOST_FACES + 1)];
-    let mut words: sides::words::Words = [0; 2 * (Scene::MOST_POINTS + 1)];
     let mut links: Words = [0; WORDS];
     make_planes(rows, corners, a, b, &mut planes);
-    tell_sides(rows, corners, &planes, n, a, &mut words);
     fill_links(corners, a, &mut links);
-    seek_begun(engine, rows, corners, n, a, b, &planes, &links, &words)
+    let found = look(engine, rows, corners, n, a, &planes, &links);
+    if let Found::Pair(u, v, f) = found {
+        return crossed(u, v, f);
+    }
+    let mut words: sides::words::Words = [0; 2 * (Scene::MOST_POINTS + 1)];
+    tell_sides(rows, corners, &planes, n, a, &mut words);
+    seek_told(engine, rows, corners, n, a, b, &planes, &links, &words)
 }

@@ -1,4 +1,7 @@
--- What is at hand of A.
+-- The first look, and where it finds nothing all edges.
+use denote.Ref.{now}
+use Rattle.listing.specs.Hits.{seenIn}
+use Rattle.seek.specs.Seek.{sought-early}
 use borrow.Author.Needs.{needs}
 use Rattle.seek.proofs.seek.Statement.{statement}
 use Rattle.seek.proofs.seek.Tie as tie
@@ -6,17 +9,44 @@ use Rattle.seek.proofs.seek.Tie as tie
 make-planes-requires : tie.Need-make-planes-requires
 make-planes-requires c κs = search needs
 
-tell-sides-requires : tie.Need-tell-sides-requires
-tell-sides-requires c κs = search needs
-
 fill-links-requires : tie.Need-fill-links-requires
 fill-links-requires c κs = search needs
 
-seek-begun-requires : tie.Need-seek-begun-requires
-seek-begun-requires c κs =
-    let l = c .before .before .before in
-    let t = l .before .before in
-    let m = t .before .before .before in
+look-requires : tie.Need-look-requires
+look-requires c κs =
+    let l = c .before .before in
+    let m = l .before .before in
+    let s = m .before .before in
+    ((s .pre .0 .within .sound, m .make-planes .ensures .0), l .fill-links .ensures .own)
+
+enum-known-found : tie.Need-enum-known-found
+enum-known-found c = search needs
+
+crossed-requires : tie.Need-crossed-requires
+crossed-requires c κs = search needs
+
+returns : tie.Need-returns
+returns c =
+    let l = c .before .before .before .before in
+    let s = l .before .before .before .before .before .before .before in
+    let v = seenIn (s .args .n) (now (s .args .rows)) (now (s .args .corners)) in
+    sought-early v (s .args .a) (s .args .b) {x = l .look .result} (search needs) (c .crossed .ensures) (l .look .ensures)
+
+enum-told : tie.Need-enum-told
+enum-told c = search needs
+
+tell-sides-requires : tie.Need-tell-sides-requires
+tell-sides-requires c κs =
+    let l = c .before .before .before .before in
+    let m = l .before .before .before .before .before in
+    let s = m .before .before in
+    ((s .pre .0, search needs), m .make-planes .ensures .0)
+
+seek-told-requires : tie.Need-seek-told-requires
+seek-told-requires c κs =
+    let t = c .before .before .before in
+    let l = t .before .before .before .before .before .before .before .before in
+    let m = l .before .before in
     let s = m .before .before in
     record {
       a-ready = s .pre .0;
@@ -26,10 +56,20 @@ seek-begun-requires c κs =
       made = m .make-planes .ensures .1;
     }
 
-returns : tie.Need-returns
-returns c = search needs
+returns-2 : tie.Need-returns-2
+returns-2 c = search needs
 
 pub seek-spec : {M : Type 1} → statement M
 seek-spec =
     tie.close
-    (tie.spec make-planes-requires tell-sides-requires fill-links-requires seek-begun-requires returns)
+    (tie.spec
+    make-planes-requires
+    fill-links-requires
+    look-requires
+    enum-known-found
+    crossed-requires
+    returns
+    enum-told
+    tell-sides-requires
+    seek-told-requires
+    returns-2)

@@ -5,54 +5,55 @@ use mathlib.Core.List.{[]}
 use native.Mathlib.Omega.{arith}
 use denote.Ref.{now}
 use Rattle.table.specs.Order.{higher}
-use Rattle.listing.specs.First.{first-more, first-found, first-end}
-use Rattle.listing.specs.Hits.{seenIn}
-use Rattle.seek.specs.First.{hitsTo}
+use Rattle.listing.specs.First.{first-start, first-more}
+use Rattle.listing.specs.Hits.{seenIn, Own}
+use Rattle.seek.specs.First.{hitsTo, all-found, all-end}
 use borrow.Author.Needs.{needs}
 use Rattle.seek.proofs.first.first_of.Statement.{statement}
 use Rattle.seek.proofs.first.first_of.Tie as tie
 
 abbrev Inv-loop : tie.InvT-loop
-Inv-loop engine rows corners n k links words own cuts from upto low i₀ i = (i ≤ upto) × ([] ≡ hitsTo (seenIn n rows corners) k i)
+Inv-loop engine rows corners n k links words own cuts low verts i₀ i = (i ≤ verts) × ([] ≡ hitsTo (seenIn n rows corners) k i)
 
 abbrev μ-loop : tie.MeasureT-loop
-μ-loop engine rows corners n k links words own cuts from upto low i₀ i = upto - i
+μ-loop engine rows corners n k links words own cuts low verts i₀ i = verts - i
 
 loop-holds : tie.Need-loop-holds Inv-loop μ-loop
-loop-holds c = (omega arith, c .pre .1 .1 .2)
+loop-holds c = (omega arith, first-start _)
 
 add-u : tie.Need-add-u Inv-loop μ-loop
 add-u c = search needs
 
 add-u-2 : tie.Need-add-u-2 Inv-loop μ-loop
-add-u-2 c = omega (arith, c .before .before .pre .0 .0 .sound .vertices .1)
+add-u-2 c = omega (arith, c .before .before .pre .0 .0 .vertices .1)
 
 mul-higher : tie.Need-mul-higher Inv-loop μ-loop
-mul-higher c = omega (arith, c .before .before .pre .0 .0 .sound .vertices .1)
+mul-higher c = omega (arith, c .before .before .pre .0 .0 .vertices .1)
 
 element-copy-out-higher : tie.Need-element-copy-out-higher Inv-loop μ-loop
-element-copy-out-higher c = omega (arith, c .before .before .pre .0 .0 .sound .vertices .1)
+element-copy-out-higher c = omega (arith, c .before .before .pre .0 .0 .vertices .1)
 
 add-higher : tie.Need-add-higher Inv-loop μ-loop
 add-higher c = search needs
 
 shr-higher : tie.Need-shr-higher Inv-loop μ-loop
-shr-higher c = omega (arith, c .before .before .before .pre .0 .0 .sound .vertices .0)
+shr-higher c = omega (arith, c .before .before .before .pre .0 .0 .vertices .0)
 
 first-of-vertex-requires : tie.Need-first-of-vertex-requires Inv-loop μ-loop
 first-of-vertex-requires c κs =
     let l = c .before .before in
     let s = l .before in
     let v = seenIn (s .args .n) (now (s .args .rows)) (now (s .args .corners)) in
-    let o = s .pre .0 .0 .sound in
+    let o = s .pre .0 .0 in
     let i = l .loop .i in
-    ((o, (omega arith, omega arith), higher v (s .args .k) o i (omega arith) (s .pre .0 .1 (s .args .k .low + 1 + i) (omega arith, omega arith))), s .pre .1 .0)
+    let own : Own v (s .args .k) (s .args .k .low + 1 + i) = (omega arith, omega arith) in
+    ((o, own, higher v (s .args .k) o i (omega arith) (s .pre .0 .1 _ own)), s .pre .1)
 
 enum-known-found : tie.Need-enum-known-found Inv-loop μ-loop
 enum-known-found c = search needs
 
 returns : tie.Need-returns Inv-loop μ-loop
-returns c = search first-found
+returns c = search all-found
 
 enum-told : tie.Need-enum-told Inv-loop μ-loop
 enum-told c = search needs
@@ -67,7 +68,7 @@ loop-again : tie.Need-loop-again Inv-loop μ-loop
 loop-again c = (omega arith, search first-more)
 
 returns-2 : tie.Need-returns-2 Inv-loop μ-loop
-returns-2 c = first-end _ (c .before .loop .inv .0) (c .loop-test .left) (c .before .loop .inv .1)
+returns-2 c = search all-end
 
 pub first-of-spec : {M : Type 1} → statement M
 first-of-spec =

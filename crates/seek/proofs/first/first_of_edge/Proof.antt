@@ -4,15 +4,17 @@ use mathlib.Core.Path.{ap, _∙_}
 use native.Mathlib.Omega.{arith}
 use Rattle.listing.specs.First.{firstOf}
 use Rattle.table.specs.Table.{entryHits}
-use borrow.Author.Needs.{needs}
 use Rattle.seek.proofs.first.first_of_edge.Statement.{statement}
 use Rattle.seek.proofs.first.first_of_edge.Tie as tie
 
 edge-mask-requires : tie.Need-edge-mask-requires
-edge-mask-requires c κs = search needs
+edge-mask-requires c κs =
+    let p = c .pre in
+    let e = p .1 .0 in
+    ((p .0, e .0, e .1, e .2), p .1 .1)
 
 first-of-mask-requires : tie.Need-first-of-mask-requires
-first-of-mask-requires c κs = omega (arith, c .before .pre .0 .0 .other .0)
+first-of-mask-requires c κs = omega (arith, c .before .pre .0 .other .0)
 
 returns : tie.Need-returns
 returns c =

@@ -1,6 +1,5 @@
 -- What is left has the first of all: the edge of the lowest bit, or one behind it.
-use Prim.Native.Nat.{_+_, _-_, _^_, _≤_, _<_}
-use native.Mathlib.Nat.{lt-of-le-of-lt}
+use Prim.Native.Nat.{_-_, _^_, _≤_, _<_}
 use native.Mathlib.Omega.{arith}
 use mathlib.Core.Path.{refl, ap}
 use mathlib.Core.List.{List}
@@ -8,17 +7,17 @@ use denote.Ref.{now}
 use lib.Bits.{and-le-r}
 use lib.Count.{trailing-le}
 use Rattle.laws.specs.Walk.{walk-less}
-use Rattle.links.specs.Bits.{word-first}
 use Rattle.listing.specs.Hits.{seenIn}
 use Rattle.listing.specs.First.{firstOf}
 use Rattle.table.specs.Table.{Entry}
-use Rattle.seek.specs.First.{hitsOf, Left, left-found, left-more, left-end}
+use Rattle.seek.specs.First.{hitsOf, Left, left-own, left-found, left-more, left-end}
 use borrow.Author.Needs.{needs}
 use Rattle.seek.proofs.first.first_of_vertex.Statement.{statement}
 use Rattle.seek.proofs.first.first_of_vertex.Tie as tie
 
 abbrev Inv-loop : tie.InvT-loop
-Inv-loop engine rows corners n k words own cuts u higher left₀ left = (left < 2 ^ 64) × (left ≤ higher) × Left (seenIn n rows corners) k u left
+Inv-loop engine rows corners n k words own cuts u higher left₀ left =
+    (left < 2 ^ 64) × (left ≤ higher) × Left (seenIn n rows corners) k u left
 
 abbrev μ-loop : tie.MeasureT-loop
 μ-loop engine rows corners n k words own cuts u higher left₀ left = left
@@ -40,12 +39,12 @@ add-v-2 c = omega (arith, trailing-le 64 (c .before .loop .left), c .before .bef
 
 first-of-edge-requires : tie.Need-first-of-edge-requires Inv-loop μ-loop
 first-of-edge-requires c κs =
-    let l = c .before .loop in
-    let p = c .before .before .pre .0 in
-    let k = c .before .before .args .k in
-    let t = word-first 64 (k .low + k .verts - c .before .before .args .u) (omega (arith, p .0 .vertices .0))
-    (lt-of-le-of-lt (l .inv .1) (p .2 .small)) (omega arith) .below in
-    ((p .0, p .1, (omega arith, omega (arith, t)), omega arith), c .before .before .pre .1)
+    let l = c .before in
+    let s = l .before in
+    let v = seenIn (s .args .n) (now (s .args .rows)) (now (s .args .corners)) in
+    let p = s .pre .0 in
+    let t = left-own v (s .args .k) (s .args .u) (l .loop .left) (p .0) (p .1) (p .2) (l .loop .inv .1) (omega arith) in
+    (p .0, ((p .1, t, omega arith), s .pre .1))
 
 enum-known-found : tie.Need-enum-known-found Inv-loop μ-loop
 enum-known-found c = search needs
@@ -56,7 +55,9 @@ returns c =
     let l = f .before .before in
     let s = l .before in
     let v = seenIn (s .args .n) (now (s .args .rows)) (now (s .args .corners)) in
-    search (left-found v (s .args .k) (s .args .u) (l .loop .left) (omega arith) (l .loop .inv .0) refl (f .first-of-edge .ensures) (l .loop .inv .2))
+    search
+    (left-found v (s .args .k) (s .args .u) (l .loop .left) (omega arith) (l .loop .inv .0) refl (f .first-of-edge .ensures)
+    (l .loop .inv .2))
 
 enum-told : tie.Need-enum-told Inv-loop μ-loop
 enum-told c = search needs
@@ -75,7 +76,9 @@ loop-again c =
     let v = seenIn (s .args .n) (now (s .args .rows)) (now (s .args .corners)) in (
       omega (arith, and-le-r (l .loop .left) (l .loop .left - 1)),
       omega (arith, and-le-r (l .loop .left) (l .loop .left - 1)),
-      search (left-more v (s .args .k) (s .args .u) (l .loop .left) (omega arith) (l .loop .inv .0) refl (f .first-of-edge .ensures) (l .loop .inv .2)),
+      search
+          (left-more v (s .args .k) (s .args .u) (l .loop .left) (omega arith) (l .loop .inv .0) refl (f .first-of-edge .ensures)
+          (l .loop .inv .2)),
     )
 
 returns-2 : tie.Need-returns-2 Inv-loop μ-loop

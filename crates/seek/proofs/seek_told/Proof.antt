@@ -1,12 +1,11 @@
--- A's other edges, then B's; where none pierces no edge is odd.
-use native.Mathlib.Omega.{arith}
+-- A's edges, then B's; where none pierces no edge is odd.
 use denote.Ref.{now}
 use Rattle.listing.specs.Hits.{seenIn, solidHits}
-use Rattle.told.specs.Parted.{parts-asked, parts-told, blank-told}
-use Rattle.seek.specs.Seek.{none-first, none-begun, sought-in-a, sought-in-b, sought-none}
+use Rattle.told.specs.Parted.{blank-new, parts-asked, parts-told, blank-told}
+use Rattle.seek.specs.Seek.{none-first, sought-in-a, sought-in-b, sought-none}
 use borrow.Author.Needs.{needs}
-use Rattle.seek.proofs.seek_rest.Statement.{statement}
-use Rattle.seek.proofs.seek_rest.Tie as tie
+use Rattle.seek.proofs.seek_told.Statement.{statement}
+use Rattle.seek.proofs.seek_told.Tie as tie
 
 tell-sides-requires : tie.Need-tell-sides-requires
 tell-sides-requires c κs = search needs
@@ -14,24 +13,19 @@ tell-sides-requires c κs = search needs
 tell-parts-requires : tie.Need-tell-parts-requires
 tell-parts-requires c κs =
     let s = c .before .before .before .before .before in
-    parts-asked _ (s .args .a) (s .pre .0 .a-ready)
+    parts-asked _ (s .args .a) (s .pre .a-ready)
 
-first-from-requires : tie.Need-first-from-requires
-first-from-requires c κs =
+first-of-requires : tie.Need-first-of-requires
+first-of-requires c κs =
     let p = c .before .before in
     let t = p .before .before .before .before in
     let s = t .before .before in
     let v = seenIn (s .args .n) (now (s .args .rows)) (now (s .args .corners)) in
-    let b = s .pre .0 in
-    let e = p .tell-parts .ensures in (
-      (b .a-ready, b .linked),
-      (
-        (
-          b .told,
-          parts-told v (s .args .a) (s .args .b) (b .a-ready) (b .b-ready) (t .tell-sides .ensures) (e .0) (e .1) (s .pre .1 .0 .0),
-        ),
-        s .pre .1 .1,
-      ),
+    let b = s .pre in
+    let e = p .tell-parts .ensures in
+    let z = blank-new v (s .args .a) in (
+      (b .a-ready .within .sound, b .linked),
+      (b .told, parts-told v (s .args .a) (s .args .b) (b .a-ready) (b .b-ready) (t .tell-sides .ensures) (e .0) (e .1) z),
     )
 
 enum-known-of-a : tie.Need-enum-known-of-a
@@ -50,32 +44,30 @@ fill-links-requires : tie.Need-fill-links-requires
 fill-links-requires c κs =
     let n = c .before in
     let s = n .before .before .before .before .before .before .before .before .before .before .before in
-    let o = s .pre .0 .b-ready .within .sound in
+    let o = s .pre .b-ready .within .sound in
     ((o .corners, o .own), (search needs, o .vertices .0, o .vertices .1))
 
 tell-parts-requires-2 : tie.Need-tell-parts-requires-2
 tell-parts-requires-2 c κs =
     let l = c .before .before in
     let s = l .before .before .before .before .before .before .before .before .before .before .before .before .before in
-    parts-asked _ (s .args .b) (s .pre .0 .b-ready)
+    parts-asked _ (s .args .b) (s .pre .b-ready)
 
-first-from-requires-2 : tie.Need-first-from-requires-2
-first-from-requires-2 c κs =
+first-of-requires-2 : tie.Need-first-of-requires-2
+first-of-requires-2 c κs =
     let q = c .before .before .before .before in
     let l = q .before .before .before in
     let p = l .before .before .before .before .before .before .before in
     let t = p .before .before .before .before in
     let s = t .before .before in
     let v = seenIn (s .args .n) (now (s .args .rows)) (now (s .args .corners)) in
-    let b = s .pre .0 in
+    let b = s .pre in
     let e = p .tell-parts .ensures in
     let f = q .tell-parts2 .ensures in
-    let z = blank-told v (s .args .a) (s .args .b) (b .a-ready) (b .b-ready) (t .tell-sides .ensures) (e .0) (e .1) (s .pre .1 .0 .1) in (
-      (b .b-ready, l .fill-links .ensures .own),
-      (
-        (t .tell-sides .ensures, parts-told v (s .args .b) (s .args .a) (b .b-ready) (b .a-ready) (b .told) (f .0) (f .1) z),
-        (omega arith, none-begun _ _),
-      ),
+    let n = blank-new v (s .args .b) in
+    let z = blank-told v (s .args .a) (s .args .b) (b .a-ready) (b .b-ready) (t .tell-sides .ensures) (e .0) (e .1) n in (
+      (b .b-ready .within .sound, l .fill-links .ensures .own),
+      (t .tell-sides .ensures, parts-told v (s .args .b) (s .args .a) (b .b-ready) (b .a-ready) (b .told) (f .0) (f .1) z),
     )
 
 enum-known-of-b : tie.Need-enum-known-of-b
@@ -97,8 +89,8 @@ inside-still-requires c κs =
     let n = l .before .before in
     let s = n .before .before .before .before .before .before .before .before .before .before .before in
     let v = seenIn (s .args .n) (now (s .args .rows)) (now (s .args .corners)) in (
-      (s .pre .0 .a-ready, s .pre .0 .linked),
-      (s .pre .0 .told, none-first (solidHits v (s .args .a)) (n .before .before .first-from .ensures) (n .enum-told .given .1)),
+      (s .pre .a-ready, s .pre .linked),
+      (s .pre .told, none-first (solidHits v (s .args .a)) (n .before .before .first-of .ensures) (n .enum-told .given .1)),
     )
 
 inside-still-requires-2 : tie.Need-inside-still-requires-2
@@ -109,8 +101,8 @@ inside-still-requires-2 c κs =
     let t = l .before .before .before .before .before .before .before .before .before .before .before in
     let s = t .before .before in
     let v = seenIn (s .args .n) (now (s .args .rows)) (now (s .args .corners)) in (
-      (s .pre .0 .b-ready, l .fill-links .ensures .own),
-      (t .tell-sides .ensures, none-first (solidHits v (s .args .b)) (f .first-from2 .ensures) (n .enum-told2 .given .1)),
+      (s .pre .b-ready, l .fill-links .ensures .own),
+      (t .tell-sides .ensures, none-first (solidHits v (s .args .b)) (f .first-of2 .ensures) (n .enum-told2 .given .1)),
     )
 
 returns-3 : tie.Need-returns-3
@@ -120,23 +112,23 @@ returns-3 c =
     let m = n .before .before .before .before .before .before .before .before .before .before .before .before in
     let s = m .before .before .before .before .before .before .before .before .before .before .before in
     let v = seenIn (s .args .n) (now (s .args .rows)) (now (s .args .corners)) in
-    sought-none v (s .args .a) (s .args .b) (m .before .before .first-from .ensures) (m .enum-told .given .1)
-    (n .before .before .first-from2 .ensures) (n .enum-told2 .given .1) (i .inside-still .ensures) (c .inside-still2 .ensures)
+    sought-none v (s .args .a) (s .args .b) (m .before .before .first-of .ensures) (m .enum-told .given .1)
+    (n .before .before .first-of2 .ensures) (n .enum-told2 .given .1) (i .inside-still .ensures) (c .inside-still2 .ensures)
 
-pub seek-rest-spec : {M : Type 1} → statement M
-seek-rest-spec =
+pub seek-told-spec : {M : Type 1} → statement M
+seek-told-spec =
     tie.close
     (tie.spec
     tell-sides-requires
     tell-parts-requires
-    first-from-requires
+    first-of-requires
     enum-known-of-a
     crossed-requires
     returns
     enum-told
     fill-links-requires
     tell-parts-requires-2
-    first-from-requires-2
+    first-of-requires-2
     enum-known-of-b
     crossed-requires-2
     returns-2

@@ -1,0 +1,108 @@
+// A first look: a few edges of a solid, asked before the sides of its vertices are told into a table. Where solids cross, one of them often
+// pierces.
+ghost use mathlib.Core.Path.{_≡_};
+ghost use Prim.Native.Nat.{_+_, _<_};
+ghost use Rattle.listing.specs.First.{firstOf};
+ghost use Rattle.listing.specs.Hits.{seenIn, solidHits, Sound};
+ghost use Rattle.scene.specs.Arrays.{rowIn, faceIn};
+ghost use Rattle.scene.specs.Faces.{Vertex};
+ghost use Rattle.seek.specs.First.{hitsOf};
+ghost use Rattle.seek.specs.Look.{Glimpsed};
+ghost use Rattle.sides.specs.Sides.{sidesOf};
+ghost use Rattle.table.specs.Edges.{AreLinks, Higher, entry, vertexEdges};
+ghost use Rattle.table.specs.Table.{entryHits};
+ghost use Rattle.told.specs.Told.{Made};
+use engine::Engine;
+use face_masks::Mask;
+use links::Words;
+use listing::find::Found;
+use scene::Corners;
+use scene::Rows;
+use scene::Solid;
+use sides::between;
+use sides::planes::Planes;
+use sides::words::sides;
+use table::first::first_of_mask;
+
+// How many edges are looked at: they are asked in vain where solids are apart or nested.
+const LOOKED: usize = 6;
+
+// The first pair of the edge u, v, by the sides m of u; those of v are told on the spot.
+fn look_at(
+    engine: Engine,
+    rows: &Rows,
+    corners: &Corners,
+    n: usize,
+    k: Solid,
+    planes: &Planes,
+    u: usize,
+    m: Mask,
+    v: usize,
+) -> Found
+    requires solid { ⌜ Sound (seenIn n (now rows) (now corners)) k × Made (rowIn (now rows)) (faceIn (now corners)) k (now planes) ⌝ }
+    requires edge { ⌜ Vertex (k .low) (k .low + k .verts) u × Vertex (k .low) (k .low + k .verts) v × (u < v) ⌝ }
+    requires sides { ⌜ m ≡ sidesOf (rowIn (now rows)) (faceIn (now corners)) (k .other) (k .others) u ⌝ }
+    ensures { λ r. ⌜ r ≡ firstOf (entryHits (k .other) (entry (seenIn n (now (rows .entry)) (now (corners .entry))) k u v)) ⌝ }
+{
+    let w = sides(rows, corners, planes, k.other, k.others, v);
+    let x = between(engine, rows, corners, n, u, v, k.other, k.others, m, w);
+    first_of_mask(u, v, x, k.other)
+}
+
+// Of the edges from u to its lowest higher neighbours.
+fn look_from(
+    engine: Engine,
+    rows: &Rows,
+    corners: &Corners,
+    n: usize,
+    k: Solid,
+    planes: &Planes,
+    u: usize,
+    m: Mask,
+    higher: u64,
+) -> Found
+    requires solid { ⌜ Sound (seenIn n (now rows) (now corners)) k × Made (rowIn (now rows)) (faceIn (now corners)) k (now planes) ⌝ }
+    requires vertex { ⌜ Vertex (k .low) (k .low + k .verts) u × Higher (seenIn n (now rows) (now corners)) k u higher ⌝ }
+    requires sides { ⌜ m ≡ sidesOf (rowIn (now rows)) (faceIn (now corners)) (k .other) (k .others) u ⌝ }
+    ensures { λ r. ⌜ Glimpsed (hitsOf (seenIn n (now (rows .entry)) (now (corners .entry))) k
+        (vertexEdges (seenIn n (now (rows .entry)) (now (corners .entry))) k u)) r ⌝ }
+{
+    let mut left = higher;
+    let mut i: usize = 0;
+    while i < LOOKED {
+        if left == 0 {
+            return Found::Nothing;
+        }
+        let v = u + 1 + u64::trailing_zeros(left) as usize;
+        let found = look_at(engine, rows, corners, n, k, planes, u, m, v);
+        if let Found::Pair(a, b, f) = found {
+            return Found::Pair(a, b, f);
+        }
+        left = left & (left - 1);
+        i += 1;
+    }
+    Found::Nothing
+}
+
+// Of the edges from the solid's first vertex. A pair that is found is the first of all; nothing found says nothing.
+pub fn look(
+    engine: Engine,
+    rows: &Rows,
+    corners: &Corners,
+    n: usize,
+    k: Solid,
+    planes: &Planes,
+    links: &Words,
+) -> Found
+    requires solid { ⌜ Sound (seenIn n (now rows) (now corners)) k × Made (rowIn (now rows)) (faceIn (now corners)) k (now planes) ⌝ }
+    requires links { ⌜ AreLinks (seenIn n (now rows) (now corners)) k (now links) ⌝ }
+    ensures { λ r. ⌜ Glimpsed (solidHits (seenIn n (now (rows .entry)) (now (corners .entry))) k) r ⌝ }
+{
+    if k.verts == 0 {
+        return Found::Nothing;
+    }
+    let u = k.low + 1;
+    let m = sides(rows, corners, planes, k.other, k.others, u);
+    let higher = links[u] >> 1;
+    look_from(engine, rows, corners, n, k, planes, u, m, higher)
+}
