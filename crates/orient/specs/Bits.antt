@@ -64,7 +64,7 @@ module _ {p q r : Row} (f : RowFits p) (g : RowFits q) (h : RowFits r) where
 
 -- ---- the fields of two lines, six at a time to `three`
 
-abbrev SixFit : ℤ → ℤ → ℤ → ℤ → ℤ → ℤ → Type 0
+abbrev pub SixFit : ℤ → ℤ → ℤ → ℤ → ℤ → ℤ → Type 0
 SixFit a b c d e f = SFits w64 a × SFits w64 b × SFits w64 c × SFits w64 d × SFits w64 e × SFits w64 f
 
 six-read : {X : Type 0} {a b c d e f : ℤ} (F : ℤ → ℤ → ℤ → ℤ → ℤ → ℤ → X) → SixFit a b c d e f →
@@ -79,14 +79,17 @@ pub record LineFits (l : Line) : Type 0 where
   pub yw : SFits w64 (l .yw)
   pub zw : SFits w64 (l .zw)
 
-abbrev Asks : ℤ → ℤ → ℤ → ℤ → ℤ → ℤ → Type 0
+abbrev pub Asks : ℤ → ℤ → ℤ → ℤ → ℤ → ℤ → Type 0
 Asks a b c d e f = threeSize (reread a) (reread b) (reread c) (reread d) (reread e) (reread f) ≤ mostFormed
 
-abbrev Gives : ℤ → ℤ → ℤ → ℤ → ℤ → ℤ → ℤ → Type 0
+abbrev pub Gives : ℤ → ℤ → ℤ → ℤ → ℤ → ℤ → ℤ → Type 0
 Gives r a b c d e f = r ≡ threeOf (reread a) (reread b) (reread c) (reread d) (reread e) (reread f)
 
-three-ask : {a b c d e f : ℤ} → SixFit a b c d e f → threeSize a b c d e f ≤ mostFormed → Asks a b c d e f
+pub three-ask : {a b c d e f : ℤ} → SixFit a b c d e f → threeSize a b c d e f ≤ mostFormed → Asks a b c d e f
 three-ask six h = subst (λ (n : ℕ). n ≤ mostFormed) (sym (six-read threeSize six)) h
+
+pub three-got : {r a b c d e f : ℤ} → SixFit a b c d e f → mag r < 2 ^ 63 → Gives r a b c d e f → reread r ≡ threeOf a b c d e f
+three-got six ok g = called ok (g ∙ six-read threeOf six)
 
 three-held : {r a b c d e f : ℤ} → SixFit a b c d e f → threeSize a b c d e f ≤ mostFormed → Gives r a b c d e f →
     Held (threeSize a b c d e f) r (threeOf a b c d e f)

@@ -88,15 +88,15 @@ two-of-four : (A B C D : ℕ) → 1 ≤ C → 1 ≤ D → A * B + B * A ≤ 24 *
 two-of-four A B C D c d =
     let h : A * B * 1 ≤ A * B * (C * D) = mul-le-mul-left (A * B) (mul-le-mul c d) in omega arith
 
-record LineSize (X Y Z W : ℕ) (l : Line) : Type 0 where
-  xy : Small (X * Y + Y * X) (l .xy)
-  xz : Small (X * Z + Z * X) (l .xz)
-  xw : Small (X * W + W * X) (l .xw)
-  yz : Small (Y * Z + Z * Y) (l .yz)
-  yw : Small (Y * W + W * Y) (l .yw)
-  zw : Small (Z * W + W * Z) (l .zw)
+pub record LineSize (X Y Z W : ℕ) (l : Line) : Type 0 where
+  pub xy : Small (X * Y + Y * X) (l .xy)
+  pub xz : Small (X * Z + Z * X) (l .xz)
+  pub xw : Small (X * W + W * X) (l .xw)
+  pub yz : Small (Y * Z + Z * Y) (l .yz)
+  pub yw : Small (Y * W + W * Y) (l .yw)
+  pub zw : Small (Z * W + W * Z) (l .zw)
 
-join-size : {X Y Z W : ℕ} {a b : Row} → RowSize X Y Z W a → RowSize X Y Z W b → LineSize X Y Z W (joinOf a b)
+pub join-size : {X Y Z W : ℕ} {a b : Row} → RowSize X Y Z W a → RowSize X Y Z W b → LineSize X Y Z W (joinOf a b)
 join-size p q =
     record {
       xy = p .x ⊗ q .y ⊖ p .y ⊗ q .x;

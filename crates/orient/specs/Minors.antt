@@ -13,10 +13,10 @@ use Rattle.orient.specs.declared.minors.Line.{Line}
 module _ {R : Type 0} (_plus_ _minus_ _times_ : R → R → R) where
   infixl 6 _plus_ _minus_
   infixl 7 _times_
-  abbrev cross-of : R → R → R → R → R
+  abbrev pub cross-of : R → R → R → R → R
   cross-of a b c d = a times d minus b times c
 
-  abbrev three-of : R → R → R → R → R → R → R
+  abbrev pub three-of : R → R → R → R → R → R → R
   three-of a b c d e f = a times b minus c times d plus e times f
 
   abbrev by-minors : Entries R → Entries R → Entries R → Entries R → R

@@ -16,7 +16,7 @@ use crate::minors::times;
 use scene::Row;
 use scene::Rows;
 
-mod minors;
+pub mod minors;
 mod ones;
 mod slide;
 

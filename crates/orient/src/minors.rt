@@ -9,13 +9,13 @@ ghost use Rattle.orient.specs.Formed.{JoinWithin, DetWithin, TripleWithi
 use scene::Row;
 
 // The six 2×2 minors of two rows.
-struct Line {
-    xy: i64,
-    xz: i64,
-    xw: i64,
-    yz: i64,
-    yw: i64,
-    zw: i64,
+pub struct Line {
+    pub xy: i64,
+    pub xz: i64,
+    pub xw: i64,
+    pub yz: i64,
+    pub yw: i64,
+    pub zw: i64,
 }
 
 // The determinant of four rows, from the minors of the first two and of the last two.
@@ -26,7 +26,7 @@ pub fn det(a: Row, b: Row, c: Row, d: Row) -> i64
     meet(join(a, b), join(c, d))
 }
 
-fn join(a: Row, b: Row) -> Line
+pub fn join(a: Row, b: Row) -> Line
     requires { ⌜ JoinWithin mostFormed a b ⌝ }
     ensures { λ r. ⌜ r ≡ joinOf a b ⌝ }
 {
@@ -67,7 +67,7 @@ pub fn triple(p: Row, q: Row, r: Row) -> i64
 }
 
 // One minor.
-fn cross(a: i64, b: i64, c: i64, d: i64) -> i64
+pub fn cross(a: i64, b: i64, c: i64, d: i64) -> i64
     requires { ⌜ crossSize a b c d ≤ mostFormed ⌝ }
     ensures { λ r. ⌜ r ≡ crossOf a b c d ⌝ }
 {
@@ -75,7 +75,7 @@ fn cross(a: i64, b: i64, c: i64, d: i64) -> i64
 }
 
 // Three products, the middle one with a minus.
-fn three(a: i64, b: i64, c: i64, d: i64, e: i64, f: i64) -> i64
+pub fn three(a: i64, b: i64, c: i64, d: i64, e: i64, f: i64) -> i64
     requires { ⌜ threeSize a b c d e f ≤ mostFormed ⌝ }
     ensures { λ r. ⌜ r ≡ threeOf a b c d e f ⌝ }
 {

@@ -1,43 +1,20 @@
 -- What the code reads back of the numbers that it holds as bits, on the way to a plane and to a plane at a row. Assumes nothing.
-use mathlib.Core.Path.{_≡_, refl, sym, ap, subst, _∙_}
+use mathlib.Core.Path.{_≡_, refl, sym, ap, _∙_}
 use mathlib.Core.Bool.{Bool}
-use Prim.Native.Nat.{ℕ, _^_, _≤_, _<_}
+use Prim.Native.Nat.{_^_, _≤_, _<_}
 use native.Mathlib.Nat.{lt-of-le-of-lt}
 use lib.Dec.{lit<}
 use lib.IntN.{ℤ, pos, _+ℤ_}
 use lib.Signed.{mag, ltZ}
 use mir.Syntax.{w64}
-use mir.Val.{SFits, toZ, ofZ}
+use mir.Val.{toZ, ofZ}
 use Rattle.laws.specs.Size.{exactly, _⊗_, _⊖_, _⊕_, reread, Held, formed, called}
 use Rattle.scene.specs.declared.Row.{Row}
 use Rattle.orient.specs.Bits.{read, RowFits, crossed}
-use Rattle.orient.specs.Minors.{crossOf, threeOf}
-use Rattle.orient.specs.Formed.{mostFormed, threeSize}
+use Rattle.orient.specs.Minors.{crossOf}
+use Rattle.orient.specs.Formed.{mostFormed}
 use Rattle.sides.specs.Planes.{dotOf}
 use Rattle.sides.specs.Sizes.{dotSize}
-use Rattle.sides.specs.declared.planes.Line.{Line}
-
--- six numbers handed on to `three`
-module _ {a b c d e f : ℤ} (p : SFits w64 a) (q : SFits w64 b) (s : SFits w64 c) (t : SFits w64 d) (u : SFits w64 e) (v : SFits w64 f) where
-  six-read : {X : Type 0} (F : ℤ → ℤ → ℤ → ℤ → ℤ → ℤ → X) → F (reread a) (reread b) (reread c) (reread d) (reread e) (reread f)
-      ≡ F a b c d e f
-  six-read F i = F (read p i) (read q i) (read s i) (read t i) (read u i) (read v i)
-
-  pub three-ask : threeSize a b c d e f ≤ mostFormed → threeSize (reread a) (reread b) (reread c) (reread d) (reread e)
-      (reread f) ≤ mostFormed
-  three-ask h = subst (λ (n : ℕ). n ≤ mostFormed) (sym (six-read threeSize)) h
-
-  pub three-got : {r : ℤ} → mag r < 2 ^ 63 → r ≡ threeOf (reread a) (reread b) (reread c) (reread d) (reread e) (reread f) → reread r
-      ≡ threeOf a b c d e f
-  three-got ok g = called ok (g ∙ six-read threeOf)
-
-pub record LineFits (l : Line) : Type 0 where
-  pub xy : SFits w64 (l .xy)
-  pub xz : SFits w64 (l .xz)
-  pub xw : SFits w64 (l .xw)
-  pub yz : SFits w64 (l .yz)
-  pub yw : SFits w64 (l .yw)
-  pub zw : SFits w64 (l .zw)
 
 -- a row of weight 1, written anew with that number
 pub unit-row : {r : Row} → RowFits r → ofZ w64 (r .w) ≡ 1 →

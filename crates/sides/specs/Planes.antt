@@ -10,24 +10,12 @@ use Rattle.scene.specs.declared.Row.{Row}
 use Rattle.scene.specs.declared.Face.{Face}
 use Rattle.orient.specs.Determinant.{Entries, det4}
 use Rattle.orient.specs.Columns.{partOf, c0-parts}
-use Rattle.orient.specs.Minors.{crossOf, threeOf}
+use Rattle.orient.specs.Minors.{cross-of, three-of, crossOf, threeOf, joinOf}
 use Rattle.orient.specs.Terms.{pointAt, c0At}
 use Rattle.orient.specs.Variables.{row, rows, det}
-use Rattle.sides.specs.declared.planes.Line.{Line}
+use Rattle.orient.specs.declared.minors.Line.{Line}
 
--- the minors of two rows, by their columns
-abbrev pub joinOf : Row → Row → Line
-joinOf a b =
-    record {
-      xy = crossOf (a .x) (a .y) (b .x) (b .y);
-      xz = crossOf (a .x) (a .z) (b .x) (b .z);
-      xw = crossOf (a .x) (a .w) (b .x) (b .w);
-      yz = crossOf (a .y) (a .z) (b .y) (b .z);
-      yw = crossOf (a .y) (a .w) (b .y) (b .w);
-      zw = crossOf (a .z) (a .w) (b .z) (b .w);
-    }
-
--- the minors of those two and a third: x has all columns but x, and so on
+-- the minors of a line and a third row: x has all columns but x, and so on
 abbrev pub spanOf : Line → Row → Row
 spanOf l r =
     record {
@@ -51,13 +39,12 @@ planeFor row f = planeOf (row (f .q)) (row (f .p)) (row (f .r))
 -- ---- the plane of three rows at a fourth is their determinant
 
 module _ {R : Type 0} (_plus_ _minus_ _times_ : R → R → R) where
-  infixl 6 _plus_ _minus_
-  infixl 7 _times_
+  infixl 6 _plus_
   abbrev cross : R → R → R → R → R
-  cross a b c d = a times d minus b times c
+  cross = cross-of _plus_ _minus_ _times_
 
   abbrev three : R → R → R → R → R → R → R
-  three a b c d e f = a times b minus c times d plus e times f
+  three = three-of _plus_ _minus_ _times_
 
   abbrev by-plane : Entries R → Entries R → Entries R → Entries R → R
   by-plane a b c d =

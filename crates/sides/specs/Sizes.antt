@@ -4,13 +4,14 @@ use Prim.Native.Nat.{ℕ, _+_, _*_, _≤_}
 use native.Mathlib.Nat.{le-trans, add-le-add}
 use native.Mathlib.Omega.{arith}
 use lib.Dec.{lit≤}
-use Rattle.laws.specs.Size.{Small, _⊗_, _⊖_, _⊕_, below}
+use Rattle.laws.specs.Size.{_⊗_, _⊖_, _⊕_, below}
 use Rattle.scene.specs.Limits.{limits}
 use Rattle.scene.specs.Arrays.{RowWithin}
 use Rattle.scene.specs.declared.Row.{Row}
-use Rattle.orient.specs.Formed.{mostFormed, crossSize, threeSize, JoinWithin, RowSize, cross-size, three-size}
-use Rattle.sides.specs.Planes.{joinOf, planeOf}
-use Rattle.sides.specs.declared.planes.Line.{Line}
+use Rattle.orient.specs.Formed.{mostFormed, crossSize, threeSize, JoinWithin, RowSize, cross-size, three-size, join-size}
+use Rattle.orient.specs.Minors.{joinOf}
+use Rattle.sides.specs.Planes.{planeOf}
+use Rattle.orient.specs.declared.minors.Line.{Line}
 
 -- what is formed on the way to a plane, and to a plane at a row
 pub record SpanWithin (k : ℕ) (l : Line) (r : Row) : Type 0 where
@@ -23,14 +24,6 @@ abbrev pub dotSize : Row → Row → ℕ
 dotSize p t = crossSize (p .w) (p .z) (t .z) (t .w) + crossSize (p .y) (p .x) (t .x) (t .y)
 
 module _ (C W : ℕ) where
-  record LineSize (l : Line) : Type 0 where
-    xy : Small (C * C + C * C) (l .xy)
-    xz : Small (C * C + C * C) (l .xz)
-    xw : Small (C * W + W * C) (l .xw)
-    yz : Small (C * C + C * C) (l .yz)
-    yw : Small (C * W + W * C) (l .yw)
-    zw : Small (C * W + W * C) (l .zw)
-
   -- a row of a scene, and a plane
   abbrev RowUpto : Row → Type 0
   RowUpto = RowSize C C C W
@@ -38,21 +31,10 @@ module _ (C W : ℕ) where
   abbrev pub PlaneUpto : Row → Type 0
   PlaneUpto = RowSize (6 * (C * C * W)) (6 * (C * C * W)) (6 * (C * C * W)) (6 * (C * C * C))
 
-  line-size : {a b : Row} → RowUpto a → RowUpto b → LineSize (joinOf a b)
-  line-size p q =
-      record {
-        xy = p .x ⊗ q .y ⊖ p .y ⊗ q .x;
-        xz = p .x ⊗ q .z ⊖ p .z ⊗ q .x;
-        xw = p .x ⊗ q .w ⊖ p .w ⊗ q .x;
-        yz = p .y ⊗ q .z ⊖ p .z ⊗ q .y;
-        yw = p .y ⊗ q .w ⊖ p .w ⊗ q .y;
-        zw = p .z ⊗ q .w ⊖ p .w ⊗ q .z;
-      }
-
   module _ {a b c : Row} (p : RowUpto a) (q : RowUpto b) (r : RowUpto c) where
     span-within : SpanWithin (6 * (C * C * W) + 6 * (C * C * C)) (joinOf a b) c
     span-within =
-        let l = line-size p q in
+        let l = join-size p q in
         record {
           x = le-trans (three-size (l .yz) (r .w) (l .yw) (r .z) (l .zw) (r .y)) (omega arith);
           y = le-trans (three-size (l .xz) (r .w) (l .xw) (r .z) (l .zw) (r .x)) (omega arith);
@@ -63,7 +45,7 @@ module _ (C W : ℕ) where
     pub plane-size : PlaneUpto (planeOf a b c)
     unfolding planeOf
     plane-size =
-        let l = line-size p q in
+        let l = join-size p q in
         record {
           x = below (l .yz ⊗ r .w ⊖ l .yw ⊗ r .z ⊕ l .zw ⊗ r .y) (omega arith);
           y = below (l .xz ⊗ r .w ⊖ l .xw ⊗ r .z ⊕ l .zw ⊗ r .x) (omega arith);

@@ -13,11 +13,12 @@ use Rattle.scene.specs.declared.Face.{Face}
 use Rattle.orient.specs.Bits.{sign-turned, zero-bits}
 use Rattle.orient.specs.Laws.{terms12}
 use Rattle.orient.specs.Formed.{mostFormed}
+use Rattle.orient.specs.Minors.{joinOf}
 use Rattle.orient.specs.Terms.{pointAt, c0At}
-use Rattle.sides.specs.Planes.{joinOf, spanOf, planeOf, planeFor, dotOf, plane-term}
+use Rattle.sides.specs.Planes.{spanOf, planeOf, planeFor, dotOf, plane-term}
 use Rattle.sides.specs.Sides.{above, Ready}
 use Rattle.sides.specs.Sizes.{SpanWithin, dotSize, span-formed, dot-formed}
-use Rattle.sides.specs.declared.planes.Line.{Line}
+use Rattle.orient.specs.declared.minors.Line.{Line}
 
 -- the plane of points i, j and k, spanned by the line l of the first two and the row y of the third
 module _ (row : ℕ → Row) (i j k : ℕ) {l : Line} {y : Row} (p : l ≡ joinOf (row i) (row j)) (q : y ≡ row k) where

@@ -5,26 +5,19 @@ ghost use Rattle.laws.specs.Filled.{filled};
 ghost use Rattle.scene.specs.Limits.{limits, mostPoints};
 ghost use Rattle.scene.specs.Arrays.{rowIn, faceIn, AllWithin, FaceWithin, FacesWithin};
 ghost use Rattle.scene.specs.Decode.{rowSet};
-ghost use Rattle.orient.specs.Minors.{crossOf, threeOf};
-ghost use Rattle.orient.specs.Formed.{mostFormed, crossSize, threeSize, JoinWithin};
-ghost use Rattle.sides.specs.Planes.{joinOf, spanOf, dotOf, planeFor};
+ghost use Rattle.orient.specs.Formed.{mostFormed};
+ghost use Rattle.sides.specs.Planes.{spanOf, dotOf, planeFor};
 ghost use Rattle.sides.specs.Sizes.{SpanWithin, dotSize};
+use orient::minors::Line;
+use orient::minors::cross;
+use orient::minors::join;
+use orient::minors::three;
 use scene::Corners;
 use scene::Face;
 use scene::Row;
 use scene::Rows;
 use scene::Scene;
 use scene::decode::face_in;
-
-// The six 2×2 minors of two rows.
-pub struct Line {
-    pub xy: i64,
-    pub xz: i64,
-    pub xw: i64,
-    pub yz: i64,
-    pub yw: i64,
-    pub zw: i64,
-}
 
 // A plane for each face, at its number.
 pub type Planes = [i64; 4 * (2 * Scene::MOST_FACES + 1)];
@@ -96,28 +89,6 @@ pub fn row_at(rows: &Rows, i: usize) -> Row
     }
 }
 
-pub fn join(a: Row, b: Row) -> Line
-    requires { ⌜ JoinWithin mostFormed a b ⌝ }
-    ensures { λ r. ⌜ r ≡ joinOf a b ⌝ }
-{
-    let ax = a.x;
-    let ay = a.y;
-    let az = a.z;
-    let aw = a.w;
-    let bx = b.x;
-    let by = b.y;
-    let bz = b.z;
-    let bw = b.w;
-    Line {
-        xy: cross(ax, ay, bx, by),
-        xz: cross(ax, az, bx, bz),
-        xw: cross(ax, aw, bx, bw),
-        yz: cross(ay, az, by, bz),
-        yw: cross(ay, aw, by, bw),
-        zw: cross(az, aw, bz, bw),
-    }
-}
-
 // The four minors of a line and a row.
 pub fn span(l: Line, r: Row) -> Row
     requires { ⌜ SpanWithin mostFormed l r ⌝ }
@@ -147,20 +118,4 @@ pub fn dot(p: Row, t: Row) -> i64
     ensures { λ r. ⌜ r ≡ dotOf p t ⌝ }
 {
     cross(p.w, p.z, t.z, t.w) + cross(p.y, p.x, t.x, t.y)
-}
-
-// One minor.
-fn cross(a: i64, b: i64, c: i64, d: i64) -> i64
-    requires { ⌜ crossSize a b c d ≤ mostFormed ⌝ }
-    ensures { λ r. ⌜ r ≡ crossOf a b c d ⌝ }
-{
-    a * d - b * c
-}
-
-// Three products, the middle one with a minus.
-fn three(a: i64, b: i64, c: i64, d: i64, e: i64, f: i64) -> i64
-    requires { ⌜ threeSize a b c d e f ≤ mostFormed ⌝ }
-    ensures { λ r. ⌜ r ≡ threeOf a b c d e f ⌝ }
-{
-    a * b - c * d + e * f
 }

@@ -8,7 +8,7 @@ use Rattle.scene.specs.Arrays.{rowIn, faceIn}
 use Rattle.scene.specs.declared.Row.{Row}
 use Rattle.scene.specs.declared.Face.{Face}
 use Rattle.face_masks.specs.declared.Mask.{Mask}
-use Rattle.sides.specs.Planes.{joinOf}
+use Rattle.orient.specs.Minors.{joinOf}
 use Rattle.sides.specs.Sides.{sidesOf}
 use Rattle.sides.specs.Sizes.{join-formed}
 use Rattle.sides.specs.Tables.{maskIn}

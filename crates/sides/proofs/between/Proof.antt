@@ -5,7 +5,7 @@ use mathlib.Core.Path.{_≡_, _∙_}
 use Prim.Native.Nat.{ℕ}
 use Rattle.scene.specs.Arrays.{rowIn, faceIn}
 use Rattle.scene.specs.declared.Row.{Row}
-use Rattle.sides.specs.Planes.{joinOf}
+use Rattle.orient.specs.Minors.{joinOf}
 use Rattle.sides.specs.Sizes.{join-formed}
 use Rattle.sides.specs.Crossing.{candidates-low, candidates-high, masks-told}
 use Rattle.sides.proofs.between.Statement.{statement}

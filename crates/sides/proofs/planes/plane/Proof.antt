@@ -1,7 +1,8 @@
 -- `sides::planes::plane` meets its contract: the rows of a face's corners are within the limits. Assumes nothing.
 use borrow.Author.Needs.{needs}
 use mathlib.Core.Path.{_∙_}
-use Rattle.sides.specs.Planes.{joinOf, spanOf, planeOf, planeFor}
+use Rattle.orient.specs.Minors.{joinOf}
+use Rattle.sides.specs.Planes.{spanOf, planeOf, planeFor}
 use Rattle.sides.specs.Sizes.{join-formed, span-formed}
 use Rattle.sides.proofs.planes.plane.Statement.{statement}
 use Rattle.sides.proofs.planes.plane.Tie as tie
