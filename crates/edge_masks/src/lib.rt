@@ -34,8 +34,10 @@ pub fn edge_mask(
     u: usize,
     v: usize,
 ) -> Mask
-    requires solid { ⌜ Sound (seenIn n (now rows) (now corners)) k × Vertex (k .low) (k .low + k .verts) u × Vertex (k .low) (k .low + k .verts) v × (u < v) ⌝ }
-    requires sides { ⌜ Told (seenIn n (now rows) (now corners)) k (now words) × Parted (seenIn n (now rows) (now corners)) k (now own) (now cuts) ⌝ }
+    requires solid { ⌜ Sound (seenIn n (now rows) (now corners)) k × Vertex (k .low) (k .low + k .verts) u
+        × Vertex (k .low) (k .low + k .verts) v × (u < v) ⌝ }
+    requires sides { ⌜ Told (seenIn n (now rows) (now corners)) k (now words)
+        × Parted (seenIn n (now rows) (now corners)) k (now own) (now cuts) ⌝ }
     ensures { λ r. ⌜ valueOf r ≡ edgeMask (seenIn n (now (rows .entry)) (now (corners .entry))) k u v ⌝ }
 {
     mask(
@@ -100,7 +102,8 @@ fn fill_vertex(
         × (i < k .verts) ⌝ }
     requires room { ⌜ (length (now ends) ≡ 2 * mostEdges) × (length (now masks) ≡ 2 * mostEdges)
         × (at + length (vertexEdges (seenIn n (now rows) (now corners)) k (k .low + 1 + i)) ≤ mostEdges) ⌝ }
-    requires sides { ⌜ Told (seenIn n (now rows) (now corners)) k (now words) × Parted (seenIn n (now rows) (now corners)) k (now own) (now cuts) ⌝ }
+    requires sides { ⌜ Told (seenIn n (now rows) (now corners)) k (now words)
+        × Parted (seenIn n (now rows) (now corners)) k (now own) (now cuts) ⌝ }
     ensures { λ r. ⌜ Filled (vertexEdges (seenIn n (now (rows .entry)) (now (corners .entry))) k (k .low + 1 + i)) at
         (now (ends .entry)) (now (masks .entry)) (now (ends .exit)) (now (masks .exit)) r ⌝ }
 {
@@ -134,7 +137,8 @@ pub fn fill_solid(
 ) -> usize
     requires solid { ⌜ Within (seenIn n (now rows) (now corners)) k × AreLinks (seenIn n (now rows) (now corners)) k (now links) ⌝ }
     requires room { ⌜ (length (now ends) ≡ 2 * mostEdges) × (length (now masks) ≡ 2 * mostEdges) ⌝ }
-    requires sides { ⌜ Told (seenIn n (now rows) (now corners)) k (now words) × Parted (seenIn n (now rows) (now corners)) k (now own) (now cuts) ⌝ }
+    requires sides { ⌜ Told (seenIn n (now rows) (now corners)) k (now words)
+        × Parted (seenIn n (now rows) (now corners)) k (now own) (now cuts) ⌝ }
     ensures { λ r. ⌜ Filled (solidEdges (seenIn n (now (rows .entry)) (now (corners .entry))) k) 0
         (now (ends .entry)) (now (masks .entry)) (now (ends .exit)) (now (masks .exit)) r ⌝ }
 {

@@ -50,7 +50,8 @@ pub fn mask(
     requires points { ⌜ (6 ≤ n) × (n ≤ mostPoints limits) × (u ≤ mostPoints limits) × (v ≤ mostPoints limits) ⌝ }
     requires faces { ⌜ (first + count ≤ 2 * limits .mostFaces) × (count ≤ limits .mostFaces) ⌝ }
     requires edge { ⌜ Weighted n (rowIn (now rows)) × BesideAll n u v (faceIn (now corners)) first count ⌝ }
-    requires sides { ⌜ (maskIn (now words) u ≡ sidesOf (rowIn (now rows)) (faceIn (now corners)) first count u) × (maskIn (now words) v ≡ sidesOf (rowIn (now rows)) (faceIn (now corners)) first count v) ⌝ }
+    requires sides { ⌜ (maskIn (now words) u ≡ sidesOf (rowIn (now rows)) (faceIn (now corners)) first count u)
+        × (maskIn (now words) v ≡ sidesOf (rowIn (now rows)) (faceIn (now corners)) first count v) ⌝ }
     ensures { λ r. ⌜ valueOf r ≡ maskAgainst n (rowIn (now (rows .entry))) (faceIn (now (corners .entry))) u v first count ⌝ }
 {
     between(
@@ -84,7 +85,8 @@ pub fn between(
     requires points { ⌜ (6 ≤ n) × (n ≤ mostPoints limits) × (u ≤ mostPoints limits) × (v ≤ mostPoints limits) ⌝ }
     requires faces { ⌜ (first + count ≤ 2 * limits .mostFaces) × (count ≤ limits .mostFaces) ⌝ }
     requires edge { ⌜ Weighted n (rowIn (now rows)) × BesideAll n u v (faceIn (now corners)) first count ⌝ }
-    requires sides { ⌜ (a ≡ sidesOf (rowIn (now rows)) (faceIn (now corners)) first count u) × (b ≡ sidesOf (rowIn (now rows)) (faceIn (now corners)) first count v) ⌝ }
+    requires sides { ⌜ (a ≡ sidesOf (rowIn (now rows)) (faceIn (now corners)) first count u)
+        × (b ≡ sidesOf (rowIn (now rows)) (faceIn (now corners)) first count v) ⌝ }
     ensures { λ r. ⌜ valueOf r ≡ maskAgainst n (rowIn (now (rows .entry))) (faceIn (now (corners .entry))) u v first count ⌝ }
 {
     let l = join(row_at(rows, u), row_at(rows, v));
@@ -119,7 +121,8 @@ pub fn crossed(
     candidates: u64,
 ) -> u64
     requires rows { ⌜ AllWithin limits (rowIn (now rows)) × FacesWithin limits (faceIn (now corners)) ⌝ }
-    requires points { ⌜ (6 ≤ n) × (n ≤ mostPoints limits) × (u ≤ mostPoints limits) × (v ≤ mostPoints limits) × (first ≤ 2 * limits .mostFaces + 64) ⌝ }
+    requires points { ⌜ (6 ≤ n) × (n ≤ mostPoints limits) × (u ≤ mostPoints limits) × (v ≤ mostPoints limits)
+        × (first ≤ 2 * limits .mostFaces + 64) ⌝ }
     requires edge { ⌜ Weighted n (rowIn (now rows)) × (l ≡ joinOf (rowIn (now rows) u) (rowIn (now rows) v)) ⌝ }
     requires faces { ⌜ Candidates n (rowIn (now rows)) (faceIn (now corners)) u v first candidates ⌝ }
     ensures { λ r. ⌜ r ≡ crossedOf n (rowIn (now (rows .entry))) (faceIn (now (corners .entry))) u v first candidates ⌝ }
@@ -137,7 +140,8 @@ pub fn crossed(
 
 // What the engine asks of a candidate.
 fn crosses(engine: Engine, rows: &Rows, n: usize, u: usize, v: usize, l: Line, f: Face) -> bool
-    requires points { ⌜ AllWithin limits (rowIn (now rows)) × (6 ≤ n) × (n ≤ mostPoints limits) × (u ≤ mostPoints limits) × (v ≤ mostPoints limits) × FaceWithin limits f ⌝ }
+    requires points { ⌜ AllWithin limits (rowIn (now rows)) × (6 ≤ n) × (n ≤ mostPoints limits) × (u ≤ mostPoints limits)
+        × (v ≤ mostPoints limits) × FaceWithin limits f ⌝ }
     requires edge { ⌜ Weighted n (rowIn (now rows)) × Beside n u v f × (l ≡ joinOf (rowIn (now rows) u) (rowIn (now rows) v)) ⌝ }
     requires ends { ⌜ above (rowIn (now rows)) u f ⊕ above (rowIn (now rows)) v f ≡ true ⌝ }
     ensures { λ r. ⌜ r ≡ pierced n (rowIn (now (rows .entry))) u v f ⌝ }

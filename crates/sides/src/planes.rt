@@ -26,7 +26,8 @@ pub type Planes = [i64; 4 * (2 * Scene::MOST_FACES + 1)];
 pub fn fill(rows: &Rows, corners: &Corners, n: usize, planes: &mut Planes)
     requires rows { ⌜ AllWithin limits (rowIn (now rows)) × FacesWithin limits (faceIn (now corners)) ⌝ }
     requires faces { ⌜ n ≤ 2 * limits .mostFaces ⌝ }
-    ensures { λ r. ⌜ now (planes .exit) ≡ filled rowSet (λ k. planeFor (rowIn (now (rows .entry))) (faceIn (now (corners .entry)) k)) (n + 1) (now (planes .entry)) ⌝ }
+    ensures { λ r. ⌜ now (planes .exit)
+        ≡ filled rowSet (λ k. planeFor (rowIn (now (rows .entry))) (faceIn (now (corners .entry)) k)) (n + 1) (now (planes .entry)) ⌝ }
 {
     let e = n + 1;
     let mut k: usize = 0;

@@ -31,7 +31,8 @@ pub type Words = [u64; 2 * (Scene::MOST_POINTS + 1)];
 // The sides of the other solid's faces on which each vertex of a solid lies.
 pub fn fill(rows: &Rows, corners: &Corners, planes: &Planes, k: Solid, words: &mut Words)
     requires rows { ⌜ AllWithin limits (rowIn (now rows)) × FacesWithin limits (faceIn (now corners)) ⌝ }
-    requires solid { ⌜ (k .low + k .verts ≤ mostPoints limits) × (k .other + k .others ≤ 2 * limits .mostFaces) × (k .others ≤ limits .mostFaces) ⌝ }
+    requires solid { ⌜ (k .low + k .verts ≤ mostPoints limits) × (k .other + k .others ≤ 2 * limits .mostFaces)
+        × (k .others ≤ limits .mostFaces) ⌝ }
     requires ready { ⌜ ReadyFor (rowIn (now rows)) (faceIn (now corners)) (rowIn (now planes)) k ⌝ }
     ensures { λ r. ⌜ now (words .exit) ≡ wordsFor (rowIn (now (rows .entry))) (faceIn (now (corners .entry))) k (now (words .entry)) ⌝ }
 {

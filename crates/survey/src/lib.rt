@@ -84,7 +84,8 @@ fn survey_part(
     masks: &mut Masks,
 ) -> Part
     requires solid { ⌜ Ready (seenIn n (now rows) (now corners)) k × Sized (now ends) (now masks) ⌝ }
-    requires tables { ⌜ Told (seenIn n (now rows) (now corners)) k (now words) × Parted (seenIn n (now rows) (now corners)) k (now own) (now cuts) ⌝ }
+    requires tables { ⌜ Told (seenIn n (now rows) (now corners)) k (now words)
+        × Parted (seenIn n (now rows) (now corners)) k (now own) (now cuts) ⌝ }
     ensures { λ r. ⌜ Surveyed (seenIn n (now (rows .entry)) (now (corners .entry))) k (now (ends .exit)) (now (masks .exit)) r ⌝ }
 {
     let low = k.low;
