@@ -7,7 +7,7 @@ use mathlib.Core.List.{List, [], _∷_, _++_}
 use Prim.Native.Nat.{ℕ, zero, suc, _+_, _-_, _%_, _≤_, _<_}
 use native.Mathlib.Omega.{arith}
 use native.Mathlib.Decide.{ℕ-discrete}
-use lib.ListN.{length, getD}
+use lib.ListN.{length, getD, replicate}
 use lib.Dec.{T}
 use Rattle.laws.specs.Bools.{_⊕_}
 use Rattle.laws.specs.Even.{odd, count}
@@ -42,10 +42,24 @@ module _ {A : Type 0} where
   each-append P [] ys h k = k
   each-append P (x ∷ xs) ys h k = (h .0, each-append P xs ys (h .1) k)
 
+  pub each-left : (P : A → Type 0) (xs ys : List A) → Each P (xs ++ ys) → Each P xs
+  each-left P [] ys h = tt
+  each-left P (x ∷ xs) ys h = (h .0, each-left P xs ys (h .1))
+
+  pub each-right : (P : A → Type 0) (xs ys : List A) → Each P (xs ++ ys) → Each P ys
+  each-right P [] ys h = h
+  each-right P (x ∷ xs) ys h = each-right P xs ys (h .1)
+
   pub each-at : (P : A → Type 0) (xs : List A) (d : A) → Each P xs → P d → (i : ℕ) → P (getD xs i d)
   each-at P [] d h k i = k
   each-at P (x ∷ xs) d h k zero = h .0
   each-at P (x ∷ xs) d h k (suc i) = each-at P xs d (h .1) k i
+
+  -- m times a, read with a beyond the end
+  pub replicate-at : (m i : ℕ) (a : A) → getD (replicate m a) i a ≡ a
+  replicate-at zero i a = refl
+  replicate-at (suc m) zero a = refl
+  replicate-at (suc m) (suc i) a = replicate-at m i a
 
   -- two tests that agree on the list pass at an odd number of its places alike
   pub odd-each : {P : A → Type 0} (g k : A → Bool) → ((x : A) → P x → g x ≡ k x) → (xs : List A) → Each P xs → odd g xs ≡ odd k xs

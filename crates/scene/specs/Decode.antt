@@ -1,12 +1,13 @@
 -- The arrays that a scene is decoded into, store by store: what they hold afterwards, at every number. Assumes nothing.
-use mathlib.Core.Path.{_≡_, refl, sym, ap, _∙_}
+use mathlib.Core.Path.{_≡_, sym, ap, _∙_}
 use mathlib.Core.List.{List}
-use Prim.Native.Nat.{ℕ, zero, suc, _+_, _*_, _<_, _≤_}
+use Prim.Native.Nat.{ℕ, _+_, _*_, _<_, _≤_}
 use native.Mathlib.Omega.{arith}
 use lib.Seq.{getD-set-same, getD-set-other}
 use lib.IntN.{ℤ, pos}
 use lib.ListN.{length, getD, set, length-set, replicate, length-replicate}
 use Rattle.laws.specs.Filled.{filled, filled-is}
+use Rattle.laws.specs.Lists.{replicate-at}
 use Rattle.scene.specs.Tables.{noRow, noFace}
 use Rattle.scene.specs.Arrays.{rowIn, faceIn}
 use Rattle.scene.specs.declared.Row.{Row}
@@ -68,11 +69,6 @@ row-other l n j p d =
     (at (4 * j + 2) (λ e. omega (arith, e)) (λ e. omega (arith, e)) (λ e. omega (arith, e)) (λ e. omega (arith, e)))
     (at (4 * j + 3) (λ e. omega (arith, e)) (λ e. omega (arith, e)) (λ e. omega (arith, e)) (λ e. omega (arith, e)))
 
-zeros : {A : Type 0} (m i : ℕ) (a : A) → getD (replicate m a) i a ≡ a
-zeros zero i a = refl
-zeros (suc m) zero a = refl
-zeros (suc m) (suc i) a = zeros m i a
-
 -- n rows stored over m zeros, and zeros beyond: the rows at every number
 pub rows-decoded : (g : ℕ → Row) (n m : ℕ) {l : List ℤ} → l ≡ filled rowSet g n (replicate m (pos 0)) → 4 * n ≤ m →
     ((j : ℕ) → n ≤ j → g j ≡ noRow) → rowIn l ≡ g
@@ -80,7 +76,8 @@ rows-decoded g n m e h z =
     ap rowIn e
     ∙ filled-is rowSet rowIn (λ i k. 4 * i + 3 < k) row-keeps row-same row-other g n (replicate m (pos 0))
     (λ i b. omega (arith, length-replicate m (pos 0)))
-    (λ j b. made-row (zeros m (4 * j) (pos 0)) (zeros m (4 * j + 1) (pos 0)) (zeros m (4 * j + 2) (pos 0)) (zeros m (4 * j + 3) (pos 0)) ∙ sym (z j b))
+    (λ j b. made-row (replicate-at m (4 * j) (pos 0)) (replicate-at m (4 * j + 1) (pos 0)) (replicate-at m (4 * j + 2) (pos 0))
+    (replicate-at m (4 * j + 3) (pos 0)) ∙ sym (z j b))
 
 -- ---- faces: three numbers each
 
@@ -119,4 +116,4 @@ faces-decoded g n m e h z =
     ap faceIn e
     ∙ filled-is faceSet faceIn (λ i k. 3 * i + 2 < k) face-keeps face-same face-other g n (replicate m 0)
     (λ i b. omega (arith, length-replicate {A = ℕ} m 0))
-    (λ j b. made-face (zeros m (3 * j) 0) (zeros m (3 * j + 1) 0) (zeros m (3 * j + 2) 0) ∙ sym (z j b))
+    (λ j b. made-face (replicate-at m (3 * j) 0) (replicate-at m (3 * j + 1) 0) (replicate-at m (3 * j + 2) 0) ∙ sym (z j b))

@@ -10,6 +10,7 @@ use lib.Count.{ones}
 use lib.Dec.{ltb}
 use lib.ListN.{replicate}
 use Rattle.laws.specs.Bools.{_⊕_, law, all, _≐_}
+use Rattle.laws.specs.Lists.{replicate-at}
 use Rattle.laws.specs.Mask.{mask-none, testBit}
 use Rattle.links.specs.Bits.{test-zero}
 use Rattle.edges.specs.Edges.{joined}
@@ -20,7 +21,6 @@ use Rattle.listing.specs.Hits.{Seen, Hit, Own, upTo, only, faceHits, edgeHits, 
 use Rattle.spread.specs.Ready.{Ready, across}
 use Rattle.spread.specs.Odds.{AreOdds}
 use Rattle.spread.specs.OddsProof.{joined-back}
-use Rattle.told.specs.Parted.{zeros}
 
 -- ---- the parts of an empty run are empty
 
@@ -69,7 +69,7 @@ module _ (s : Seen) (k : Solid) (none : [] ≡ solidHits s k) where
   -- ---- so the empty table tells the oddness of all edges
 
   pub odds-still : Ready s k → (n : ℕ) → AreOdds s k (replicate n 0)
-  odds-still r n u m hu b j = ap (λ (w : ℕ). testBit w m) (zeros n u) ∙ test-zero m ∙ by (decLt u v) (ℕ-discrete u v)
+  odds-still r n u m hu b j = ap (λ (w : ℕ). testBit w m) (replicate-at n u 0) ∙ test-zero m ∙ by (decLt u v) (ℕ-discrete u v)
     where
       v : ℕ
       v = k .low + 1 + m

@@ -7,7 +7,7 @@ use native.Mathlib.Decide.{ℕ-discrete}
 use native.Mathlib.Omega.{arith}
 use lib.Dec.{ltb}
 use lib.ListN.{length, length-append}
-use Rattle.laws.specs.Lists.{Each}
+use Rattle.laws.specs.Lists.{Each, each-left, each-right}
 use Rattle.edges.specs.Edges.{joined}
 use Rattle.scene.specs.declared.Solid.{Solid}
 use Rattle.listing.specs.Hits.{Seen, Sound, upTo, solidHits}
@@ -51,21 +51,13 @@ pairs-count t a b ends-a masks-a ends-b masks-b p q =
 -- ---- the ends of a table's edges
 
 module _ (P : Entry → Type 0) where
-  each-left : (l r : List Entry) → Each P (l ++ r) → Each P l
-  each-left [] r h = tt
-  each-left (x ∷ l) r h = (h .0, each-left l r (h .1))
-
-  each-right : (l r : List Entry) → Each P (l ++ r) → Each P r
-  each-right [] r h = h
-  each-right (x ∷ l) r h = each-right l r (h .1)
-
   each-at : (f : ℕ → Entry) (n j : ℕ) → Each P (upTo (λ i. f i ∷ []) n) → j < n → P (f j)
   unfolding upTo
   each-at f zero j h b = absurd (omega arith)
-  each-at f (suc n) j h b = by (ℕ-discrete j n) (λ c. each-at f n j (each-left (upTo (λ i. f i ∷ []) n) (f n ∷ []) h) c)
+  each-at f (suc n) j h b = by (ℕ-discrete j n) (λ c. each-at f n j (each-left P (upTo (λ i. f i ∷ []) n) (f n ∷ []) h) c)
     where
       by : Dec (j ≡ n) → (j < n → P (f j)) → P (f j)
-      by (yes e) before = rw e (each-right (upTo (λ i. f i ∷ []) n) (f n ∷ []) h .0)
+      by (yes e) before = rw e (each-right P (upTo (λ i. f i ∷ []) n) (f n ∷ []) h .0)
       by (no d) before = before (omega arith)
 
 pub ends-in : (s : Seen) (k : Solid) (ends masks : List ℕ) (n : ℕ) → entriesIn ends masks n ≡ solidEdges s k →

@@ -3,12 +3,13 @@
 use mathlib.Core.Path.{_≡_, refl, ap, _∙_}
 use mathlib.Core.Bool.{Bool, true, false, cond, _&&_}
 use mathlib.Core.List.{List}
-use Prim.Native.Nat.{ℕ, zero, suc, _+_, _*_, _≤_, _<_}
+use Prim.Native.Nat.{ℕ, _+_, _*_, _≤_, _<_}
 use native.Mathlib.Omega.{arith}
 use borrow.Author.Tests.{eqb-true}
 use lib.Dec.{eqb}
-use lib.ListN.{length, getD, replicate, length-replicate}
-use Rattle.laws.specs.Lists.{each-run}
+use lib.ListN.{length, replicate, length-replicate}
+use Rattle.laws.specs.Decides.{and-iff}
+use Rattle.laws.specs.Lists.{each-run, replicate-at}
 use Rattle.laws.specs.Mask.{maskOf}
 use Rattle.scene.specs.Limits.{limits, mostPoints}
 use Rattle.scene.specs.Arrays.{FacesWithin}
@@ -49,11 +50,6 @@ pub record Blank (s : Seen) (k : Solid) (own cuts : List ℕ) : Type 0 where
 abbrev pub BothBlank : Seen → (a b : Solid) → (own cuts : List ℕ) → Type 0
 BothBlank s a b own cuts = Blank s a own cuts × Blank s b own cuts
 
-pub zeros : (m i : ℕ) → _≡_ {A = ℕ} (getD (replicate m 0) i 0) 0
-zeros zero i = refl
-zeros (suc m) zero = refl
-zeros (suc m) (suc i) = zeros m i
-
 -- new tables are
 pub blank-new : (s : Seen) (k : Solid) →
     Blank s k (replicate (2 * (mostPoints limits + 1)) 0) (replicate (2 * (2 * limits .mostFaces + 1)) 0)
@@ -63,8 +59,11 @@ blank-new s k =
     record {
       own-size = length-replicate {A = ℕ} m 0;
       cuts-size = length-replicate {A = ℕ} n 0;
-      at = λ u o. λ t. record { low = zeros m (2 * u) t; high = zeros m (2 * u + 1) t };
-      cut = λ j b. λ t. record { low = zeros n (2 * (k .other + 1 + j)) t; high = zeros n (2 * (k .other + 1 + j) + 1) t };
+      at = λ u o. λ t. record { low = replicate-at m (2 * u) 0 t; high = replicate-at m (2 * u + 1) 0 t };
+      cut = λ j b. λ t. record {
+        low = replicate-at n (2 * (k .other + 1 + j)) 0 t;
+        high = replicate-at n (2 * (k .other + 1 + j) + 1) 0 t;
+      };
     }
 
 -- empty tables say nothing
@@ -91,10 +90,6 @@ pub parts-asked : (s : Seen) (k : Solid) → Ready s k → FacesWithin limits (s
     × ((k .first + k .count ≤ 2 * limits .mostFaces) × (k .count ≤ limits .mostFaces) × (k .other + k .others ≤ 2 * limits .mostFaces))
 parts-asked s k r = let w = r .within in (w .sound .faces, (w .sound .own, w .few, w .sound .other .0))
 
-both : (a b : Bool) → (a && b) ≡ true → (a ≡ true) × (b ≡ true)
-both true b e = (refl, e)
-both false b e = let z : _≡_ {A = ℕ} 0 1 = cc in absurd (omega arith)
-
 record Mirrored (k o : Solid) : Type 0 where
   first : o .other ≡ k .first
   count : o .others ≡ k .count
@@ -103,9 +98,9 @@ record Mirrored (k o : Solid) : Type 0 where
 
 mirrored : (k o : Solid) → mirrors k o ≡ true → Mirrored k o
 mirrored k o e =
-    let a = both _ _ e in
-    let b = both _ _ (a .1) in
-    let c = both _ _ (b .1) in
+    let a = and-iff _ _ .0 e in
+    let b = and-iff _ _ .0 (a .1) in
+    let c = and-iff _ _ .0 (b .1) in
     record {
       first = eqb-true (o .other) (k .first) (a .0);
       count = eqb-true (o .others) (k .count) (b .0);
