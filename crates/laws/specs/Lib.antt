@@ -12,5 +12,6 @@ pub mod Mapped
 pub mod Filled
 pub mod Mask
 pub mod Walk
+pub mod Bits
 pub mod Sign
 pub mod Unique

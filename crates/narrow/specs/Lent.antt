@@ -1,5 +1,6 @@
 -- The tables that are lent to the edges of a solid to narrow the questions about them. Assumes nothing.
 use mathlib.Core.Path.{_≡_}
+use mathlib.Core.Bool.{true}
 use mathlib.Core.List.{List}
 use Prim.Native.Nat.{ℕ, _+_, _<_}
 use Rattle.scene.specs.Faces.{isCorner}
@@ -8,10 +9,11 @@ use Rattle.listing.specs.Hits.{Seen, Own}
 use Rattle.sides.specs.Sides.{masksBy}
 use Rattle.sides.specs.Tables.{maskIn}
 use Rattle.narrow.specs.Parted.{parts}
-use Rattle.narrow.specs.Cover.{Across}
+use Rattle.narrow.specs.Cover.{covers, Across}
 use Rattle.narrow.specs.Narrow.{Around}
 
--- the tables that narrow the questions: the faces at each vertex, of `owns` faces above `owned`, and those of them that part each face of the other
+-- the tables that narrow the questions: the faces at each vertex, of `owns` faces above `owned`, and those of them that part each face of
+-- the other; at 0 of these there are at least all that part any
 pub record Parted (s : Seen) (k : Solid) (own cuts : List ℕ) : Type 0 where
   pub low : ℕ
   pub high : ℕ
@@ -20,6 +22,7 @@ pub record Parted (s : Seen) (k : Solid) (own cuts : List ℕ) : Type 0 where
   pub at : (u : ℕ) → Own s k u → maskIn own u ≡ masksBy (isCorner u) (s .face) owned owns
   pub cut : (j : ℕ) → j < k .others →
       maskIn cuts (k .other + 1 + j) ≡ masksBy (parts (s .row) (s .face (k .other + 1 + j))) (s .face) owned owns
+  pub any : (j : ℕ) → j < k .others → covers (maskIn cuts 0) (maskIn cuts (k .other + 1 + j)) ≡ true
   pub across : (j : ℕ) → j < k .others → Across (s .points) low high owned owns (s .face) (s .face (k .other + 1 + j))
 
 pub around : (s : Seen) (k : Solid) {own cuts : List ℕ} → Parted s k own cuts → (u v : ℕ) → Own s k u → Own s k v →
@@ -32,5 +35,6 @@ around s k p u v a b = record {
   u-own = p .at u a;
   v-own = p .at v b;
   cuts = p .cut;
+  any = p .any;
   across = p .across;
 }

@@ -1,5 +1,6 @@
 pub mod Parted
 pub mod Marks
 pub mod Cover
+pub mod Union
 pub mod Narrow
 pub mod Lent

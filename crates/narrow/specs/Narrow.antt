@@ -1,11 +1,13 @@
--- The candidates of an edge that each face at the edge parts: the pierced among them are all that the edge pierces. Assumes nothing.
-use mathlib.Core.Path.{_≡_, refl, ap, ap₂, subst, _∙_}
-use mathlib.Core.Bool.{Bool, true, false, _&&_}
+-- The candidates of an edge that each face at the edge parts: the pierced among them are all that the edge pierces. Where one of those
+-- parts no face at all there are none. Assumes nothing.
+use mathlib.Core.Path.{_≡_, refl, sym, ap, ap₂, subst, _∙_}
+use mathlib.Core.Bool.{Bool, true, false, _&&_, true≢false}
 use Prim.Native.Nat.{ℕ, _+_, _-_, _*_, _≤_, _<_}
 use native.Mathlib.Omega.{arith}
 use lib.Bits.{bitXor}
 use Rattle.laws.specs.Bools.{_⊕_}
-use Rattle.laws.specs.Mask.{maskOf, xor-masks, mask-same}
+use Rattle.laws.specs.Decides.{fails-iff}
+use Rattle.laws.specs.Mask.{maskOf, xor-masks, mask-none, mask-same}
 use Rattle.scene.specs.Limits.{limits}
 use Rattle.scene.specs.Faces.{isCorner}
 use Rattle.scene.specs.declared.Row.{Row}
@@ -21,6 +23,7 @@ use Rattle.sides.specs.Crossing.{Candidate, Candidates, crossedOf, pierced-diff
 use Rattle.sides.specs.Sides.{above, sidesOf, low-of, high-of, words-value, masksBy, first64}
 use Rattle.narrow.specs.Parted.{parts}
 use Rattle.narrow.specs.Cover.{covers, bothOf, both-is, Across, kept-by}
+use Rattle.narrow.specs.Union.{noFaces, covers-trans}
 
 -- a digit that is a face's
 pub record Numbered (first k : ℕ) : Type 0 where
@@ -31,6 +34,10 @@ pub record Numbered (first k : ℕ) : Type 0 where
 abbrev pub narrowedOf : (ℕ → Mask) → (first : ℕ) → Mask → (w : ℕ) → ℕ
 narrowedOf cut first at = kept (λ k. covers (cut (first + 1 + k)) at)
 
+-- the words of both ends are their sides
+abbrev pub EndsTold : (ℕ → Row) → (ℕ → Face) → (word : ℕ → Mask) → (u v first count : ℕ) → Type 0
+EndsTold row face word u v first count = (word u ≡ sidesOf row face first count u) × (word v ≡ sidesOf row face first count v)
+
 -- the solid of the edge, the faces at its ends, and those that part the corners of the other's faces
 pub record Around (n : ℕ) (row : ℕ → Row) (face : ℕ → Face) (own cut : ℕ → Mask) (u v first count : ℕ) : Type 0 where
   pub low : ℕ
@@ -40,7 +47,30 @@ pub record Around (n : ℕ) (row : ℕ → Row) (face : ℕ → Face) (own cut :
   pub u-own : own u ≡ masksBy (isCorner u) face owned owns
   pub v-own : own v ≡ masksBy (isCorner v) face owned owns
   pub cuts : (k : ℕ) → k < count → cut (first + 1 + k) ≡ masksBy (parts row (face (first + 1 + k))) face owned owns
+  pub any : (k : ℕ) → k < count → covers (cut 0) (cut (first + 1 + k)) ≡ true
   pub across : (k : ℕ) → k < count → Across n low high owned owns face (face (first + 1 + k))
+
+-- all of `at` part each face that is pierced
+abbrev pub AllParted : (n : ℕ) (row : ℕ → Row) (face : ℕ → Face) (cut : ℕ → Mask) (at : Mask) (u v first count : ℕ) → Type 0
+AllParted n row face cut at u v first count =
+    (k : ℕ) → k < count → pierced n row u v (face (first + 1 + k)) ≡ true → covers (cut (first + 1 + k)) at ≡ true
+
+-- as the faces at an edge do
+module _ (n : ℕ) (row : ℕ → Row) (face : ℕ → Face) (own cut : ℕ → Mask) (u v first count : ℕ) {at : Mask}
+    (s : at ≡ bothOf (own u) (own v)) (w : Weighted n row) (six : 6 ≤ n) (d : BesideAll n u v face first count)
+    (h : Around n row face own cut u v first count) where
+  pub all-parted : AllParted n row face cut at u v first count
+  all-parted k l e =
+      kept-by n row face (h .low) (h .high) (h .owned) (h .owns) u v (face (first + 1 + k)) w six (d k l) (h .across k l) (h .cuts k l)
+      (s ∙ both-is face (h .owned) (h .owns) u v (h .u-own) (h .v-own)) e
+
+  -- so where one of them parts no face at all, none is pierced
+  pub none-pierced : covers (cut 0) at ≡ false → valueOf noFaces ≡ maskAgainst n row face u v first count
+  unfolding valueOf
+  none-pierced e =
+      sym (mask-none (λ k. pierced n row u v (face (first + 1 + k))) count
+      (λ k l. fails-iff (pierced n row u v (face (first + 1 + k))) (λ t. t, λ t. t) .1
+      (λ t. true≢false (sym (covers-trans (cut 0) (cut (first + 1 + k)) at (h .any k l) (all-parted k l t)) ∙ e))))
 
 three : (a b c : Bool) → (a && c) ≡ c → (c ≡ true → b ≡ true) → ((a && b) && c) ≡ c
 three true b true e h = ap (λ (x : Bool). x && true) (h refl)
@@ -81,8 +111,8 @@ module _ (n : ℕ) (row : ℕ → Row) (face : ℕ → Face) (u v first count : 
       (pierced-differs n row u v (face (first + 1 + k))) (h k b))
 
 -- both words
-module _ (n : ℕ) (row : ℕ → Row) (face : ℕ → Face) (own cut : ℕ → Mask) (u v first count : ℕ) {a b at : Mask}
-    (p : a ≡ sidesOf row face first count u) (q : b ≡ sidesOf row face first count v) (s : at ≡ bothOf (own u) (own v))
+module _ (n : ℕ) (row : ℕ → Row) (face : ℕ → Face) (cut : ℕ → Mask) (at : Mask) (u v first count : ℕ) {a b : Mask}
+    (p : a ≡ sidesOf row face first count u) (q : b ≡ sidesOf row face first count v)
     (within : first + count ≤ 2 * limits .mostFaces) (most : count ≤ limits .mostFaces) where
   abbrev keep : ℕ → ℕ → Bool
   keep from k = covers (cut (from + 1 + k)) at
@@ -107,25 +137,20 @@ module _ (n : ℕ) (row : ℕ → Row) (face : ℕ → Face) (own cut : ℕ → 
         (λ k l. omega arith)
         (beside-high face first 64 d) e
 
-    module _ (w : Weighted n row) (six : 6 ≤ n) (h : Around n row face own cut u v first count) where
-      all-kept : (k : ℕ) → k < count → pierced n row u v (face (first + 1 + k)) ≡ true → keep first k ≡ true
-      all-kept k l e =
-          kept-by n row face (h .low) (h .high) (h .owned) (h .owns) u v (face (first + 1 + k)) w six (d k l) (h .across k l) (h .cuts k l)
-          (s ∙ both-is face (h .owned) (h .owns) u v (h .u-own) (h .v-own)) e
+  module _ (h : AllParted n row face cut at u v first count) where
+    kept-high : (k : ℕ) → k < count - 64 → pierced n row u v (face (first + 64 + 1 + k)) ≡ true → keep (first + 64) k ≡ true
+    kept-high k l =
+        subst (λ (i : ℕ). pierced n row u v (face i) ≡ true → covers (cut i) at ≡ true)
+        (let e : first + 1 + (64 + k) ≡ first + 64 + 1 + k = omega arith in e)
+        (h (64 + k) (omega arith))
 
-      kept-high : (k : ℕ) → k < count - 64 → pierced n row u v (face (first + 64 + 1 + k)) ≡ true → keep (first + 64) k ≡ true
-      kept-high k l =
-          subst (λ (i : ℕ). pierced n row u v (face i) ≡ true → covers (cut i) at ≡ true)
-          (let e : first + 1 + (64 + k) ≡ first + 64 + 1 + k = omega arith in e)
-          (all-kept (64 + k) (omega arith))
-
-      pub narrow-masks : {r : Mask} {y z : ℕ} → y ≡ narrowedOf cut first at (bitXor (a .low) (b .low)) → z
-          ≡ narrowedOf cut (first + 64) at (bitXor (a .high) (b .high)) →
-          r .low ≡ crossedOf n row face u v first y → r .high ≡ crossedOf n row face u v (first + 64) z → valueOf r
-          ≡ maskAgainst n row face u v first count
-      narrow-masks ey ez x o =
-          words-value (pierced n row u v) face first count
-          (narrow-told n row face u v first (first64 count) (keep first) (low-of _ _ _ _ p) (low-of _ _ _ _ q) (omega arith)
-          (λ k l. all-kept k (omega arith)) ey x)
-          (narrow-told n row face u v (first + 64) (count - 64) (keep (first + 64)) (high-of _ _ _ _ p) (high-of _ _ _ _ q) (omega arith)
-          kept-high ez o)
+    pub narrow-masks : {r : Mask} {y z : ℕ} → y ≡ narrowedOf cut first at (bitXor (a .low) (b .low)) → z
+        ≡ narrowedOf cut (first + 64) at (bitXor (a .high) (b .high)) →
+        r .low ≡ crossedOf n row face u v first y → r .high ≡ crossedOf n row face u v (first + 64) z → valueOf r
+        ≡ maskAgainst n row face u v first count
+    narrow-masks ey ez x o =
+        words-value (pierced n row u v) face first count
+        (narrow-told n row face u v first (first64 count) (keep first) (low-of _ _ _ _ p) (low-of _ _ _ _ q) (omega arith)
+        (λ k l. h k (omega arith)) ey x)
+        (narrow-told n row face u v (first + 64) (count - 64) (keep (first + 64)) (high-of _ _ _ _ p) (high-of _ _ _ _ q) (omega arith)
+        kept-high ez o)

@@ -1,10 +1,11 @@
-// For each face of a solid the faces of the other whose planes part its corners, two words a face.
+// For each face of a solid the faces of the other whose planes part its corners, two words a face; at 0, where no face is, their union.
 ghost use mathlib.Core.Path.{_≡_};
 ghost use Prim.Native.Nat.{_+_, _*_, _≤_};
 ghost use Rattle.scene.specs.Limits.{limits};
 ghost use Rattle.scene.specs.Arrays.{faceIn, FaceWithin, FacesWithin};
-ghost use Rattle.sides.specs.Tables.{maskIn, wordSet, masksFrom};
+ghost use Rattle.sides.specs.Tables.{maskIn, wordSet};
 ghost use Rattle.narrow.specs.Cover.{cutIn};
+ghost use Rattle.narrow.specs.Union.{eitherOf, cutsFrom};
 use face_masks::Mask;
 use scene::Corners;
 use scene::Face;
@@ -20,14 +21,19 @@ pub type Cuts = [u64; 2 * (2 * Scene::MOST_FACES + 1)];
 pub fn fill(corners: &Corners, words: &Words, first: usize, count: usize, cuts: &mut Cuts)
     requires corners { ⌜ FacesWithin limits (faceIn (now corners)) ⌝ }
     requires faces { ⌜ first + count ≤ 2 * limits .mostFaces ⌝ }
-    ensures { λ r. ⌜ now (cuts .exit) ≡ masksFrom (λ k. cutIn (now (words .entry)) (faceIn (now (corners .entry)) k)) first count (now (cuts .entry)) ⌝ }
+    ensures { λ r. ⌜ now (cuts .exit)
+        ≡ cutsFrom (λ k. cutIn (now (words .entry)) (faceIn (now (corners .entry)) k)) first count (now (cuts .entry)) ⌝ }
 {
     let mut i: usize = 0;
+    let mut any = Mask { low: 0, high: 0 };
     while i < count {
         let k = first + 1 + i;
-        put(cuts, k, cut(words, face_in(corners, k)));
+        let c = cut(words, face_in(corners, k));
+        put(cuts, k, c);
+        any = either(any, c);
         i += 1;
     }
+    put(cuts, 0, any);
 }
 
 // Those of one face.
@@ -41,6 +47,16 @@ fn cut(words: &Words, f: Face) -> Mask
     Mask {
         low: p.low ^ q.low | q.low ^ r.low,
         high: p.high ^ q.high | q.high ^ r.high,
+    }
+}
+
+// The faces of one or the other.
+fn either(a: Mask, b: Mask) -> Mask
+    ensures { λ r. ⌜ r ≡ eitherOf a b ⌝ }
+{
+    Mask {
+        low: a.low | b.low,
+        high: a.high | b.high,
     }
 }
 

@@ -9,10 +9,9 @@ ghost use Rattle.pierce.specs.Beside.{BesideAll};
 ghost use Rattle.face_masks.specs.Faces.{valueOf};
 ghost use Rattle.pierce.specs.Against.{maskAgainst};
 ghost use Rattle.sides.specs.Candidates.{AtEach};
-ghost use Rattle.sides.specs.Sides.{sidesOf};
 ghost use Rattle.sides.specs.Tables.{maskIn};
 ghost use Rattle.narrow.specs.Cover.{covers, bothOf};
-ghost use Rattle.narrow.specs.Narrow.{Numbered, narrowedOf, Around};
+ghost use Rattle.narrow.specs.Narrow.{Numbered, narrowedOf, EndsTold, Around, AllParted};
 use crate::cuts::Cuts;
 use crate::cuts::cut_at;
 use engine::Engine;
@@ -31,7 +30,7 @@ pub mod cuts;
 pub mod own;
 
 // The mask of u, v against the `count` faces of a solid, numbered from first + 1 on, in a scene of n points: as `sides::mask`, with the
-// table of the faces at each point and that of the faces that part each face.
+// table of the faces at each point and that of the faces that part each face. Where a face at the edge parts none, nothing is asked.
 pub fn mask(
     engine: Engine,
     rows: &Rows,
@@ -49,14 +48,53 @@ pub fn mask(
     requires points { ⌜ (6 ≤ n) × (n ≤ mostPoints limits) × (u ≤ mostPoints limits) × (v ≤ mostPoints limits)
         × (first + count ≤ 2 * limits .mostFaces) × (count ≤ limits .mostFaces) ⌝ }
     requires edge { ⌜ Weighted n (rowIn (now rows)) × BesideAll n u v (faceIn (now corners)) first count ⌝ }
-    requires sides { ⌜ (maskIn (now words) u ≡ sidesOf (rowIn (now rows)) (faceIn (now corners)) first count u)
-        × (maskIn (now words) v ≡ sidesOf (rowIn (now rows)) (faceIn (now corners)) first count v) ⌝ }
+    requires sides { ⌜ EndsTold (rowIn (now rows)) (faceIn (now corners)) (maskIn (now words)) u v first count ⌝ }
     requires around { ⌜ Around n (rowIn (now rows)) (faceIn (now corners)) (maskIn (now own)) (maskIn (now cuts)) u v first count ⌝ }
+    ensures { λ r. ⌜ valueOf r ≡ maskAgainst n (rowIn (now (rows .entry))) (faceIn (now (corners .entry))) u v first count ⌝ }
+{
+    let at = both(mask_at(own, u), mask_at(own, v));
+    if !has_all(cut_at(cuts, 0), at) {
+        return Mask { low: 0, high: 0 };
+    }
+    mask_parted(
+        engine,
+        rows,
+        corners,
+        words,
+        cuts,
+        n,
+        u,
+        v,
+        at,
+        first,
+        count,
+    )
+}
+
+// Where all of `at` part each face that is pierced.
+fn mask_parted(
+    engine: Engine,
+    rows: &Rows,
+    corners: &Corners,
+    words: &Words,
+    cuts: &Cuts,
+    n: usize,
+    u: usize,
+    v: usize,
+    at: Mask,
+    first: usize,
+    count: usize,
+) -> Mask
+    requires rows { ⌜ AllWithin limits (rowIn (now rows)) × FacesWithin limits (faceIn (now corners)) ⌝ }
+    requires points { ⌜ (6 ≤ n) × (n ≤ mostPoints limits) × (u ≤ mostPoints limits) × (v ≤ mostPoints limits)
+        × (first + count ≤ 2 * limits .mostFaces) × (count ≤ limits .mostFaces) ⌝ }
+    requires edge { ⌜ Weighted n (rowIn (now rows)) × BesideAll n u v (faceIn (now corners)) first count ⌝ }
+    requires sides { ⌜ EndsTold (rowIn (now rows)) (faceIn (now corners)) (maskIn (now words)) u v first count ⌝ }
+    requires parted { ⌜ AllParted n (rowIn (now rows)) (faceIn (now corners)) (maskIn (now cuts)) at u v first count ⌝ }
     ensures { λ r. ⌜ valueOf r ≡ maskAgainst n (rowIn (now (rows .entry))) (faceIn (now (corners .entry))) u v first count ⌝ }
 {
     let a = mask_at(words, u);
     let b = mask_at(words, v);
-    let at = both(mask_at(own, u), mask_at(own, v));
     let near = narrowed(cuts, first, at, a.low ^ b.low);
     let next = narrowed(cuts, first + WORD, at, a.high ^ b.high);
     let l = join(row_at(rows, u), row_at(rows, v));

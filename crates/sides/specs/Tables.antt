@@ -70,10 +70,10 @@ wordsFor row face k = masksFrom (sidesOf row face (k .other) (k .others)) (k .lo
 abbrev pub ReadyFor : (ℕ → Row) → (ℕ → Face) → (ℕ → Row) → Solid → Type 0
 ReadyFor row face plane k = (i : ℕ) → i < k .verts → ReadyAll row face plane (k .low + 1 + i) (k .other) (k .others)
 
-word-keeps : (l : List ℕ) (t : ℕ) (m : Mask) → length (wordSet l t m) ≡ length l
+pub word-keeps : (l : List ℕ) (t : ℕ) (m : Mask) → length (wordSet l t m) ≡ length l
 word-keeps l t m = simp length-set
 
-word-same : (l : List ℕ) (t : ℕ) (m : Mask) → 2 * t + 1 < length l → maskIn (wordSet l t m) t ≡ m
+pub word-same : (l : List ℕ) (t : ℕ) (m : Mask) → 2 * t + 1 < length l → maskIn (wordSet l t m) t ≡ m
 word-same l t m h =
     let l1 : List ℕ = set l (2 * t) (m .low) in
     let e1 : length l1 ≡ length l = simp length-set in
@@ -82,7 +82,7 @@ word-same l t m h =
     let high : getD (wordSet l t m) (2 * t + 1) 0 ≡ m .high = getD-set-same l1 (2 * t + 1) (m .high) 0 (omega arith) in
     λ i. record { low = low i; high = high i }
 
-word-other : (l : List ℕ) (t j : ℕ) (m : Mask) → (j ≡ t → ⊥) → maskIn (wordSet l t m) j ≡ maskIn l j
+pub word-other : (l : List ℕ) (t j : ℕ) (m : Mask) → (j ≡ t → ⊥) → maskIn (wordSet l t m) j ≡ maskIn l j
 word-other l t j m d = λ i. record {
   low = at (2 * j) (λ e. omega (arith, e)) (λ e. omega (arith, e)) i;
   high = at (2 * j + 1)

@@ -16,11 +16,11 @@ use Rattle.scene.specs.Arrays.{FacesWithin}
 use Rattle.scene.specs.Faces.{FaceOf}
 use Rattle.scene.specs.declared.Face.{Face}
 use Rattle.scene.specs.declared.Solid.{Solid}
-use Rattle.face_masks.specs.declared.Mask.{Mask}
 use Rattle.listing.specs.Hits.{Seen, Own}
 use Rattle.sides.specs.Sides.{sidesOf, masksBy}
-use Rattle.sides.specs.Tables.{maskIn, masksFrom, masks-at, masks-kept, masks-length}
-use Rattle.narrow.specs.Cover.{cutIn, cut-is}
+use Rattle.sides.specs.Tables.{maskIn}
+use Rattle.narrow.specs.Cover.{cutIn, cut-is, covers}
+use Rattle.narrow.specs.Union.{noFaces, cutsFrom, covers-none, cuts-at, cuts-kept, cuts-length, cuts-covered}
 use Rattle.narrow.specs.Marks.{ownMarked, own-at, own-kept, own-length}
 use Rattle.sides.specs.Lent.{Told}
 use Rattle.narrow.specs.Lent.{Parted}
@@ -30,15 +30,13 @@ use Rattle.spread.specs.Ready.{Ready}
 abbrev pub mirrors : (k o : Solid) → Bool
 mirrors k o = eqb (o .other) (k .first) && (eqb (o .others) (k .count) && (eqb (o .first) (k .other) && eqb (o .count) (k .others)))
 
--- the faces at each vertex of k, and those of them that part each face of o; where the two are no mirrors the tables stay as they are
+-- the faces at each vertex of k, and those of them that part each face of o, or any of them; where the two are no mirrors the tables stay
+-- as they are
 abbrev pub ownTold : (ℕ → Face) → (k o : Solid) → List ℕ → List ℕ
 ownTold face k o own = cond (mirrors k o) (ownMarked face (k .first) (k .count) own) own
 
 abbrev pub cutsTold : (ℕ → Face) → (k o : Solid) → (words : List ℕ) → List ℕ → List ℕ
-cutsTold face k o words cuts = cond (mirrors k o) (masksFrom (λ i. cutIn words (face i)) (k .other) (k .others) cuts) cuts
-
-abbrev noFaces : Mask
-noFaces = record { low = 0; high = 0 }
+cutsTold face k o words cuts = cond (mirrors k o) (cutsFrom (λ i. cutIn words (face i)) (k .other) (k .others) cuts) cuts
 
 -- tables that are empty where the solid's questions look: at its vertices, and at the faces opposite
 pub record Blank (s : Seen) (k : Solid) (own cuts : List ℕ) : Type 0 where
@@ -69,13 +67,14 @@ blank-new s k =
 -- empty tables say nothing
 pub parted-none : (s : Seen) (k : Solid) {own cuts : List ℕ} → Blank s k own cuts → Parted s k own cuts
 unfolding masksBy maskOf
-parted-none s k e = record {
+parted-none s k {cuts = cuts} e = record {
   low = 0;
   high = 0;
   owned = 0;
   owns = 0;
   at = e .at;
   cut = e .cut;
+  any = λ j b. (λ i. covers (maskIn cuts 0) (e .cut j b i)) ∙ covers-none (maskIn cuts 0);
   across = λ j b. record {
     within = omega arith;
     faces = λ i h. absurd (omega arith);
@@ -138,7 +137,7 @@ module _ (s : Seen) (k o : Solid) (r : Ready s k) (q : Ready s o) (h : mirrors k
       r .apart _ (f .p) (g .p)
 
   module _ {own cuts own′ cuts′ : List ℕ} (e : own′ ≡ ownMarked (s .face) (k .first) (k .count) own)
-      (d : cuts′ ≡ masksFrom (λ i. cutIn words (s .face i)) (k .other) (k .others) cuts) where
+      (d : cuts′ ≡ cutsFrom (λ i. cutIn words (s .face i)) (k .other) (k .others) cuts) where
     parted-by : Blank s k own cuts → Parted s k own′ cuts′
     parted-by z =
         let v = r .within .sound .vertices in
@@ -155,9 +154,12 @@ module _ (s : Seen) (k o : Solid) (r : Ready s k) (q : Ready s o) (h : mirrors k
           cut = λ j b.
               let c = theirs j b in
               ap (λ (x : List ℕ). maskIn x (k .other + 1 + j)) d
-              ∙ masks-at (λ i. cutIn words (s .face i)) (k .other) (k .others) cuts (omega (arith, z .cuts-size, w))
+              ∙ cuts-at (λ i. cutIn words (s .face i)) (k .other) (k .others) cuts (omega (arith, z .cuts-size, w))
               (k .other + 1 + j) (omega arith) (omega arith)
               ∙ cut-is (s .row) (s .face) (k .first) (k .count) words (f j) (side _ (c .p)) (side _ (c .q)) (side _ (c .r));
+          any = λ j b.
+              (λ i. covers (maskIn (d i) 0) (maskIn (d i) (k .other + 1 + j)))
+              ∙ cuts-covered (λ i. cutIn words (s .face i)) (k .other) (k .others) cuts (omega (arith, z .cuts-size, w)) j b;
           across = λ j b.
               let c = other-faces j b in
               record {
@@ -175,13 +177,13 @@ module _ (s : Seen) (k o : Solid) (r : Ready s k) (q : Ready s o) (h : mirrors k
         let m = mirrored k o h in
         record {
           own-size = ap length e ∙ own-length (s .face) (k .first) (k .count) own ∙ z .own-size;
-          cuts-size = ap length d ∙ masks-length (λ i. cutIn words (s .face i)) (k .other) (k .others) cuts ∙ z .cuts-size;
+          cuts-size = ap length d ∙ cuts-length (λ i. cutIn words (s .face i)) (k .other) (k .others) cuts ∙ z .cuts-size;
           at = λ u a.
               ap (λ (x : List ℕ). maskIn x u) e
               ∙ own-kept (s .face) (k .first) (k .count) (q .low) (q .high) u own own-faces (q .apart u a) ∙ z .at u a;
           cut = λ j b.
               ap (λ (x : List ℕ). maskIn x (o .other + 1 + j)) d
-              ∙ masks-kept (λ i. cutIn words (s .face i)) (k .other) (k .others) cuts (o .other + 1 + j)
+              ∙ cuts-kept (λ i. cutIn words (s .face i)) (k .other) (k .others) cuts (o .other + 1 + j) (omega arith)
               (faces-apart (o .other + 1 + j) (omega (arith, m .first)) (omega (arith, m .first, m .count))) ∙ z .cut j b;
         }
 
@@ -195,7 +197,7 @@ module _ (s : Seen) (k o : Solid) (r : Ready s k) (q : Ready s o) {words own cut
   promised = by (mirrors k o) refl e d
     where
       by : (b : Bool) → mirrors k o ≡ b → own′ ≡ cond b (ownMarked (s .face) (k .first) (k .count) own) own →
-          cuts′ ≡ cond b (masksFrom (λ i. cutIn words (s .face i)) (k .other) (k .others) cuts) cuts → Promised s k o own cuts own′ cuts′
+          cuts′ ≡ cond b (cutsFrom (λ i. cutIn words (s .face i)) (k .other) (k .others) cuts) cuts → Promised s k o own cuts own′ cuts′
       by true h x y = (parted-by s k o r q h t x y, blank-kept s k o r q h t x y)
       by false h x y = (λ z. rw (x, y) (parted-none s k z), λ z. rw (x, y) z)
 

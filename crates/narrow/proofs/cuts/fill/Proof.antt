@@ -1,4 +1,4 @@
--- Each turn stores the words of one more face.
+-- Each turn stores the words of one more face and adds them to the union, which is stored last.
 use borrow.Author.Needs.{needs}
 use mathlib.Core.Path.{_≡_, ap, _∙_}
 use Prim.Native.Nat.{_-_, _≤_}
@@ -7,17 +7,20 @@ use Rattle.laws.specs.Filled.{filled}
 use Rattle.scene.specs.Arrays.{faceIn}
 use Rattle.sides.specs.Tables.{masksFrom, masks-more}
 use Rattle.narrow.specs.Cover.{cutIn}
+use Rattle.narrow.specs.Union.{unionOf, union-more, cuts-done}
 use Rattle.narrow.proofs.cuts.fill.Statement.{statement}
 use Rattle.narrow.proofs.cuts.fill.Tie as tie
 
 abbrev Inv-loop : tie.InvT-loop
-Inv-loop corners words first count cuts₀ i₀ cuts i = (i ≤ count) × (cuts ≡ masksFrom (λ k. cutIn words (faceIn corners k)) first i cuts₀)
+Inv-loop corners words first count cuts₀ i₀ any₀ cuts i any =
+    (i ≤ count) × (cuts ≡ masksFrom (λ k. cutIn words (faceIn corners k)) first i cuts₀)
+    × (any ≡ unionOf (λ k. cutIn words (faceIn corners k)) first i)
 
 abbrev μ-loop : tie.MeasureT-loop
-μ-loop corners words first count cuts₀ i₀ cuts i = count - i
+μ-loop corners words first count cuts₀ i₀ any₀ cuts i any = count - i
 
 loop-holds : tie.Need-loop-holds Inv-loop μ-loop
-unfolding masksFrom filled
+unfolding masksFrom filled unionOf
 loop-holds c = search needs
 
 add-k : tie.Need-add-k Inv-loop μ-loop
@@ -30,10 +33,13 @@ face-in-requires : tie.Need-face-in-requires Inv-loop μ-loop
 face-in-requires c κs = search needs
 
 cut-requires : tie.Need-cut-requires Inv-loop μ-loop
-cut-requires c κs = rw (c .face-in .ensures) (c .before .before .before .before .pre .0 _)
+cut-requires c κs = rw (c .face-in .ensures) (c .before .before .before .pre .0 _)
 
 put-requires : tie.Need-put-requires Inv-loop μ-loop
 put-requires c κs = search needs
+
+either-requires : tie.Need-either-requires Inv-loop μ-loop
+either-requires c κs = search needs
 
 add-i : tie.Need-add-i Inv-loop μ-loop
 add-i c = search needs
@@ -43,16 +49,19 @@ loop-less c = search needs
 
 loop-again : tie.Need-loop-again Inv-loop μ-loop
 loop-again c =
-    let d = c .before in (
-      omega arith,
-      c .put .ensures ∙ masks-more _ _ _ _ (d .before .before .before .before .loop .inv .1)
-          (d .cut .ensures ∙ ap (cutIn _) (d .before .face-in .ensures)),
-    )
+    let p = c .before in
+    let d = p .before .before in
+    let v = d .before .before .before .loop .inv in
+    let e = d .cut .ensures ∙ ap (cutIn _) (d .before .face-in .ensures) in
+    (omega arith, p .put .ensures ∙ masks-more _ _ _ _ (v .1) e, c .either .ensures ∙ union-more _ _ _ (v .2) e)
+
+put-requires-2 : tie.Need-put-requires-2 Inv-loop μ-loop
+put-requires-2 c κs = search needs
 
 returns : tie.Need-returns Inv-loop μ-loop
 returns c =
-    let e : c .before .loop .i ≡ c .before .before .args .count = omega arith in
-    cc (c .before .loop .inv .1)
+    let l = c .before .before .before in
+    c .put2 .ensures ∙ cuts-done _ _ _ (omega arith) (l .loop .inv .1) (l .loop .inv .2)
 
 pub fill-spec : {M : Type 1} → statement M
 fill-spec =
@@ -66,7 +75,9 @@ fill-spec =
     face-in-requires
     cut-requires
     put-requires
+    either-requires
     add-i
     loop-less
     loop-again
+    put-requires-2
     returns)
