@@ -15,7 +15,7 @@ use Rattle.laws.specs.Size.{exactly, _⊗_, _⊖_, _⊕_, reread, reads, Held, 
 use Rattle.laws.specs.Sign.{Sign, sign, _or_}
 use Rattle.scene.specs.Limits.{limits, mostPoints}
 use Rattle.scene.specs.declared.Row.{Row}
-use Rattle.orient.specs.Terms.{factor, isPlus, tied, orientation, pointAt, c0At, positiveAt}
+use Rattle.orient.specs.Terms.{factor, isPlus, tied, orientation, pointAt, c0At, c1At, positiveAt}
 use Rattle.orient.specs.Minors.{crossOf, threeOf, meetOf}
 use Rattle.orient.specs.Laws.{factor-weight}
 use Rattle.orient.specs.Columns.{partOf}
@@ -195,21 +195,29 @@ sign-first row i j k m ok e h = decides _ ok e h
 pub zero-bits : {d : ℤ} → mag d < 2 ^ 63 → ofZ w64 d ≡ 0 → d ≡ pos 0
 zero-bits ok z = sym (called ok refl) ∙ ap (toZ w64) z
 
--- the same of a number that is minus c0
+-- the same of a number that is minus the first that is not zero
 minus-below : (z : ℤ) → ltZ (negℤ z) (pos 0) ≡ ltZ (pos 0) z
 minus-below (pos zero) = refl
 minus-below (pos (suc n)) = sym (lt-ltb 0 (suc n) (omega arith))
 minus-below (negsuc n) = le-ltb (suc n) 0 (omega arith)
 
+turned-decides : (z : ℤ) {t : ℤ} (rest : Sign) → mag t < 2 ^ 63 → t ≡ negℤ z → (ofZ w64 t ≡ 0 → ⊥) →
+    ltZ (reread t) (pos 0) ≡ isPlus (sign z or rest)
+turned-decides z rest ok e h =
+    ap (λ (t : ℤ). ltZ t (pos 0)) (called ok e) ∙ minus-below z ∙ lead-at z rest (λ o. h (ap (ofZ w64) (e ∙ ap negℤ o)))
+
 pub sign-turned : (row : ℕ → Row) (i j k m : ℕ) {t : ℤ} → mag t < 2 ^ 63 → t ≡ negℤ (c0At row i j k m) → (ofZ w64 t ≡ 0 → ⊥) →
     ltZ (reread t) (pos 0) ≡ positiveAt row i j k m
 unfolding positiveAt orientation
-sign-turned row i j k m ok e h =
-    let z = c0At row i j k m in
-    ap (λ (t : ℤ). ltZ t (pos 0)) (called ok e) ∙ minus-below z ∙ lead-at z _ (λ o. h (ap (ofZ w64) (e ∙ ap negℤ o)))
+sign-turned row i j k m ok e h = turned-decides (c0At row i j k m) _ ok e h
 
 -- and then the tie says it
 pub tie-tells : (row : ℕ → Row) (a b c d : ℕ) → c0At row a b c d ≡ pos 0 → {r : Bool} →
     r ≡ isPlus (tied (pointAt row a) (pointAt row b) (pointAt row c) (pointAt row d)) → r ≡ positiveAt row a b c d
 unfolding positiveAt orientation
 tie-tells row a b c d z e = e ∙ sym (rw z)
+
+-- c1 first of all
+pub tie-turned : (row : ℕ → Row) (i j k m : ℕ) {t : ℤ} → c0At row i j k m ≡ pos 0 → mag t < 2 ^ 63 → t ≡ negℤ (c1At row i j k m) →
+    (ofZ w64 t ≡ 0 → ⊥) → ltZ (reread t) (pos 0) ≡ positiveAt row i j k m
+tie-turned row i j k m z ok e h = tie-tells row i j k m z (turned-decides (c1At row i j k m) _ ok e h)

@@ -6,6 +6,7 @@ pub mod Columns
 pub mod Ones
 pub mod Formed
 pub mod Sizes
+pub mod Shifts
 pub mod Bits
 pub mod OnesSizes
 pub mod Laws

@@ -195,7 +195,7 @@ pub part-formed : {a b c d : Point} (sx sy sz : Bool) → AreWithin limits a b c
     DetWithin mostFormed (rowOf a sx sy sz) (rowOf b sx sy sz) (rowOf c sx sy sz) (rowOf d sx sy sz)
 part-formed sx sy sz v = det-below (part-fits sx sy sz) (part-within limits (lit≤ tt) v sx sy sz (lit≤ tt))
 
-point-within : (l : Limits) (row : ℕ → Row) (i : ℕ) → RowWithin l (row i) → i ≤ mostPoints l → Within l (pointAt row i)
+pub point-within : (l : Limits) (row : ℕ → Row) (i : ℕ) → RowWithin l (row i) → i ≤ mostPoints l → Within l (pointAt row i)
 point-within l row i h k = omega arith
 
 pub points-within : (l : Limits) (row : ℕ → Row) (a b c d : ℕ) → NumbersWithin l row a b c d →

@@ -115,6 +115,9 @@ pointAt row i = let r = row i in record { x = r .x; y = r .y; z = r .z; w = r .w
 abbrev pub c0At : (ℕ → Row) → (a b c d : ℕ) → ℤ
 c0At row a b c d = c0 (pointAt row a) (pointAt row b) (pointAt row c) (pointAt row d)
 
+abbrev pub c1At : (ℕ → Row) → (a b c d : ℕ) → ℤ
+c1At row a b c d = c1 (pointAt row a) (pointAt row b) (pointAt row c) (pointAt row d)
+
 unfoldable pub positiveAt : (ℕ → Row) → (a b c d : ℕ) → Bool
 positiveAt row a b c d = positive (pointAt row a) (pointAt row b) (pointAt row c) (pointAt row d)
 

@@ -4,11 +4,12 @@ ghost use mathlib.Core.Bool.{true, false, cond};
 ghost use Prim.Native.Nat.{_≤_};
 ghost use lib.IntN.{pos};
 ghost use Rattle.scene.specs.Limits.{limits, mostPoints};
-ghost use Rattle.scene.specs.Arrays.{rowIn};
+ghost use Rattle.scene.specs.Arrays.{rowIn, AllWithin};
 ghost use Rattle.orient.specs.Terms.{factor, c0, c1, c2, c3, termsOf, termsAt, isPlus, tied, pointAt, c0At, positiveAt};
 ghost use Rattle.orient.specs.Slide.{Tells};
 ghost use Rattle.orient.specs.Weighted.{Asked};
 ghost use Rattle.orient.specs.Columns.{rowOf, partOf};
+ghost use Rattle.orient.specs.Shifts.{shiftAt};
 ghost use Rattle.orient.specs.Sizes.{Within, AreWithin, NumbersWithin};
 use crate::minors::det;
 use crate::minors::sum;
@@ -91,6 +92,20 @@ pub fn terms_at(rows: &Rows, a: usize, b: usize, c: usize, d: usize) -> Terms
         point_at(rows, c),
         point_at(rows, d),
     )
+}
+
+// The shift of point i, a direction.
+pub fn shift_at(rows: &Rows, i: usize) -> Row
+    requires { ⌜ AllWithin limits (rowIn (now rows)) × (i ≤ mostPoints limits) ⌝ }
+    ensures { λ r. ⌜ r ≡ shiftAt (rowIn (now (rows .entry))) i ⌝ }
+{
+    let s = shifted(point_at(rows, i), true, true, true);
+    Row {
+        x: s.x,
+        y: s.y,
+        z: s.z,
+        w: 0,
+    }
 }
 
 // Point i: its row in the array, with its number.

@@ -34,7 +34,7 @@ module _ (l : List ℤ) (n : ℕ) (p : Row) where
   abbrev l3 : List ℤ
   l3 = set l2 (4 * n + 2) (p .z)
 
-  row-keeps : length (rowSet l n p) ≡ length l
+  pub row-keeps : length (rowSet l n p) ≡ length l
   row-keeps = simp length-set
 
   -- at a place of another number, and at one of its own four
@@ -43,7 +43,7 @@ module _ (l : List ℤ) (n : ℕ) (p : Row) where
       getD-set-other l3 (4 * n + 3) b (p .w) (pos 0) h3 ∙ getD-set-other l2 (4 * n + 2) b (p .z) (pos 0) h2
       ∙ getD-set-other l1 (4 * n + 1) b (p .y) (pos 0) h1 ∙ getD-set-other l (4 * n) b (p .x) (pos 0) h0
 
-  row-same : 4 * n + 3 < length l → rowIn (rowSet l n p) n ≡ p
+  pub row-same : 4 * n + 3 < length l → rowIn (rowSet l n p) n ≡ p
   row-same h =
       let e1 : length l1 ≡ length l = simp length-set in
       let e2 : length l2 ≡ length l = simp length-set in
@@ -61,7 +61,7 @@ module _ (l : List ℤ) (n : ℕ) (p : Row) where
       ∙ getD-set-other l1 (4 * n + 1) (4 * n) (p .y) (pos 0) (λ e. omega (arith, e)) ∙ getD-set-same l (4 * n) (p .x) (pos 0) (omega arith) in
       made-row x y z w
 
-row-other : (l : List ℤ) (n j : ℕ) (p : Row) → (j ≡ n → ⊥) → rowIn (rowSet l n p) j ≡ rowIn l j
+pub row-other : (l : List ℤ) (n j : ℕ) (p : Row) → (j ≡ n → ⊥) → rowIn (rowSet l n p) j ≡ rowIn l j
 row-other l n j p d =
     let at = elsewhere l n p in
     made-row (at (4 * j) (λ e. omega (arith, e)) (λ e. omega (arith, e)) (λ e. omega (arith, e)) (λ e. omega (arith, e)))
