@@ -3,6 +3,8 @@ pub mod Sizes
 pub mod Bits
 pub mod Sides
 pub mod Told
+pub mod Slopes
+pub mod SlopeSizes
 pub mod Tables
 pub mod Candidates
 pub mod Crossing

@@ -4,13 +4,13 @@ use Prim.Native.Nat.{ℕ, _+_, _*_, _≤_}
 use native.Mathlib.Nat.{le-trans, add-le-add}
 use native.Mathlib.Omega.{arith}
 use lib.Dec.{lit≤}
-use Rattle.laws.specs.Size.{_⊗_, _⊖_, _⊕_, below}
+use Rattle.laws.specs.Size.{Small, _⊗_, _⊖_, _⊕_}
 use Rattle.scene.specs.Limits.{limits}
 use Rattle.scene.specs.Arrays.{RowWithin}
 use Rattle.scene.specs.declared.Row.{Row}
-use Rattle.orient.specs.Formed.{mostFormed, crossSize, threeSize, JoinWithin, RowSize, cross-size, three-size, join-size}
+use Rattle.orient.specs.Formed.{mostFormed, crossSize, threeSize, JoinWithin, RowSize, cross-size, three-size}
 use Rattle.orient.specs.Minors.{joinOf}
-use Rattle.sides.specs.Planes.{planeOf}
+use Rattle.sides.specs.Planes.{planeOf, dotOf}
 use Rattle.orient.specs.declared.minors.Line.{Line}
 
 -- what is formed on the way to a plane, and to a plane at a row
@@ -23,67 +23,119 @@ pub record SpanWithin (k : ℕ) (l : Line) (r : Row) : Type 0 where
 abbrev pub dotSize : Row → Row → ℕ
 dotSize p t = crossSize (p .w) (p .z) (t .z) (t .w) + crossSize (p .y) (p .x) (t .x) (t .y)
 
-module _ (C W : ℕ) where
-  -- a row of a scene, and a plane
-  abbrev RowUpto : Row → Type 0
-  RowUpto = RowSize C C C W
+-- on the way from three rows to their plane
+pub record PlaneWithin (k : ℕ) (a b c : Row) : Type 0 where
+  pub first : JoinWithin k a b
+  pub whole : SpanWithin k (joinOf a b) c
 
-  abbrev pub PlaneUpto : Row → Type 0
-  PlaneUpto = RowSize (6 * (C * C * W)) (6 * (C * C * W)) (6 * (C * C * W)) (6 * (C * C * C))
+-- ---- three rows, with coordinates up to A, B, C and weights up to K, L, M
 
-  module _ {a b c : Row} (p : RowUpto a) (q : RowUpto b) (r : RowUpto c) where
-    span-within : SpanWithin (6 * (C * C * W) + 6 * (C * C * C)) (joinOf a b) c
-    span-within =
-        let l = join-size p q in
-        record {
-          x = le-trans (three-size (l .yz) (r .w) (l .yw) (r .z) (l .zw) (r .y)) (omega arith);
-          y = le-trans (three-size (l .xz) (r .w) (l .xw) (r .z) (l .zw) (r .x)) (omega arith);
-          z = le-trans (three-size (l .xy) (r .w) (l .xw) (r .y) (l .yw) (r .x)) (omega arith);
-          w = le-trans (three-size (l .xy) (r .z) (l .xz) (r .y) (l .yz) (r .x)) (omega arith);
-        }
+-- a line's minors, without the weights and with them
+record LineUpto (F G : ℕ) (l : Line) : Type 0 where
+  pub xy : Small F (l .xy)
+  pub xz : Small F (l .xz)
+  pub xw : Small G (l .xw)
+  pub yz : Small F (l .yz)
+  pub yw : Small G (l .yw)
+  pub zw : Small G (l .zw)
 
-    pub plane-size : PlaneUpto (planeOf a b c)
+-- a row whose coordinates are up to C and whose weight is up to M
+abbrev pub Upto : (C M : ℕ) → Row → Type 0
+Upto C M = RowSize C C C M
+
+module _ (A K B L : ℕ) where
+  abbrev pub flat : ℕ
+  flat = A * B + A * B
+
+  abbrev pub steep : ℕ
+  steep = A * L + K * B
+
+  module _ (C M : ℕ) where
+    -- a plane's coefficients, and the fourth
+    abbrev pub coefficient : ℕ
+    coefficient = flat * M + steep * C + steep * C
+
+    abbrev pub fourth : ℕ
+    fourth = flat * C + flat * C + flat * C
+
+    abbrev pub planeSize : ℕ
+    planeSize = flat + steep + (coefficient + fourth)
+
+module _ {A K B L : ℕ} {a b : Row} (p : Upto A K a) (q : Upto B L b) where
+  line : LineUpto (flat A K B L) (steep A K B L) (joinOf a b)
+  line =
+      record {
+        xy = p .x ⊗ q .y ⊖ p .y ⊗ q .x;
+        xz = p .x ⊗ q .z ⊖ p .z ⊗ q .x;
+        xw = p .x ⊗ q .w ⊖ p .w ⊗ q .x;
+        yz = p .y ⊗ q .z ⊖ p .z ⊗ q .y;
+        yw = p .y ⊗ q .w ⊖ p .w ⊗ q .y;
+        zw = p .z ⊗ q .w ⊖ p .w ⊗ q .z;
+      }
+
+  pub join-within : {k : ℕ} → flat A K B L + steep A K B L ≤ k → JoinWithin k a b
+  join-within h =
+      record {
+        xy = le-trans (cross-size (p .x) (p .y) (q .x) (q .y)) (le-trans (omega arith) h);
+        xz = le-trans (cross-size (p .x) (p .z) (q .x) (q .z)) (le-trans (omega arith) h);
+        xw = le-trans (cross-size (p .x) (p .w) (q .x) (q .w)) (le-trans (omega arith) h);
+        yz = le-trans (cross-size (p .y) (p .z) (q .y) (q .z)) (le-trans (omega arith) h);
+        yw = le-trans (cross-size (p .y) (p .w) (q .y) (q .w)) (le-trans (omega arith) h);
+        zw = le-trans (cross-size (p .z) (p .w) (q .z) (q .w)) (le-trans (omega arith) h);
+      }
+
+  module _ {C M : ℕ} {c : Row} (r : Upto C M c) where
+    pub plane-size : Upto (coefficient A K B L C M) (fourth A K B L C M) (planeOf a b c)
     unfolding planeOf
     plane-size =
-        let l = join-size p q in
+        let l = line in
         record {
-          x = below (l .yz ⊗ r .w ⊖ l .yw ⊗ r .z ⊕ l .zw ⊗ r .y) (omega arith);
-          y = below (l .xz ⊗ r .w ⊖ l .xw ⊗ r .z ⊕ l .zw ⊗ r .x) (omega arith);
-          z = below (l .xy ⊗ r .w ⊖ l .xw ⊗ r .y ⊕ l .yw ⊗ r .x) (omega arith);
-          w = below (l .xy ⊗ r .z ⊖ l .xz ⊗ r .y ⊕ l .yz ⊗ r .x) (omega arith);
+          x = l .yz ⊗ r .w ⊖ l .yw ⊗ r .z ⊕ l .zw ⊗ r .y;
+          y = l .xz ⊗ r .w ⊖ l .xw ⊗ r .z ⊕ l .zw ⊗ r .x;
+          z = l .xy ⊗ r .w ⊖ l .xw ⊗ r .y ⊕ l .yw ⊗ r .x;
+          w = l .xy ⊗ r .z ⊖ l .xz ⊗ r .y ⊕ l .yz ⊗ r .x;
         }
 
-    pub dot-size : {d : Row} → RowUpto d → dotSize (planeOf a b c) d ≤ 24 * (C * C * C * W)
-    dot-size s =
-        let m = plane-size in
-        le-trans (add-le-add (cross-size (m .w) (m .z) (s .z) (s .w)) (cross-size (m .y) (m .x) (s .x) (s .y))) (omega arith)
+    pub plane-within : {k : ℕ} → planeSize A K B L C M ≤ k → PlaneWithin k a b c
+    plane-within h =
+        let l = line in
+        record {
+          first = join-within (le-trans (omega arith) h);
+          whole =
+              record {
+                x = le-trans (three-size (l .yz) (r .w) (l .yw) (r .z) (l .zw) (r .y)) (le-trans (omega arith) h);
+                y = le-trans (three-size (l .xz) (r .w) (l .xw) (r .z) (l .zw) (r .x)) (le-trans (omega arith) h);
+                z = le-trans (three-size (l .xy) (r .w) (l .xw) (r .y) (l .yw) (r .x)) (le-trans (omega arith) h);
+                w = le-trans (three-size (l .xy) (r .z) (l .xz) (r .y) (l .yz) (r .x)) (le-trans (omega arith) h);
+              };
+        }
+
+-- a plane at a row
+abbrev pub dotUpto : (P Q C M : ℕ) → ℕ
+dotUpto P Q C M = Q * M + P * C + (P * C + P * C)
+
+module _ {P Q C M : ℕ} {p t : Row} (m : Upto P Q p) (s : Upto C M t) where
+  pub dot-size : dotSize p t ≤ dotUpto P Q C M
+  dot-size = add-le-add (cross-size (m .w) (m .z) (s .z) (s .w)) (cross-size (m .y) (m .x) (s .x) (s .y))
+
+  pub dot-small : Small (dotUpto P Q C M) (dotOf p t)
+  dot-small = (m .w ⊗ s .w ⊖ m .z ⊗ s .z) ⊕ (m .y ⊗ s .y ⊖ m .x ⊗ s .x)
 
 -- ---- at the limits of a scene
 
-row-upto : {r : Row} → RowWithin limits r → RowSize (limits .mostCoordinate) (limits .mostCoordinate) (limits .mostCoordinate)
-    (limits .mostWeight) r
+pub row-upto : {r : Row} → RowWithin limits r → Upto (limits .mostCoordinate) (limits .mostWeight) r
 row-upto h = omega arith
 
 module _ {a b : Row} (p : RowWithin limits a) (q : RowWithin limits b) where
   pub join-formed : JoinWithin mostFormed a b
-  join-formed =
-      let s = row-upto p in
-      let t = row-upto q in
-      record {
-        xy = le-trans (cross-size (s .x) (s .y) (t .x) (t .y)) (lit≤ tt);
-        xz = le-trans (cross-size (s .x) (s .z) (t .x) (t .z)) (lit≤ tt);
-        xw = le-trans (cross-size (s .x) (s .w) (t .x) (t .w)) (lit≤ tt);
-        yz = le-trans (cross-size (s .y) (s .z) (t .y) (t .z)) (lit≤ tt);
-        yw = le-trans (cross-size (s .y) (s .w) (t .y) (t .w)) (lit≤ tt);
-        zw = le-trans (cross-size (s .z) (s .w) (t .z) (t .w)) (lit≤ tt);
-      }
+  join-formed = join-within (row-upto p) (row-upto q) (lit≤ tt)
 
   module _ {c : Row} (r : RowWithin limits c) where
+    pub plane-formed : PlaneWithin mostFormed a b c
+    plane-formed = plane-within (row-upto p) (row-upto q) (row-upto r) (lit≤ tt)
+
     pub span-formed : SpanWithin mostFormed (joinOf a b) c
-    span-formed =
-        let v = span-within (limits .mostCoordinate) (limits .mostWeight) (row-upto p) (row-upto q) (row-upto r) in
-        omega arith
+    span-formed = plane-formed .whole
 
     pub dot-formed : {d : Row} → RowWithin limits d → dotSize (planeOf a b c) d ≤ mostFormed
-    dot-formed s = le-trans (dot-size (limits .mostCoordinate) (limits .mostWeight) (row-upto p) (row-upto q) (row-upto r) (row-upto s))
-        (lit≤ tt)
+    dot-formed s = le-trans (dot-size (plane-size (row-upto p) (row-upto q) (row-upto r)) (row-upto s)) (lit≤ tt)
