@@ -3,13 +3,13 @@
 use mathlib.Core.Path.{_≡_, refl, sym, ap, _∙_}
 use mathlib.Core.Bool.{Bool, true, false, _&&_, true≢false}
 use mathlib.Core.List.{List, [], _∷_}
-use Prim.Native.Nat.{ℕ, zero, suc, _+_, _*_, _^_, _<_}
+use Prim.Native.Nat.{ℕ, zero, suc, _+_, _*_, _^_, _≤_, _<_}
 use native.Mathlib.Decide.{ℕ-discrete}
 use native.Mathlib.Omega.{arith}
 use borrow.Author.Tests.{eqb-true, eqb-false}
 use lib.Dec.{eqb}
 use lib.IntN.{ℤ, pos, negsuc, _+ℤ_}
-use lib.ListN.{length, replicate}
+use lib.ListN.{length, replicate, length-replicate}
 use lib.Signed.{mag, ltZ}
 use mir.Syntax.{w64}
 use mir.Val.{SFits, toZ, ofZ}
@@ -17,8 +17,9 @@ use Rattle.laws.specs.Filled.{filled}
 use Rattle.laws.specs.Ring.{Expr, ring}
 use Rattle.laws.specs.Ring.Expr.{_⊕_, _⊖_, _⊗_}
 use Rattle.laws.specs.Size.{reread}
+use Rattle.scene.specs.Limits.{limits}
 use Rattle.scene.specs.Arrays.{rowIn}
-use Rattle.scene.specs.Decode.{rowSet, row-same, row-other, rows-decoded}
+use Rattle.scene.specs.Decode.{rowSet, row-keeps, row-same, row-other, rows-decoded}
 use Rattle.scene.specs.Tables.{noRow}
 use Rattle.scene.specs.declared.Row.{Row}
 use Rattle.scene.specs.declared.Face.{Face}
@@ -83,7 +84,7 @@ tilt-told row f t z ok e =
     tie-turned row (f .p) (f .q) (f .r) t z ok
     (e ∙ terms12 (pointAt row (f .p)) (pointAt row (f .q)) (pointAt row (f .r)) (pointAt row t) .e1)
 
--- ---- a table of slopes: an entry that is not blank is its face's
+-- ---- a table of slopes, four numbers a face: an entry that is not blank is its face's
 
 abbrev pub isZero : ℤ → Bool
 isZero (pos zero) = true
@@ -93,22 +94,30 @@ isZero (negsuc n) = false
 abbrev pub isBlank : Row → Bool
 isBlank r = ((isZero (r .x) && isZero (r .y)) && isZero (r .z)) && isZero (r .w)
 
-abbrev pub Sloped : (row : ℕ → Row) (face : ℕ → Face) (slope : ℕ → Row) → Type 0
-Sloped row face slope = (k : ℕ) → isBlank (slope k) ≡ false → slope k ≡ slopeFor row (face k)
+pub record Sloped (row : ℕ → Row) (face : ℕ → Face) (l : List ℤ) : Type 0 where
+  pub size : length l ≡ 4 * (2 * limits .mostFaces + 1)
+  pub made : (k : ℕ) → isBlank (rowIn l k) ≡ false → rowIn l k ≡ slopeFor row (face k)
 
 module _ (row : ℕ → Row) (face : ℕ → Face) where
-  pub zeros-sloped : (m : ℕ) → Sloped row face (rowIn (replicate m (pos 0)))
+  pub zeros-sloped : Sloped row face (replicate (4 * (2 * limits .mostFaces + 1)) (pos 0))
   unfolding filled
-  zeros-sloped m k e =
-      absurd (true≢false (ap isBlank (λ i. sym (rows-decoded (λ j. noRow) 0 m refl (omega arith) (λ j b. refl)) i k) ∙ e))
+  zeros-sloped =
+      let m : ℕ = 4 * (2 * limits .mostFaces + 1) in
+      record {
+        size = length-replicate m (pos 0);
+        made = λ k e. absurd (true≢false (ap isBlank (λ i. sym (rows-decoded (λ j. noRow) 0 m refl (omega arith) (λ j b. refl)) i k) ∙ e));
+      }
 
-  pub stored-sloped : (l : List ℤ) (k : ℕ) {s : Row} → 4 * k + 3 < length l → s ≡ slopeFor row (face k) → Sloped row face (rowIn l) →
-      Sloped row face (rowIn (rowSet l k s))
-  stored-sloped l k {s} room e h j b = go (ℕ-discrete j k)
+  pub stored-sloped : (l : List ℤ) (k : ℕ) {s : Row} → k ≤ 2 * limits .mostFaces → s ≡ slopeFor row (face k) → Sloped row face l →
+      Sloped row face (rowSet l k s)
+  stored-sloped l k {s} few e h = record { size = row-keeps l k s ∙ h .size; made = λ j. go j (ℕ-discrete j k) }
     where
-      go : Dec (j ≡ k) → rowIn (rowSet l k s) j ≡ slopeFor row (face j)
-      go (yes d) = ap (rowIn (rowSet l k s)) d ∙ row-same l k s room ∙ e ∙ ap (λ (i : ℕ). slopeFor row (face i)) (sym d)
-      go (no d) = let o = row-other l k j s d in o ∙ h j (sym (ap isBlank o) ∙ b)
+      room : 4 * k + 3 < length l
+      room = omega (arith, h .size)
+
+      go : (j : ℕ) → Dec (j ≡ k) → isBlank (rowIn (rowSet l k s) j) ≡ false → rowIn (rowSet l k s) j ≡ slopeFor row (face j)
+      go j (yes d) b = ap (rowIn (rowSet l k s)) d ∙ row-same l k s room ∙ e ∙ ap (λ (i : ℕ). slopeFor row (face i)) (sym d)
+      go j (no d) b = let o = row-other l k j s d in o ∙ h .made j (sym (ap isBlank o) ∙ b)
 
 -- a number is zero where its bits are
 pub zero-read : {n : ℤ} → SFits w64 n → eqb (ofZ w64 n) 0 ≡ isZero n

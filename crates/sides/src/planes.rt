@@ -6,8 +6,8 @@ ghost use Rattle.scene.specs.Limits.{limits, mostPoints};
 ghost use Rattle.scene.specs.Arrays.{rowIn, faceIn, AllWithin, FaceWithin, FacesWithin};
 ghost use Rattle.scene.specs.Decode.{rowSet};
 ghost use Rattle.orient.specs.Formed.{mostFormed};
-ghost use Rattle.sides.specs.Planes.{spanOf, dotOf, planeFor};
-ghost use Rattle.sides.specs.Sizes.{SpanWithin, dotSize};
+ghost use Rattle.sides.specs.Planes.{spanOf, dotOf, planeOf, planeFor};
+ghost use Rattle.sides.specs.Sizes.{SpanWithin, PlaneWithin, dotSize};
 use orient::minors::Line;
 use orient::minors::cross;
 use orient::minors::join;
@@ -44,10 +44,18 @@ fn plane(rows: &Rows, f: Face) -> Row
 {
     let p = row_at(rows, f.p);
     let q = row_at(rows, f.q);
-    span(join(q, p), row_at(rows, f.r))
+    through(q, p, row_at(rows, f.r))
 }
 
-fn put(planes: &mut Planes, k: usize, p: Row)
+// The plane of three rows.
+pub fn through(a: Row, b: Row, c: Row) -> Row
+    requires { ⌜ PlaneWithin mostFormed a b c ⌝ }
+    ensures { λ p. ⌜ p ≡ planeOf a b c ⌝ }
+{
+    span(join(a, b), c)
+}
+
+pub fn put(planes: &mut Planes, k: usize, p: Row)
     requires { ⌜ k ≤ 2 * limits .mostFaces ⌝ }
     ensures { λ r. ⌜ now (planes .exit) ≡ rowSet (now (planes .entry)) k p ⌝ }
 {

@@ -1,0 +1,110 @@
+// The slopes of a scene's faces: a face's slope, made when a tie first asks for it, gives c1 of the face's corners and a point.
+ghost use mathlib.Core.Path.{_≡_};
+ghost use Prim.Native.Nat.{_*_, _≤_};
+ghost use lib.IntN.{_+ℤ_};
+ghost use Rattle.scene.specs.Limits.{limits, mostPoints};
+ghost use Rattle.scene.specs.Arrays.{rowIn, faceIn, AllWithin, FaceWithin, FacesWithin};
+ghost use Rattle.orient.specs.Formed.{mostFormed};
+ghost use Rattle.orient.specs.Terms.{c1At};
+ghost use Rattle.sides.specs.Planes.{planeFor};
+ghost use Rattle.sides.specs.Slopes.{sumOf, slopeFor, isZero, isBlank, Sloped};
+ghost use Rattle.sides.specs.SlopeSizes.{SumWithin, plusSize};
+use crate::planes::Planes;
+use crate::planes::dot;
+use crate::planes::plane_at;
+use crate::planes::put;
+use crate::planes::row_at;
+use crate::planes::through;
+use orient::minors::sum;
+use orient::shift_at;
+use scene::Corners;
+use scene::Face;
+use scene::Row;
+use scene::Rows;
+use scene::decode::face_in;
+
+// c1 of the corners of face k, turned as its plane is, and point t.
+pub fn tilt_at(
+    rows: &Rows,
+    corners: &Corners,
+    planes: &Planes,
+    k: usize,
+    t: usize,
+    slopes: &mut Planes,
+) -> i64
+    requires rows { ⌜ AllWithin limits (rowIn (now rows)) × FacesWithin limits (faceIn (now corners))
+        × (k ≤ 2 * limits .mostFaces) × (t ≤ mostPoints limits) ⌝ }
+    requires ready { ⌜ rowIn (now planes) k ≡ planeFor (rowIn (now rows)) (faceIn (now corners) k) ⌝ }
+    requires sloped { ⌜ Sloped (rowIn (now rows)) (faceIn (now corners)) (now slopes) ⌝ }
+    ensures tilt { λ r. ⌜ r ≡ c1At (rowIn (now (rows .entry))) ((faceIn (now (corners .entry)) k) .q)
+        ((faceIn (now (corners .entry)) k) .p) ((faceIn (now (corners .entry)) k) .r) t ⌝ }
+    ensures sloped { λ r. ⌜ Sloped (rowIn (now (rows .entry))) (faceIn (now (corners .entry))) (now (slopes .exit)) ⌝ }
+{
+    let s = slope_at(rows, corners, k, slopes);
+    let a = dot(s, row_at(rows, t));
+    let b = dot(plane_at(planes, k), shift_at(rows, t));
+    plus(a, b)
+}
+
+// The slope of face k, made and stored where the table has none.
+fn slope_at(rows: &Rows, corners: &Corners, k: usize, slopes: &mut Planes) -> Row
+    requires rows { ⌜ AllWithin limits (rowIn (now rows)) × FacesWithin limits (faceIn (now corners)) × (k ≤ 2 * limits .mostFaces) ⌝ }
+    requires sloped { ⌜ Sloped (rowIn (now rows)) (faceIn (now corners)) (now slopes) ⌝ }
+    ensures slope { λ r. ⌜ r ≡ slopeFor (rowIn (now (rows .entry))) (faceIn (now (corners .entry)) k) ⌝ }
+    ensures sloped { λ r. ⌜ Sloped (rowIn (now (rows .entry))) (faceIn (now (corners .entry))) (now (slopes .exit)) ⌝ }
+{
+    let s = plane_at(slopes, k);
+    if is_blank(s) {
+        let made = slope(rows, face_in(corners, k));
+        put(slopes, k, made);
+        return made;
+    }
+    s
+}
+
+// The slope of one face, turned as its plane is: the shift stands for one corner, each in turn.
+fn slope(rows: &Rows, f: Face) -> Row
+    requires { ⌜ AllWithin limits (rowIn (now rows)) × FaceWithin limits f ⌝ }
+    ensures { λ r. ⌜ r ≡ slopeFor (rowIn (now (rows .entry))) f ⌝ }
+{
+    let p = row_at(rows, f.p);
+    let q = row_at(rows, f.q);
+    let r = row_at(rows, f.r);
+    added(
+        through(shift_at(rows, f.q), p, r),
+        through(q, shift_at(rows, f.p), r),
+        through(q, p, shift_at(rows, f.r)),
+    )
+}
+
+fn added(a: Row, b: Row, c: Row) -> Row
+    requires { ⌜ SumWithin mostFormed a b c ⌝ }
+    ensures { λ r. ⌜ r ≡ sumOf a b c ⌝ }
+{
+    Row {
+        x: sum(a.x, b.x, c.x),
+        y: sum(a.y, b.y, c.y),
+        z: sum(a.z, b.z, c.z),
+        w: sum(a.w, b.w, c.w),
+    }
+}
+
+fn is_blank(r: Row) -> bool
+    ensures { λ b. ⌜ b ≡ isBlank r ⌝ }
+{
+    is_zero(r.x) & is_zero(r.y) & is_zero(r.z) & is_zero(r.w)
+}
+
+fn is_zero(n: i64) -> bool
+    ensures { λ b. ⌜ b ≡ isZero n ⌝ }
+{
+    n == 0
+}
+
+// Two numbers added.
+fn plus(a: i64, b: i64) -> i64
+    requires { ⌜ plusSize a b ≤ mostFormed ⌝ }
+    ensures { λ r. ⌜ r ≡ a +ℤ b ⌝ }
+{
+    a + b
+}
