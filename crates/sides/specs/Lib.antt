@@ -9,3 +9,4 @@ pub mod Tables
 pub mod Candidates
 pub mod Crossing
 pub mod Lent
+pub mod Ties

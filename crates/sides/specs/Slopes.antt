@@ -119,9 +119,9 @@ module _ (row : ℕ → Row) (face : ℕ → Face) where
       go j (yes d) b = ap (rowIn (rowSet l k s)) d ∙ row-same l k s room ∙ e ∙ ap (λ (i : ℕ). slopeFor row (face i)) (sym d)
       go j (no d) b = let o = row-other l k j s d in o ∙ h .made j (sym (ap isBlank o) ∙ b)
 
--- a number is zero where its bits are
-pub zero-read : {n : ℤ} → SFits w64 n → eqb (ofZ w64 n) 0 ≡ isZero n
-zero-read {n} fits = go (eqb (ofZ w64 n) 0) refl
+-- a number that is read back as itself is zero where its bits are
+pub zero-read : {n : ℤ} → reread n ≡ n → eqb (ofZ w64 n) 0 ≡ isZero n
+zero-read {n} same = go (eqb (ofZ w64 n) 0) refl
   where
     not-zero : (n : ℤ) → (ofZ w64 n ≡ 0 → ⊥) → false ≡ isZero n
     not-zero (pos zero) h = absurd (h refl)
@@ -129,5 +129,5 @@ zero-read {n} fits = go (eqb (ofZ w64 n) 0) refl
     not-zero (negsuc n) h = refl
 
     go : (t : Bool) → eqb (ofZ w64 n) 0 ≡ t → t ≡ isZero n
-    go true e = ap isZero (sym (ap (toZ w64) (eqb-true (ofZ w64 n) 0 e)) ∙ read fits)
+    go true e = ap isZero (sym (ap (toZ w64) (eqb-true (ofZ w64 n) 0 e)) ∙ same)
     go false e = not-zero n (eqb-false (ofZ w64 n) 0 e)

@@ -1,6 +1,6 @@
 -- The tables that are made once a scene: the planes of its faces, and two words a point, the sides of the other solid's faces. What they
 -- hold after they are filled, at every number. Assumes nothing.
-use mathlib.Core.Path.{_≡_, refl, sym, ap, _∙_}
+use mathlib.Core.Path.{_≡_, refl, sym, ap, subst, _∙_}
 use mathlib.Core.Bool.{cond}
 use mathlib.Core.List.{List}
 use Prim.Native.Nat.{ℕ, zero, suc, _+_, _-_, _*_, _≤_, _<_}
@@ -126,3 +126,18 @@ module _ (g : ℕ → Mask) (low : ℕ) where
   masks-kept zero l t out = refl
   masks-kept (suc n) l t out =
       word-other (made n l) (at n) t (g (at n)) (λ e. out (omega arith) (omega arith)) ∙ masks-kept n l t (λ a b. out a (omega arith))
+
+-- those of the first m numbers, and then those of the n behind them
+pub masks-join : (g : ℕ → Mask) (low m n : ℕ) (l : List ℕ) → masksFrom g (low + m) n (masksFrom g low m l) ≡ masksFrom g low (m + n) l
+unfolding masksFrom filled
+masks-join g low m zero l = let e : m ≡ m + 0 = omega arith in ap (λ (k : ℕ). masksFrom g low k l) e
+masks-join g low m (suc n) l =
+    let e : low + m + 1 + n ≡ low + 1 + (m + n) = omega arith in
+    let k : suc (m + n) ≡ m + suc n = omega arith in
+    (λ i. wordSet (masks-join g low m n l i) (e i) (g (e i))) ∙ ap (λ (k : ℕ). masksFrom g low k l) k
+
+pub ready-from : (row : ℕ → Row) (face : ℕ → Face) (plane : ℕ → Row) (k : Solid) → ReadyFor row face plane k → (m i : ℕ) → m + i < k .verts →
+    ReadyAll row face plane (k .low + m + 1 + i) (k .other) (k .others)
+ready-from row face plane k h m i b =
+    let e : k .low + 1 + (m + i) ≡ k .low + m + 1 + i = omega arith in
+    subst (λ (t : ℕ). ReadyAll row face plane t (k .other) (k .others)) e (h (m + i) b)

@@ -53,7 +53,7 @@ module _ (row : ℕ → Row) (face : ℕ → Face) (plane : ℕ → Row) (t k : 
   pub above-asked : AllWithin limits row → dotSize x y ≤ mostFormed
   above-asked = dot-asked row ((face k) .q) ((face k) .p) ((face k) .r) t corners q
 
-  turned : {d : ℤ} → d ≡ dotOf x y → d ≡ c0At row ((face k) .q) ((face k) .p) ((face k) .r) t
+  pub turned : {d : ℤ} → d ≡ dotOf x y → d ≡ c0At row ((face k) .q) ((face k) .p) ((face k) .r) t
   turned = dot-term row ((face k) .q) ((face k) .p) ((face k) .r) t corners q
 
   exchanged : (i j : ℕ) → c0At row i j ((face k) .r) t ≡ negℤ (c0At row j i ((face k) .r) t)

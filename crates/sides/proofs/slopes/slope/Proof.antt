@@ -70,9 +70,17 @@ added-requires c κs =
     let s = r1 .before in
     let f = s .args .f in
     let h = s .pre .1 in
-    rw
-    (t1 .through .ensures, t2 .through2 .ensures, c .through3 .ensures, s1 .shift-at .ensures, s2 .shift-at2 .ensures,
-    s3 .shift-at3 .ensures, r1 .row-at .ensures, r2 .row-at2 .ensures, r3 .row-at3 .ensures)
+    rw (
+      t1 .through .ensures,
+      t2 .through2 .ensures,
+      c .through3 .ensures,
+      s1 .shift-at .ensures,
+      s2 .shift-at2 .ensures,
+      s3 .shift-at3 .ensures,
+      r1 .row-at .ensures,
+      r2 .row-at2 .ensures,
+      r3 .row-at3 .ensures,
+    )
     (slope-formed (rowIn (now (s .args .rows))) (f .q) (f .p) (f .r) (s .pre .0) (h .q) (h .p) (h .r))
 
 returns : tie.Need-returns

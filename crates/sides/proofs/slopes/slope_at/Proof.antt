@@ -29,8 +29,7 @@ returns c =
     let d = c .before .before in
     let s = d .before .before .before .before .before .before in
     let a = s .args in
-    let e = d .slope .ensures ∙ ap (slopeFor (rowIn (now (a .rows)))) (d .before .face-in .ensures) in
-    (
+    let e = d .slope .ensures ∙ ap (slopeFor (rowIn (now (a .rows)))) (d .before .face-in .ensures) in (
       e,
       rw (c .put .ensures) (stored-sloped (rowIn (now (a .rows))) (faceIn (now (a .corners))) (now (a .slopes)) (a .k) (s .pre .0 .2) e (s .pre .1)),
     )

@@ -79,8 +79,7 @@ returns c =
     let a = s .args in
     let f = faceIn (now (a .corners)) (a .k) in
     let x = called (d .dot .ok) (d .dot .ensures ∙ (λ i. dotOf (o .slope-at .ensures .0 i) (r .row-at .ensures i))) in
-    let y = called (e .dot2 .ok) (e .dot2 .ensures ∙ (λ i. dotOf ((l .plane-at .ensures ∙ s .pre .1 .0) i) (h .shift-at .ensures i))) in
-    (
+    let y = called (e .dot2 .ok) (e .dot2 .ensures ∙ (λ i. dotOf ((l .plane-at .ensures ∙ s .pre .1 .0) i) (h .shift-at .ensures i))) in (
       called (c .plus .ok) (c .plus .ensures ∙ (λ i. x i +ℤ y i) ∙ slope-term (rowIn (now (a .rows))) (f .q) (f .p) (f .r) (a .t)),
       o .slope-at .ensures .1,
     )

@@ -1,70 +1,50 @@
--- Each turn stores the words of one more vertex.
+-- The vertices up to the first tie, and those from there on.
 use borrow.Author.Needs.{needs}
-use mathlib.Core.Path.{_≡_, _∙_}
-use Prim.Native.Nat.{_-_, _≤_}
+use denote.Ref.{now}
+use mathlib.Core.Path.{_≡_, ap, _∙_}
+use Prim.Native.Nat.{ℕ, _+_, _-_}
 use native.Mathlib.Omega.{arith}
-use Rattle.laws.specs.Filled.{filled}
 use Rattle.scene.specs.Arrays.{rowIn, faceIn}
-use Rattle.sides.specs.Tables.{masksFrom, masks-more}
 use Rattle.sides.specs.Sides.{sidesOf}
+use Rattle.sides.specs.Tables.{masksFrom, masks-join, ready-from}
 use Rattle.sides.proofs.words.fill.Statement.{statement}
 use Rattle.sides.proofs.words.fill.Tie as tie
 
-abbrev Inv-loop : tie.InvT-loop
-Inv-loop rows corners planes words₀ low verts other others i₀ words i = (i ≤ verts)
-    × (words ≡ masksFrom (sidesOf (rowIn rows) (faceIn corners) other others) low i words₀)
+fill-clear-requires : tie.Need-fill-clear-requires
+fill-clear-requires c κs = search needs
 
-abbrev μ-loop : tie.MeasureT-loop
-μ-loop rows corners planes words₀ low verts other others i₀ words i = verts - i
+add-fill-tied : tie.Need-add-fill-tied
+add-fill-tied c = omega (arith, c .before .fill-clear .ensures .0, c .before .before .before .pre .1 .0)
 
-loop-holds : tie.Need-loop-holds Inv-loop μ-loop
-unfolding masksFrom filled
-loop-holds c = search needs
+sub-fill-tied : tie.Need-sub-fill-tied
+sub-fill-tied c = omega (arith, c .before .before .fill-clear .ensures .0)
 
-add-t : tie.Need-add-t Inv-loop μ-loop
-add-t c = search needs
+fill-tied-requires : tie.Need-fill-tied-requires
+fill-tied-requires c κs =
+    let d = c .before .before .before in
+    let s = d .before .before in
+    let p = s .pre in
+    let a = s .args in (
+      p .0,
+      (
+        (omega (arith, d .fill-clear .ensures .0, p .1 .0), p .1 .0 .1, p .1 .0 .2),
+        λ i b. ready-from (rowIn (now (a .rows))) (faceIn (now (a .corners))) (rowIn (now (a .planes))) (a .k) (p .1 .1) (d .fill-clear .result) i
+            (omega arith),
+      ),
+    )
 
-add-t-2 : tie.Need-add-t-2 Inv-loop μ-loop
-add-t-2 c = search needs
-
-sides-requires : tie.Need-sides-requires Inv-loop μ-loop
-sides-requires c κs =
-    let l = c .before in
-    let p = l .before .before .pre in
-    ((p .0 .0, p .0 .1, search needs), (search needs, p .1 .1 (l .before .loop .i) (search needs)))
-
-put-requires : tie.Need-put-requires Inv-loop μ-loop
-put-requires c κs = search needs
-
-add-i : tie.Need-add-i Inv-loop μ-loop
-add-i c = search needs
-
-loop-less : tie.Need-loop-less Inv-loop μ-loop
-loop-less c = search needs
-
-loop-again : tie.Need-loop-again Inv-loop μ-loop
-loop-again c =
-    let d = c .before in
-    (omega arith, c .put .ensures ∙ masks-more _ _ _ _ (d .before .before .before .loop .inv .1) (d .sides .ensures))
-
-returns : tie.Need-returns Inv-loop μ-loop
+returns : tie.Need-returns
 returns c =
-    let k = c .before .before .args .k in
-    let e : c .before .loop .i ≡ k .verts = omega arith in
-    cc (c .before .loop .inv .1)
+    let d = c .before .before .before .before in
+    let a = d .before .before .args in
+    let k = a .k in
+    let m = d .fill-clear .result in
+    let g = sidesOf (rowIn (now (a .rows))) (faceIn (now (a .corners))) (k .other) (k .others) in
+    let e : m + (k .verts - m) ≡ k .verts = omega (arith, d .fill-clear .ensures .0) in
+    c .fill-tied .ensures
+    ∙ ap (masksFrom g (k .low + m) (k .verts - m)) (d .fill-clear .ensures .1)
+    ∙ masks-join g (k .low) m (k .verts - m) (now (a .words))
+    ∙ ap (λ (n : ℕ). masksFrom g (k .low) n (now (a .words))) e
 
 pub fill-spec : {M : Type 1} → statement M
-fill-spec =
-    tie.close
-    (tie.spec
-    Inv-loop
-    μ-loop
-    loop-holds
-    add-t
-    add-t-2
-    sides-requires
-    put-requires
-    add-i
-    loop-less
-    loop-again
-    returns)
+fill-spec = tie.close (tie.spec fill-clear-requires add-fill-tied sub-fill-tied fill-tied-requires returns)

@@ -1,56 +1,39 @@
--- The faces that the first word holds are all, or the second goes on from there.
+-- What the planes tell, and where there are ties those settled.
 use borrow.Author.Needs.{needs}
-use native.Mathlib.Omega.{arith}
 use denote.Ref.{now}
+use mathlib.Core.Path.{sym, _∙_}
+use Prim.Native.Nat.{_+_, _*_}
+use Rattle.scene.specs.Limits.{limits}
 use Rattle.scene.specs.Arrays.{rowIn, faceIn}
-use Rattle.sides.specs.Sides.{masks-one, masks-two, ready-low, ready-high}
+use Rattle.sides.specs.Slopes.{zeros-sloped}
+use Rattle.sides.specs.Ties.{masks-clear}
 use Rattle.sides.proofs.words.sides.Statement.{statement}
 use Rattle.sides.proofs.words.sides.Tie as tie
 
-word-requires : tie.Need-word-requires
-word-requires c κs = search needs
+tell-requires : tie.Need-tell-requires
+tell-requires c κs = search needs
+
+has-ties-requires : tie.Need-has-ties-requires
+has-ties-requires c κs = search needs
+
+settled-requires : tie.Need-settled-requires
+settled-requires c κs =
+    let d = c .before .before .before in
+    let p = d .before .pre in
+    (p .0, ((p .1 .0 .0, p .1 .0 .1, p .1 .1), (d .tell .ensures, zeros-sloped _ _)))
 
 returns : tie.Need-returns
-returns c = masks-one _ (faceIn (now (c .before .before .args .corners))) (c .before .before .args .first) _ (c .before .if1 .taken)
-    (c .word .ensures)
-
-word-requires-2 : tie.Need-word-requires-2
-word-requires-2 c κs =
-    let s = c .before in
-    let p = s .pre in
-    let a = s .args in (
-      p .0,
-      (
-        search needs,
-        ready-low (rowIn (now (a .rows))) (faceIn (now (a .corners))) (rowIn (now (a .planes))) (a .first) (a .count)
-            (p .1 .1) 64 (omega arith),
-      ),
-    )
-
-add-word : tie.Need-add-word
-add-word c = search needs
-
-sub-word : tie.Need-sub-word
-sub-word c = search needs
-
-word-requires-3 : tie.Need-word-requires-3
-word-requires-3 c κs =
-    let s = c .before .before in
-    let p = s .pre in
-    let a = s .args in (
-      p .0,
-      (
-        search needs,
-        ready-high (rowIn (now (a .rows))) (faceIn (now (a .corners))) (rowIn (now (a .planes))) (a .first) (a .count)
-            (p .1 .1),
-      ),
-    )
+returns c = c .settled .ensures .0
 
 returns-2 : tie.Need-returns-2
 returns-2 c =
-    let s = c .before .before .before in
-    masks-two _ (faceIn (now (s .args .corners))) (s .args .first) _ (c .before .before .if1 .left) (c .before .word2 .ensures)
-    (c .word3 .ensures)
+    let e = c .before in
+    let h = e .before in
+    let d = h .before in
+    let s = d .before in
+    let a = s .args in
+    masks-clear (rowIn (now (a .rows))) (faceIn (now (a .corners))) (a .first) (a .count) (a .t) (s .pre .1 .0 .1) (d .tell .ensures)
+    (sym (h .has-ties .ensures) ∙ e .if1 .left)
 
 pub sides-spec : {M : Type 1} → statement M
-sides-spec = tie.close (tie.spec word-requires returns word-requires-2 add-word sub-word word-requires-3 returns-2)
+sides-spec = tie.close (tie.spec tell-requires has-ties-requires settled-requires returns returns-2)

@@ -2,14 +2,14 @@
 use borrow.Author.Needs.{needs}
 use mathlib.Core.Path.{_∙_}
 use Rattle.sides.specs.Bits.{unit-row}
-use Rattle.sides.proofs.words.word.Statement.{statement}
-use Rattle.sides.proofs.words.word.Tie as tie
+use Rattle.sides.proofs.words.tell_word.Statement.{statement}
+use Rattle.sides.proofs.words.tell_word.Tie as tie
 
 row-at-requires : tie.Need-row-at-requires
 row-at-requires c κs = search needs
 
-word-at-requires : tie.Need-word-at-requires
-word-at-requires c κs =
+tell-at-requires : tie.Need-tell-at-requires
+tell-at-requires c κs =
     let r = c .before .before .before .before in
     let p = r .before .pre in
     ((p .0 .0, p .0 .1), ((p .0 .2, unit-row (search needs) (c .before .if1 .taken) ∙ r .row-at .ensures), p .1))
@@ -17,8 +17,8 @@ word-at-requires c κs =
 returns : tie.Need-returns
 returns c = search needs
 
-word-at-requires-2 : tie.Need-word-at-requires-2
-word-at-requires-2 c κs =
+tell-at-requires-2 : tie.Need-tell-at-requires-2
+tell-at-requires-2 c κs =
     let r = c .before .before .before in
     let p = r .before .pre in
     ((p .0 .0, p .0 .1), ((p .0 .2, r .row-at .ensures), p .1))
@@ -26,5 +26,5 @@ word-at-requires-2 c κs =
 returns-2 : tie.Need-returns-2
 returns-2 c = search needs
 
-pub word-spec : {M : Type 1} → statement M
-word-spec = tie.close (tie.spec row-at-requires word-at-requires returns word-at-requires-2 returns-2)
+pub tell-word-spec : {M : Type 1} → statement M
+tell-word-spec = tie.close (tie.spec row-at-requires tell-at-requires returns tell-at-requires-2 returns-2)
