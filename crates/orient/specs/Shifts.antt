@@ -1,10 +1,9 @@
--- The shift of a point as a row of its own, a direction: c1 of four points is the sum of four determinants, each with the shift in place of one
--- of the rows. Assumes nothing.
+-- The shift of a point as a row of its own, a direction: c1 of four points is the sum of four determinants, each with the shift in place
+-- of one of the rows. Assumes nothing.
 use mathlib.Core.Path.{_≡_}
 use mathlib.Core.Bool.{true, false}
 use mathlib.Core.List.{[]}
 use Prim.Native.Nat.{ℕ, _*_, _≤_}
-use native.Mathlib.Omega.{arith}
 use lib.Dec.{lit≤}
 use lib.IntN.{pos, _+ℤ_}
 use Rattle.laws.specs.Ring.{Expr, ring}
@@ -14,7 +13,7 @@ use Rattle.scene.specs.Limits.{limits, mostPoints}
 use Rattle.scene.specs.Arrays.{AllWithin}
 use Rattle.scene.specs.declared.Row.{Row}
 use Rattle.orient.specs.Determinant.{Entries, det4}
-use Rattle.orient.specs.Terms.{Powers, Numbered, terms, c1, pointAt}
+use Rattle.orient.specs.Terms.{Numbered, terms, c1, pointAt}
 use Rattle.orient.specs.Columns.{marked, rowOf}
 use Rattle.orient.specs.Formed.{RowSize}
 use Rattle.orient.specs.Sizes.{row-size, point-within}

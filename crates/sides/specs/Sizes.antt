@@ -1,5 +1,5 @@
--- How large the numbers are that lines and planes are formed from: with coordinates up to C and weights up to W, a plane's coefficients are
--- at most 6·C²·W, the fourth 6·C³, and a plane at a point is at most 24·C³·W. Assumes nothing.
+-- How large the numbers are that lines and planes are formed from, by the sizes of the three rows, which need not be the same: a shift may
+-- stand for one of them. Assumes nothing.
 use Prim.Native.Nat.{ℕ, _+_, _*_, _≤_}
 use native.Mathlib.Nat.{le-trans, add-le-add}
 use native.Mathlib.Omega.{arith}

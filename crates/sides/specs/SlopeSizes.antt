@@ -12,7 +12,7 @@ use Rattle.orient.specs.Formed.{mostFormed, sumSize}
 use Rattle.orient.specs.Shifts.{shiftAt, mostShift, shift-size}
 use Rattle.sides.specs.Planes.{dotOf, planeOf}
 use Rattle.sides.specs.Sizes.{PlaneWithin, Upto, coefficient, fourth, plane-size, plane-within}
-use Rattle.sides.specs.Sizes.{dotSize, dotUpto, dot-size, dot-small, row-upto}
+use Rattle.sides.specs.Sizes.{dotSize, dot-size, dot-small, row-upto}
 use Rattle.sides.specs.Slopes.{sumOf, slopeOf}
 
 -- on the way to the sum of three rows, and to that of two numbers

@@ -47,7 +47,7 @@ pub fn tilt_at(
 }
 
 // The slope of face k, made and stored where the table has none.
-fn slope_at(rows: &Rows, corners: &Corners, k: usize, slopes: &mut Planes) -> Row
+pub fn slope_at(rows: &Rows, corners: &Corners, k: usize, slopes: &mut Planes) -> Row
     requires rows { ⌜ AllWithin limits (rowIn (now rows)) × FacesWithin limits (faceIn (now corners)) × (k ≤ 2 * limits .mostFaces) ⌝ }
     requires sloped { ⌜ Sloped (rowIn (now rows)) (faceIn (now corners)) (now slopes) ⌝ }
     ensures slope { λ r. ⌜ r ≡ slopeFor (rowIn (now (rows .entry))) (faceIn (now (corners .entry)) k) ⌝ }

@@ -29,9 +29,10 @@ returns c =
     let d = c .before .before in
     let s = d .before .before .before .before .before .before in
     let a = s .args in
-    let e = d .slope .ensures ∙ ap (slopeFor (rowIn (now (a .rows)))) (d .before .face-in .ensures) in (
+    let row = rowIn (now (a .rows)) in
+    let e = d .slope .ensures ∙ ap (slopeFor row) (d .before .face-in .ensures) in (
       e,
-      rw (c .put .ensures) (stored-sloped (rowIn (now (a .rows))) (faceIn (now (a .corners))) (now (a .slopes)) (a .k) (s .pre .0 .2) e (s .pre .1)),
+      rw (c .put .ensures) (stored-sloped row (faceIn (now (a .corners))) (now (a .slopes)) (a .k) (s .pre .0 .2) e (s .pre .1)),
     )
 
 returns-2 : tie.Need-returns-2

@@ -28,7 +28,8 @@ dot-requires c κs =
     let p = s .pre .0 in
     let f = faceIn (now (a .corners)) (a .k) in
     let h = p .1 (a .k) in
-    rw (d .slope-at .ensures .0, c .row-at .ensures) (slope-dot (rowIn (now (a .rows))) (f .q) (f .p) (f .r) (p .0) (h .q) (h .p) (h .r) (a .t))
+    rw (d .slope-at .ensures .0, c .row-at .ensures)
+    (slope-dot (rowIn (now (a .rows))) (f .q) (f .p) (f .r) (p .0) (h .q) (h .p) (h .r) (a .t))
 
 plane-at-requires : tie.Need-plane-at-requires
 plane-at-requires c κs = search needs
