@@ -161,16 +161,18 @@ pub fn sides(
     first: usize,
     count: usize,
     t: usize,
+    slopes: &mut Planes,
 ) -> Mask
     requires rows { ⌜ AllWithin limits (rowIn (now rows)) × FacesWithin limits (faceIn (now corners)) × (t ≤ mostPoints limits) ⌝ }
     requires faces { ⌜ (first + count ≤ 2 * limits .mostFaces) × (count ≤ limits .mostFaces) ⌝ }
     requires ready { ⌜ ReadyAll (rowIn (now rows)) (faceIn (now corners)) (rowIn (now planes)) t first count ⌝ }
-    ensures { λ r. ⌜ r ≡ sidesOf (rowIn (now (rows .entry))) (faceIn (now (corners .entry))) first count t ⌝ }
+    requires sloped { ⌜ Sloped (rowIn (now rows)) (faceIn (now corners)) (now slopes) ⌝ }
+    ensures { λ r. ⌜ (r ≡ sidesOf (rowIn (now (rows .entry))) (faceIn (now (corners .entry))) first count t)
+        × Sloped (rowIn (now (rows .entry))) (faceIn (now (corners .entry))) (now (slopes .exit)) ⌝ }
 {
     let m = tell(rows, corners, planes, first, count, t);
     if has_ties(m) {
-        let mut slopes: Planes = [0; 4 * (2 * Scene::MOST_FACES + 1)];
-        return settled(rows, corners, planes, first, count, t, m, &mut slopes);
+        return settled(rows, corners, planes, first, count, t, m, slopes);
     }
     m.above
 }

@@ -2,10 +2,7 @@
 use borrow.Author.Needs.{needs}
 use denote.Ref.{now}
 use mathlib.Core.Path.{sym, _∙_}
-use Prim.Native.Nat.{_+_, _*_}
-use Rattle.scene.specs.Limits.{limits}
 use Rattle.scene.specs.Arrays.{rowIn, faceIn}
-use Rattle.sides.specs.Slopes.{zeros-sloped}
 use Rattle.sides.specs.Ties.{masks-clear}
 use Rattle.sides.proofs.words.sides.Statement.{statement}
 use Rattle.sides.proofs.words.sides.Tie as tie
@@ -20,10 +17,10 @@ settled-requires : tie.Need-settled-requires
 settled-requires c κs =
     let d = c .before .before .before in
     let p = d .before .pre in
-    (p .0, ((p .1 .0 .0, p .1 .0 .1, p .1 .1), (d .tell .ensures, zeros-sloped _ _)))
+    (p .0, ((p .1 .0 .0, p .1 .0 .1, p .1 .1 .0), (d .tell .ensures, p .1 .1 .1)))
 
 returns : tie.Need-returns
-returns c = c .settled .ensures .0
+returns c = c .settled .ensures
 
 returns-2 : tie.Need-returns-2
 returns-2 c =
@@ -31,9 +28,11 @@ returns-2 c =
     let h = e .before in
     let d = h .before in
     let s = d .before in
-    let a = s .args in
-    masks-clear (rowIn (now (a .rows))) (faceIn (now (a .corners))) (a .first) (a .count) (a .t) (s .pre .1 .0 .1) (d .tell .ensures)
-    (sym (h .has-ties .ensures) ∙ e .if1 .left)
+    let a = s .args in (
+      masks-clear (rowIn (now (a .rows))) (faceIn (now (a .corners))) (a .first) (a .count) (a .t) (s .pre .1 .0 .1) (d .tell .ensures)
+          (sym (h .has-ties .ensures) ∙ e .if1 .left),
+      s .pre .1 .1 .1,
+    )
 
 pub sides-spec : {M : Type 1} → statement M
 sides-spec = tie.close (tie.spec tell-requires has-ties-requires settled-requires returns returns-2)
