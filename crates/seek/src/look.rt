@@ -9,6 +9,7 @@ ghost use Rattle.scene.specs.Faces.{Vertex};
 ghost use Rattle.seek.specs.First.{hitsOf};
 ghost use Rattle.seek.specs.Look.{Glimpsed};
 ghost use Rattle.sides.specs.Sides.{sidesOf};
+ghost use Rattle.sides.specs.Slopes.{Sloped};
 ghost use Rattle.table.specs.Edges.{AreLinks, Higher, entry, vertexEdges};
 ghost use Rattle.table.specs.Table.{entryHits};
 ghost use Rattle.told.specs.Told.{Made};
@@ -18,6 +19,7 @@ use links::Words;
 use listing::find::Found;
 use scene::Corners;
 use scene::Rows;
+use scene::Scene;
 use scene::Solid;
 use sides::between;
 use sides::planes::Planes;
@@ -38,13 +40,16 @@ fn look_at(
     u: usize,
     m: Mask,
     v: usize,
+    slopes: &mut Planes,
 ) -> Found
     requires solid { ⌜ Sound (seenIn n (now rows) (now corners)) k × Made (rowIn (now rows)) (faceIn (now corners)) k (now planes) ⌝ }
     requires edge { ⌜ Vertex (k .low) (k .low + k .verts) u × Vertex (k .low) (k .low + k .verts) v × (u < v) ⌝ }
-    requires sides { ⌜ m ≡ sidesOf (rowIn (now rows)) (faceIn (now corners)) (k .other) (k .others) u ⌝ }
-    ensures { λ r. ⌜ r ≡ firstOf (entryHits (k .other) (entry (seenIn n (now (rows .entry)) (now (corners .entry))) k u v)) ⌝ }
+    requires sides { ⌜ (m ≡ sidesOf (rowIn (now rows)) (faceIn (now corners)) (k .other) (k .others) u)
+        × Sloped (rowIn (now rows)) (faceIn (now corners)) (now slopes) ⌝ }
+    ensures { λ r. ⌜ (r ≡ firstOf (entryHits (k .other) (entry (seenIn n (now (rows .entry)) (now (corners .entry))) k u v)))
+        × Sloped (rowIn (now (rows .entry))) (faceIn (now (corners .entry))) (now (slopes .exit)) ⌝ }
 {
-    let w = sides(rows, corners, planes, k.other, k.others, v);
+    let w = sides(rows, corners, planes, k.other, k.others, v, slopes);
     let x = between(engine, rows, corners, n, u, v, k.other, k.others, m, w);
     first_of_mask(u, v, x, k.other)
 }
@@ -60,10 +65,12 @@ fn look_from(
     u: usize,
     m: Mask,
     higher: u64,
+    slopes: &mut Planes,
 ) -> Found
     requires solid { ⌜ Sound (seenIn n (now rows) (now corners)) k × Made (rowIn (now rows)) (faceIn (now corners)) k (now planes) ⌝ }
     requires vertex { ⌜ Vertex (k .low) (k .low + k .verts) u × Higher (seenIn n (now rows) (now corners)) k u higher ⌝ }
-    requires sides { ⌜ m ≡ sidesOf (rowIn (now rows)) (faceIn (now corners)) (k .other) (k .others) u ⌝ }
+    requires sides { ⌜ (m ≡ sidesOf (rowIn (now rows)) (faceIn (now corners)) (k .other) (k .others) u)
+        × Sloped (rowIn (now rows)) (faceIn (now corners)) (now slopes) ⌝ }
     ensures { λ r. ⌜ Glimpsed (hitsOf (seenIn n (now (rows .entry)) (now (corners .entry))) k
         (vertexEdges (seenIn n (now (rows .entry)) (now (corners .entry))) k u)) r ⌝ }
 {
@@ -74,7 +81,7 @@ fn look_from(
             return Found::Nothing;
         }
         let v = u + 1 + u64::trailing_zeros(left) as usize;
-        let found = look_at(engine, rows, corners, n, k, planes, u, m, v);
+        let found = look_at(engine, rows, corners, n, k, planes, u, m, v, slopes);
         if let Found::Pair(a, b, f) = found {
             return Found::Pair(a, b, f);
         }
@@ -102,7 +109,19 @@ pub fn look(
         return Found::Nothing;
     }
     let u = k.low + 1;
-    let m = sides(rows, corners, planes, k.other, k.others, u);
+    let mut slopes: Planes = [0; 4 * (2 * Scene::MOST_FACES + 1)];
+    let m = sides(rows, corners, planes, k.other, k.others, u, &mut slopes);
     let higher = links[u] >> 1;
-    look_from(engine, rows, corners, n, k, planes, u, m, higher)
+    look_from(
+        engine,
+        rows,
+        corners,
+        n,
+        k,
+        planes,
+        u,
+        m,
+        higher,
+        &mut slopes,
+    )
 }

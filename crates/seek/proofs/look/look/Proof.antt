@@ -3,6 +3,7 @@ use Prim.Native.Nat.{_+_}
 use native.Mathlib.Omega.{arith}
 use denote.Ref.{now}
 use Rattle.listing.specs.Hits.{seenIn, Own}
+use Rattle.sides.specs.Slopes.{zeros-sloped}
 use Rattle.seek.specs.Look.{side-asked, higher-first, glimpsed-first}
 use borrow.Author.Needs.{needs}
 use Rattle.seek.proofs.look.look.Statement.{statement}
@@ -16,9 +17,10 @@ add-u c = search needs
 
 sides-requires : tie.Need-sides-requires
 sides-requires c κs =
-    let s = c .before .before .before in
+    let s = c .before .before .before .before in
     let v = seenIn (s .args .n) (now (s .args .rows)) (now (s .args .corners)) in
-    side-asked v (s .args .k) (s .args .k .low + 1) (s .pre .0 .0) (s .pre .0 .1) (omega arith, omega arith)
+    let q = side-asked v (s .args .k) (s .args .k .low + 1) (s .pre .0 .0) (s .pre .0 .1) (omega arith, omega arith) in
+    (q .0, (q .1 .0, (q .1 .1, zeros-sloped (v .row) (v .face))))
 
 mul-higher : tie.Need-mul-higher
 mul-higher c = search needs
@@ -29,15 +31,15 @@ element-copy-out-higher c = search needs
 look-from-requires : tie.Need-look-from-requires
 look-from-requires c κs =
     let d = c .before in
-    let s = d .before .before .before .before in
+    let s = d .before .before .before .before .before .before in
     let v = seenIn (s .args .n) (now (s .args .rows)) (now (s .args .corners)) in
     let o = s .pre .0 .0 in
     let own : Own v (s .args .k) (s .args .k .low + 1) = (omega arith, omega arith) in
-    (s .pre .0, ((own, higher-first v (s .args .k) o (omega arith) (s .pre .1 _ own)), d .sides .ensures))
+    (s .pre .0, ((own, higher-first v (s .args .k) o (omega arith) (s .pre .1 _ own)), d .before .sides .ensures))
 
 returns-2 : tie.Need-returns-2
 returns-2 c =
-    let s = c .before .before .before .before .before .before in
+    let s = c .before .before .before .before .before .before .before .before in
     let v = seenIn (s .args .n) (now (s .args .rows)) (now (s .args .corners)) in
     glimpsed-first v (s .args .k) (s .pre .0 .0) (omega arith) (c .look-from .result) (c .look-from .ensures)
 

@@ -6,6 +6,8 @@ use mathlib.Core.List.{List}
 use denote.Ref.{now}
 use lib.Bits.{and-le-r}
 use lib.Count.{trailing-le}
+use Rattle.scene.specs.Arrays.{rowIn, faceIn}
+use Rattle.sides.specs.Slopes.{Sloped}
 use Rattle.listing.specs.Hits.{seenIn}
 use Rattle.listing.specs.First.{firstOf}
 use Rattle.table.specs.Table.{Entry}
@@ -15,17 +17,17 @@ use Rattle.seek.proofs.look.look_from.Statement.{statement}
 use Rattle.seek.proofs.look.look_from.Tie as tie
 
 abbrev Inv-loop : tie.InvT-loop
-Inv-loop engine rows corners n k planes u m higher left₀ i₀ left i =
-    (left < 2 ^ 64) × (left ≤ higher) × Left (seenIn n rows corners) k u left
+Inv-loop engine rows corners n k planes u m higher slopes₀ left₀ i₀ slopes left i =
+    (left < 2 ^ 64) × (left ≤ higher) × Left (seenIn n rows corners) k u left × Sloped (rowIn rows) (faceIn corners) slopes
 
 abbrev μ-loop : tie.MeasureT-loop
-μ-loop engine rows corners n k planes u m higher left₀ i₀ left i = 6 - i
+μ-loop engine rows corners n k planes u m higher slopes₀ left₀ i₀ slopes left i = 6 - i
 
 loop-holds : tie.Need-loop-holds Inv-loop μ-loop
 loop-holds c =
     let s = c .args in
     let v = seenIn (s .n) (now (s .rows)) (now (s .corners)) in
-    (search needs, omega arith, ap (λ (l : List Entry). firstOf (hitsOf v (s .k) l)) (c .pre .1 .0 .1 .edges))
+    (search needs, omega arith, ap (λ (l : List Entry). firstOf (hitsOf v (s .k) l)) (c .pre .1 .0 .1 .edges), c .pre .1 .1 .1)
 
 returns : tie.Need-returns Inv-loop μ-loop
 returns c = search needs
@@ -41,13 +43,13 @@ add-v-2 c = omega (arith, trailing-le 64 (c .before .before .loop .left), c .bef
 
 look-at-requires : tie.Need-look-at-requires Inv-loop μ-loop
 look-at-requires c κs =
-    let l = c .before .before in
+    let l = c .before .before .before in
     let s = l .before in
     let v = seenIn (s .args .n) (now (s .args .rows)) (now (s .args .corners)) in
     let p = s .pre in
     let a = p .1 .0 in
     let t = left-own v (s .args .k) (s .args .u) (l .loop .left) (p .0 .0) (a .0) (a .1) (l .loop .inv .1) (omega arith) in
-    (p .0, ((a .0, t, omega arith), p .1 .1))
+    (p .0, ((a .0, t, omega arith), (p .1 .1 .0, l .loop .inv .3)))
 
 enum-known-found : tie.Need-enum-known-found Inv-loop μ-loop
 enum-known-found c = search needs
@@ -55,11 +57,11 @@ enum-known-found c = search needs
 returns-2 : tie.Need-returns-2 Inv-loop μ-loop
 returns-2 c =
     let f = c .before .before .before in
-    let l = f .before .before .before in
+    let l = f .before .before .before .before in
     let s = l .before in
     let v = seenIn (s .args .n) (now (s .args .rows)) (now (s .args .corners)) in
     search
-    (left-found v (s .args .k) (s .args .u) (l .loop .left) (omega arith) (l .loop .inv .0) refl (f .look-at .ensures) (l .loop .inv .2))
+    (left-found v (s .args .k) (s .args .u) (l .loop .left) (omega arith) (l .loop .inv .0) refl (f .look-at .ensures .0) (l .loop .inv .2))
 
 enum-told : tie.Need-enum-told Inv-loop μ-loop
 enum-told c = search needs
@@ -76,14 +78,15 @@ loop-less c = search needs
 loop-again : tie.Need-loop-again Inv-loop μ-loop
 loop-again c =
     let f = c .before .before in
-    let l = f .before .before .before in
+    let l = f .before .before .before .before in
     let s = l .before in
     let v = seenIn (s .args .n) (now (s .args .rows)) (now (s .args .corners)) in (
       omega (arith, and-le-r (l .loop .left) (l .loop .left - 1)),
       omega (arith, and-le-r (l .loop .left) (l .loop .left - 1)),
       search
-          (left-more v (s .args .k) (s .args .u) (l .loop .left) (omega arith) (l .loop .inv .0) refl (f .look-at .ensures)
+          (left-more v (s .args .k) (s .args .u) (l .loop .left) (omega arith) (l .loop .inv .0) refl (f .look-at .ensures .0)
           (l .loop .inv .2)),
+      f .look-at .ensures .1,
     )
 
 returns-3 : tie.Need-returns-3 Inv-loop μ-loop
