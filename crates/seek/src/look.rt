@@ -23,7 +23,7 @@ use scene::Scene;
 use scene::Solid;
 use sides::between;
 use sides::planes::Planes;
-use sides::words::sides;
+use sides::ties::sides;
 use table::first::first_of_mask;
 
 // How many edges are looked at: they are asked in vain where solids are apart or nested.

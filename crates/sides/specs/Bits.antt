@@ -1,14 +1,13 @@
 -- What the code reads back of the numbers that it holds as bits, on the way to a plane and to a plane at a row. Assumes nothing.
-use mathlib.Core.Path.{_≡_, refl, sym, ap, _∙_}
-use mathlib.Core.Bool.{Bool}
+use mathlib.Core.Path.{_≡_, sym, ap, _∙_}
 use Prim.Native.Nat.{_^_, _≤_, _<_}
 use native.Mathlib.Nat.{lt-of-le-of-lt}
 use lib.Dec.{lit<}
 use lib.IntN.{ℤ, pos, _+ℤ_}
-use lib.Signed.{mag, ltZ}
+use lib.Signed.{mag}
 use mir.Syntax.{w64}
 use mir.Val.{toZ, ofZ}
-use Rattle.laws.specs.Size.{exactly, _⊗_, _⊖_, _⊕_, reread, Held, formed, called}
+use Rattle.laws.specs.Size.{exactly, _⊗_, _⊖_, _⊕_, reread, Held, formed}
 use Rattle.scene.specs.declared.Row.{Row}
 use Rattle.orient.specs.Bits.{read, RowFits, crossed}
 use Rattle.orient.specs.Minors.{crossOf}
@@ -20,10 +19,6 @@ use Rattle.sides.specs.Sizes.{dotSize}
 pub unit-row : {r : Row} → RowFits r → ofZ w64 (r .w) ≡ 1 →
     _≡_ {A = Row} (record { x = reread (r .x); y = reread (r .y); z = reread (r .z); w = pos 1 }) r
 unit-row f e = λ i. record { x = read (f .x) i; y = read (f .y) i; z = read (f .z) i; w = (sym (ap (toZ w64) e) ∙ read (f .w)) i }
-
--- a test of a call's result
-pub below-read : (s : ℤ) {b : Bool} → mag s < 2 ^ 63 → ltZ s (pos 0) ≡ b → ltZ (reread s) (pos 0) ≡ b
-below-read s ok e = ap (λ (z : ℤ). ltZ z (pos 0)) (called {z = s} ok refl) ∙ e
 
 -- the two halves of `dot`, and their sum
 module _ {p t : Row} (f : RowFits p) (g : RowFits t) (h : dotSize p t ≤ mostFormed) where

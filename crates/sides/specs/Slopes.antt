@@ -12,7 +12,7 @@ use lib.IntN.{ℤ, pos, negsuc, _+ℤ_}
 use lib.ListN.{length, replicate, length-replicate}
 use lib.Signed.{mag, ltZ}
 use mir.Syntax.{w64}
-use mir.Val.{SFits, toZ, ofZ}
+use mir.Val.{toZ, ofZ}
 use Rattle.laws.specs.Filled.{filled}
 use Rattle.laws.specs.Ring.{Expr, ring}
 use Rattle.laws.specs.Ring.Expr.{_⊕_, _⊖_, _⊗_}

@@ -22,8 +22,8 @@ use Rattle.sides.specs.Candidates.{kept, AtEach, kept-mask, kept-none, e
 use Rattle.sides.specs.Sides.{above, sidesOf, masksBy, first64, low-of, high-of, Ready, ReadyAll, ready-low, ready-high}
 use Rattle.sides.specs.Slopes.{isZero}
 use Rattle.sides.specs.Told.{InPlane}
-use Rattle.sides.specs.declared.words.Digits.{Digits}
-use Rattle.sides.specs.declared.words.Told.{Told}
+use Rattle.sides.specs.declared.tell.Digits.{Digits}
+use Rattle.sides.specs.declared.tell.Told.{Told}
 
 -- c0 of a face's corners and a point, turned as the plane is
 abbrev pub turnedAt : (ℕ → Row) → ℕ → Face → ℤ

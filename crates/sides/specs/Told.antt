@@ -1,22 +1,16 @@
--- A sign told by a plane at a point: where that is not zero it is the sign of the four points, turned as the plane is. Assumes nothing.
-use mathlib.Core.Path.{_≡_, sym, ap, subst, _∙_}
-use Prim.Native.Nat.{ℕ, _^_, _<_, _≤_}
-use lib.IntN.{ℤ, pos, negℤ}
-use lib.Signed.{mag, ltZ}
-use mir.Syntax.{w64}
-use mir.Val.{ofZ}
-use Rattle.laws.specs.Size.{reread}
+-- A plane at a point is c0 of four points, turned as the plane is. Assumes nothing.
+use mathlib.Core.Path.{_≡_, sym, subst, _∙_}
+use Prim.Native.Nat.{ℕ, _≤_}
+use lib.IntN.{ℤ, pos}
 use Rattle.scene.specs.Limits.{limits}
 use Rattle.scene.specs.Arrays.{AllWithin}
 use Rattle.scene.specs.declared.Row.{Row}
 use Rattle.scene.specs.declared.Face.{Face}
-use Rattle.orient.specs.Bits.{sign-turned, zero-bits}
-use Rattle.orient.specs.Laws.{terms12}
 use Rattle.orient.specs.Formed.{mostFormed}
 use Rattle.orient.specs.Minors.{joinOf}
-use Rattle.orient.specs.Terms.{pointAt, c0At}
+use Rattle.orient.specs.Terms.{c0At}
 use Rattle.sides.specs.Planes.{spanOf, planeOf, planeFor, dotOf, plane-term}
-use Rattle.sides.specs.Sides.{above, Ready}
+use Rattle.sides.specs.Sides.{Ready}
 use Rattle.sides.specs.Sizes.{SpanWithin, dotSize, span-formed, dot-formed}
 use Rattle.orient.specs.declared.minors.Line.{Line}
 
@@ -55,13 +49,3 @@ module _ (row : ℕ → Row) (face : ℕ → Face) (plane : ℕ → Row) (t k : 
 
   pub turned : {d : ℤ} → d ≡ dotOf x y → d ≡ c0At row ((face k) .q) ((face k) .p) ((face k) .r) t
   turned = dot-term row ((face k) .q) ((face k) .p) ((face k) .r) t corners q
-
-  exchanged : (i j : ℕ) → c0At row i j ((face k) .r) t ≡ negℤ (c0At row j i ((face k) .r) t)
-  exchanged i j = terms12 (pointAt row j) (pointAt row i) (pointAt row ((face k) .r)) (pointAt row t) .e0
-
-  pub above-told : {d : ℤ} → mag d < 2 ^ 63 → d ≡ dotOf x y → (ofZ w64 d ≡ 0 → ⊥) → ltZ (reread d) (pos 0) ≡ above row t (face k)
-  unfolding above
-  above-told ok e = sign-turned row ((face k) .p) ((face k) .q) ((face k) .r) t ok (turned e ∙ exchanged ((face k) .q) ((face k) .p))
-
-  pub above-in : {d : ℤ} → mag d < 2 ^ 63 → d ≡ dotOf x y → ofZ w64 d ≡ 0 → InPlane row (face k) t
-  above-in ok e z = exchanged ((face k) .p) ((face k) .q) ∙ ap negℤ (sym (turned e) ∙ zero-bits ok z)

@@ -32,6 +32,8 @@ use scene::decode::face_in;
 mod crossing;
 pub mod planes;
 mod slopes;
+mod tell;
+pub mod ties;
 pub mod words;
 
 // The mask of u, v against the `count` faces of a solid, numbered from first + 1 on, in a scene of n points, where the table of words holds

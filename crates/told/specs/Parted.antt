@@ -45,9 +45,6 @@ pub record Blank (s : Seen) (k : Solid) (own cuts : List ℕ) : Type 0 where
   pub at : (u : ℕ) → Own s k u → maskIn own u ≡ noFaces
   pub cut : (j : ℕ) → j < k .others → maskIn cuts (k .other + 1 + j) ≡ noFaces
 
-abbrev pub BothBlank : Seen → (a b : Solid) → (own cuts : List ℕ) → Type 0
-BothBlank s a b own cuts = Blank s a own cuts × Blank s b own cuts
-
 -- new tables are
 pub blank-new : (s : Seen) (k : Solid) →
     Blank s k (replicate (2 * (mostPoints limits + 1)) 0) (replicate (2 * (2 * limits .mostFaces + 1)) 0)

@@ -1,11 +1,9 @@
 -- Each turn stores the words of one more point; a slope that is in the table stays right.
 use borrow.Author.Needs.{needs}
-use denote.Ref.{now}
 use mathlib.Core.Path.{_≡_, _∙_}
-use Prim.Native.Nat.{_+_, _-_, _*_, _≤_}
+use Prim.Native.Nat.{_-_, _≤_}
 use native.Mathlib.Omega.{arith}
 use Rattle.laws.specs.Filled.{filled}
-use Rattle.scene.specs.Limits.{limits}
 use Rattle.scene.specs.Arrays.{rowIn, faceIn}
 use Rattle.sides.specs.Tables.{masksFrom, masks-more}
 use Rattle.sides.specs.Sides.{sidesOf}
@@ -35,17 +33,12 @@ add-t c = search needs
 add-t-2 : tie.Need-add-t-2 Inv-loop μ-loop
 add-t-2 c = search needs
 
-tell-requires : tie.Need-tell-requires Inv-loop μ-loop
-tell-requires c κs =
-    let p = c .before .before .before .pre in
-    ((p .0 .0, p .0 .1, search needs), ((p .1 .0 .1, p .1 .0 .2), p .1 .1 (c .before .loop .i) (search needs)))
-
-settled-requires : tie.Need-settled-requires Inv-loop μ-loop
-settled-requires c κs =
-    let l = c .before .before .before .before in
+sides-requires : tie.Need-sides-requires Inv-loop μ-loop
+sides-requires c κs =
+    let l = c .before .before .before in
     let p = l .before .before .pre in (
       (p .0 .0, p .0 .1, search needs),
-      ((p .1 .0 .1, p .1 .0 .2, p .1 .1 (l .loop .i) (search needs)), (c .before .before .tell .ensures, l .loop .inv .2)),
+      ((p .1 .0 .1, p .1 .0 .2), (p .1 .1 (l .loop .i) (search needs), l .loop .inv .2)),
     )
 
 put-requires : tie.Need-put-requires Inv-loop μ-loop
@@ -60,8 +53,8 @@ loop-less c = search needs
 loop-again : tie.Need-loop-again Inv-loop μ-loop
 loop-again c =
     let d = c .before in
-    let l = d .before .before .before .before .before in
-    (omega arith, c .put .ensures ∙ masks-more _ _ _ _ (l .loop .inv .1) (d .settled .ensures .0), d .settled .ensures .1)
+    let l = d .before .before .before .before in
+    (omega arith, c .put .ensures ∙ masks-more _ _ _ _ (l .loop .inv .1) (d .sides .ensures .0), d .sides .ensures .1)
 
 returns-2 : tie.Need-returns-2 Inv-loop μ-loop
 returns-2 c =
@@ -78,8 +71,7 @@ fill-tied-spec =
     loop-holds
     add-t
     add-t-2
-    tell-requires
-    settled-requires
+    sides-requires
     put-requires
     add-i
     loop-less

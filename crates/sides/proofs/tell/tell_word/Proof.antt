@@ -2,8 +2,8 @@
 use borrow.Author.Needs.{needs}
 use mathlib.Core.Path.{_∙_}
 use Rattle.sides.specs.Bits.{unit-row}
-use Rattle.sides.proofs.words.tell_word.Statement.{statement}
-use Rattle.sides.proofs.words.tell_word.Tie as tie
+use Rattle.sides.proofs.tell.tell_word.Statement.{statement}
+use Rattle.sides.proofs.tell.tell_word.Tie as tie
 
 row-at-requires : tie.Need-row-at-requires
 row-at-requires c κs = search needs

@@ -4,8 +4,8 @@ use denote.Ref.{now}
 use Rattle.laws.specs.Size.{called}
 use Rattle.scene.specs.Arrays.{rowIn, faceIn}
 use Rattle.sides.specs.Told.{above-asked, turned}
-use Rattle.sides.proofs.words.side.Statement.{statement}
-use Rattle.sides.proofs.words.side.Tie as tie
+use Rattle.sides.proofs.tell.side.Statement.{statement}
+use Rattle.sides.proofs.tell.side.Tie as tie
 
 plane-at-requires : tie.Need-plane-at-requires
 plane-at-requires c κs = search needs

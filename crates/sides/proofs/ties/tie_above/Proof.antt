@@ -5,8 +5,8 @@ use mathlib.Core.Path.{ap, _∙_}
 use Rattle.scene.specs.Arrays.{rowIn, faceIn}
 use Rattle.sides.specs.Sides.{above}
 use Rattle.sides.specs.Slopes.{tilt-told}
-use Rattle.sides.proofs.words.tie_above.Statement.{statement}
-use Rattle.sides.proofs.words.tie_above.Tie as tie
+use Rattle.sides.proofs.ties.tie_above.Statement.{statement}
+use Rattle.sides.proofs.ties.tie_above.Tie as tie
 
 tilt-at-requires : tie.Need-tilt-at-requires
 tilt-at-requires c κs =

@@ -14,8 +14,8 @@ use Rattle.sides.specs.Candidates.{AtEach, kept-le, kept-none, each-turn
 use Rattle.sides.specs.Sides.{above}
 use Rattle.sides.specs.Slopes.{Sloped}
 use Rattle.sides.specs.Ties.{Tied, settledOf}
-use Rattle.sides.proofs.words.ties.Statement.{statement}
-use Rattle.sides.proofs.words.ties.Tie as tie
+use Rattle.sides.proofs.ties.ties.Statement.{statement}
+use Rattle.sides.proofs.ties.ties.Tie as tie
 
 abbrev Inv-loop : tie.InvT-loop
 Inv-loop rows corners planes first t tied slopes₀ left₀ word₀ slopes left word =

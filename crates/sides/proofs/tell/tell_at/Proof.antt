@@ -13,8 +13,8 @@ use Rattle.face_masks.specs.Faces.{maskBy}
 use Rattle.sides.specs.Sides.{Ready, mask-begun, mask-under, mask-done}
 use Rattle.sides.specs.Slopes.{isZero, zero-read}
 use Rattle.sides.specs.Ties.{leads, flat}
-use Rattle.sides.proofs.words.tell_at.Statement.{statement}
-use Rattle.sides.proofs.words.tell_at.Tie as tie
+use Rattle.sides.proofs.tell.tell_at.Statement.{statement}
+use Rattle.sides.proofs.tell.tell_at.Tie as tie
 
 abbrev Inv-loop : tie.InvT-loop
 Inv-loop rows corners planes first count t r above₀ tied₀ k₀ above tied k =

@@ -4,8 +4,8 @@ use native.Mathlib.Omega.{arith}
 use denote.Ref.{now}
 use Rattle.scene.specs.Arrays.{rowIn, faceIn}
 use Rattle.sides.specs.Sides.{masks-one, masks-two, ready-low, ready-high}
-use Rattle.sides.proofs.words.tell.Statement.{statement}
-use Rattle.sides.proofs.words.tell.Tie as tie
+use Rattle.sides.proofs.tell.tell.Statement.{statement}
+use Rattle.sides.proofs.tell.tell.Tie as tie
 
 tell-word-requires : tie.Need-tell-word-requires
 tell-word-requires c κs = search needs

@@ -4,8 +4,8 @@ use denote.Ref.{now}
 use mathlib.Core.Path.{sym, _∙_}
 use Rattle.scene.specs.Arrays.{rowIn, faceIn}
 use Rattle.sides.specs.Ties.{masks-clear}
-use Rattle.sides.proofs.words.sides.Statement.{statement}
-use Rattle.sides.proofs.words.sides.Tie as tie
+use Rattle.sides.proofs.ties.sides.Statement.{statement}
+use Rattle.sides.proofs.ties.sides.Tie as tie
 
 tell-requires : tie.Need-tell-requires
 tell-requires c κs = search needs

@@ -7,8 +7,8 @@ use Rattle.scene.specs.Arrays.{rowIn, faceIn}
 use Rattle.scene.specs.declared.Row.{Row}
 use Rattle.scene.specs.declared.Face.{Face}
 use Rattle.sides.specs.Ties.{masks-settled, low-fits, high-fits, low-tied, high-tied}
-use Rattle.sides.proofs.words.settled.Statement.{statement}
-use Rattle.sides.proofs.words.settled.Tie as tie
+use Rattle.sides.proofs.ties.settled.Statement.{statement}
+use Rattle.sides.proofs.ties.settled.Tie as tie
 
 abbrev row : tie.Start → ℕ → Row
 row s = rowIn (now (s .args .rows))

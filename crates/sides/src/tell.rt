@@ -1,0 +1,142 @@
+// What the planes alone tell of a point: on which sides of a solid's faces it lies, and in which planes.
+ghost use mathlib.Core.Path.{_≡_};
+ghost use Prim.Native.Nat.{_+_, _*_, _≤_};
+ghost use Rattle.scene.specs.Limits.{limits, mostPoints};
+ghost use Rattle.scene.specs.Arrays.{rowIn, faceIn, AllWithin, FacesWithin};
+ghost use Rattle.sides.specs.Sides.{Ready, ReadyAll};
+ghost use Rattle.sides.specs.Ties.{turnedAt, AreDigits, IsTold, hasTies};
+use crate::planes::Planes;
+use crate::planes::dot;
+use crate::planes::plane_at;
+use crate::planes::row_at;
+use crate::words::bit;
+use face_masks::Mask;
+use face_masks::WORD;
+use scene::Corners;
+use scene::Row;
+use scene::Rows;
+
+// The faces that a point lies above, and those in whose planes it lies.
+pub struct Told {
+    pub above: Mask,
+    pub tied: Mask,
+}
+
+// The same of so few faces that one word holds it.
+struct Digits {
+    above: u64,
+    tied: u64,
+}
+
+pub fn has_ties(m: Told) -> bool
+    ensures { λ r. ⌜ r ≡ hasTies m ⌝ }
+{
+    let t = m.tied;
+    (t.low != 0) | (t.high != 0)
+}
+
+// Of the faces numbered from first + 1 on, by their planes.
+pub fn tell(
+    rows: &Rows,
+    corners: &Corners,
+    planes: &Planes,
+    first: usize,
+    count: usize,
+    t: usize,
+) -> Told
+    requires rows { ⌜ AllWithin limits (rowIn (now rows)) × FacesWithin limits (faceIn (now corners)) × (t ≤ mostPoints limits) ⌝ }
+    requires faces { ⌜ (first + count ≤ 2 * limits .mostFaces) × (count ≤ limits .mostFaces) ⌝ }
+    requires ready { ⌜ ReadyAll (rowIn (now rows)) (faceIn (now corners)) (rowIn (now planes)) t first count ⌝ }
+    ensures { λ r. ⌜ IsTold (rowIn (now (rows .entry))) (faceIn (now (corners .entry))) first count t r ⌝ }
+{
+    if count <= WORD {
+        let x = tell_word(rows, corners, planes, first, count, t);
+        return Told {
+            above: Mask {
+                low: x.above,
+                high: 0,
+            },
+            tied: Mask {
+                low: x.tied,
+                high: 0,
+            },
+        };
+    }
+    let x = tell_word(rows, corners, planes, first, WORD, t);
+    let y = tell_word(rows, corners, planes, first + WORD, count - WORD, t);
+    Told {
+        above: Mask {
+            low: x.above,
+            high: y.above,
+        },
+        tied: Mask {
+            low: x.tied,
+            high: y.tied,
+        },
+    }
+}
+
+// Nearly every point has weight 1: handed on as a number that the compiler knows, it spares each face a product.
+fn tell_word(
+    rows: &Rows,
+    corners: &Corners,
+    planes: &Planes,
+    first: usize,
+    count: usize,
+    t: usize,
+) -> Digits
+    requires rows { ⌜ AllWithin limits (rowIn (now rows)) × FacesWithin limits (faceIn (now corners)) × (t ≤ mostPoints limits) ⌝ }
+    requires faces { ⌜ (first + count ≤ 2 * limits .mostFaces) × (count ≤ 64) ⌝ }
+    requires ready { ⌜ ReadyAll (rowIn (now rows)) (faceIn (now corners)) (rowIn (now planes)) t first count ⌝ }
+    ensures { λ r. ⌜ AreDigits (rowIn (now (rows .entry))) (faceIn (now (corners .entry))) first count t r ⌝ }
+{
+    let r = row_at(rows, t);
+    if r.w == 1 {
+        let unit = Row {
+            x: r.x,
+            y: r.y,
+            z: r.z,
+            w: 1,
+        };
+        return tell_at(rows, corners, planes, first, count, t, unit);
+    }
+    tell_at(rows, corners, planes, first, count, t, r)
+}
+
+// By the row of point t, from the last face to the first: each puts its digits under those of the faces behind it.
+fn tell_at(
+    rows: &Rows,
+    corners: &Corners,
+    planes: &Planes,
+    first: usize,
+    count: usize,
+    t: usize,
+    r: Row,
+) -> Digits
+    requires rows { ⌜ AllWithin limits (rowIn (now rows)) × FacesWithin limits (faceIn (now corners)) ⌝ }
+    requires point { ⌜ (t ≤ mostPoints limits) × (r ≡ rowIn (now rows) t) ⌝ }
+    requires faces { ⌜ (first + count ≤ 2 * limits .mostFaces) × (count ≤ 64) ⌝ }
+    requires ready { ⌜ ReadyAll (rowIn (now rows)) (faceIn (now corners)) (rowIn (now planes)) t first count ⌝ }
+    ensures { λ o. ⌜ AreDigits (rowIn (now (rows .entry))) (faceIn (now (corners .entry))) first count t o ⌝ }
+{
+    let mut above: u64 = 0;
+    let mut tied: u64 = 0;
+    let mut k = count;
+    while 0 < k {
+        let d = side(rows, corners, planes, first + k, t, r);
+        above = above << 1 | bit(d < 0);
+        tied = tied << 1 | bit(d == 0);
+        k -= 1;
+    }
+    Digits { above, tied }
+}
+
+// The plane of face k, turned, at point t, whose row is r: below zero where the point lies above the face, zero where it lies in its plane.
+fn side(rows: &Rows, corners: &Corners, planes: &Planes, k: usize, t: usize, r: Row) -> i64
+    requires rows { ⌜ AllWithin limits (rowIn (now rows)) × FacesWithin limits (faceIn (now corners)) ⌝ }
+    requires numbers { ⌜ (k ≤ 2 * limits .mostFaces) × (t ≤ mostPoints limits) × (r ≡ rowIn (now rows) t) ⌝ }
+    requires ready { ⌜ Ready (rowIn (now rows)) (faceIn (now corners)) (rowIn (now planes)) t k ⌝ }
+    ensures { λ s. ⌜ s ≡ turnedAt (rowIn (now (rows .entry))) t (faceIn (now (corners .entry)) k) ⌝ }
+{
+    dot(plane_at(planes, k), r)
+}

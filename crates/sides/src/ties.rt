@@ -1,0 +1,127 @@
+// The sides on which one point lies: what the planes tell, and the ties settled by the shift.
+ghost use mathlib.Core.Path.{_≡_};
+ghost use Prim.Native.Nat.{_+_, _*_, _≤_};
+ghost use Rattle.scene.specs.Limits.{limits, mostPoints};
+ghost use Rattle.scene.specs.Arrays.{rowIn, faceIn, AllWithin, FacesWithin};
+ghost use Rattle.sides.specs.Sides.{above, sidesOf, Ready, ReadyAll};
+ghost use Rattle.sides.specs.Told.{InPlane};
+ghost use Rattle.sides.specs.Candidates.{AtEach};
+ghost use Rattle.sides.specs.Slopes.{Sloped};
+ghost use Rattle.sides.specs.Ties.{IsTold, Tied, settledOf};
+use crate::planes::Planes;
+use crate::slopes::tilt_at;
+use crate::tell::Told;
+use crate::tell::has_ties;
+use crate::tell::tell;
+use crate::words::bit;
+use face_masks::Mask;
+use face_masks::WORD;
+use orient::tied_at;
+use scene::Corners;
+use scene::Rows;
+use scene::decode::face_in;
+
+// Of the `count` faces of a solid, numbered from first + 1 on, those that point t lies above.
+pub fn sides(
+    rows: &Rows,
+    corners: &Corners,
+    planes: &Planes,
+    first: usize,
+    count: usize,
+    t: usize,
+    slopes: &mut Planes,
+) -> Mask
+    requires rows { ⌜ AllWithin limits (rowIn (now rows)) × FacesWithin limits (faceIn (now corners)) × (t ≤ mostPoints limits) ⌝ }
+    requires faces { ⌜ (first + count ≤ 2 * limits .mostFaces) × (count ≤ limits .mostFaces) ⌝ }
+    requires ready { ⌜ ReadyAll (rowIn (now rows)) (faceIn (now corners)) (rowIn (now planes)) t first count ⌝ }
+    requires sloped { ⌜ Sloped (rowIn (now rows)) (faceIn (now corners)) (now slopes) ⌝ }
+    ensures { λ r. ⌜ (r ≡ sidesOf (rowIn (now (rows .entry))) (faceIn (now (corners .entry))) first count t)
+        × Sloped (rowIn (now (rows .entry))) (faceIn (now (corners .entry))) (now (slopes .exit)) ⌝ }
+{
+    let m = tell(rows, corners, planes, first, count, t);
+    if has_ties(m) {
+        return settled(rows, corners, planes, first, count, t, m, slopes);
+    }
+    m.above
+}
+
+// What the planes tell of point t, and the ties settled.
+fn settled(
+    rows: &Rows,
+    corners: &Corners,
+    planes: &Planes,
+    first: usize,
+    count: usize,
+    t: usize,
+    m: Told,
+    slopes: &mut Planes,
+) -> Mask
+    requires rows { ⌜ AllWithin limits (rowIn (now rows)) × FacesWithin limits (faceIn (now corners)) × (t ≤ mostPoints limits) ⌝ }
+    requires faces { ⌜ (first + count ≤ 2 * limits .mostFaces) × (count ≤ limits .mostFaces)
+        × ReadyAll (rowIn (now rows)) (faceIn (now corners)) (rowIn (now planes)) t first count ⌝ }
+    requires told { ⌜ IsTold (rowIn (now rows)) (faceIn (now corners)) first count t m ⌝ }
+    requires sloped { ⌜ Sloped (rowIn (now rows)) (faceIn (now corners)) (now slopes) ⌝ }
+    ensures { λ r. ⌜ (r ≡ sidesOf (rowIn (now (rows .entry))) (faceIn (now (corners .entry))) first count t)
+        × Sloped (rowIn (now (rows .entry))) (faceIn (now (corners .entry))) (now (slopes .exit)) ⌝ }
+{
+    let a = m.above;
+    let b = m.tied;
+    let near = ties(rows, corners, planes, first, t, b.low, slopes);
+    let next = ties(rows, corners, planes, first + WORD, t, b.high, slopes);
+    Mask {
+        low: a.low + near,
+        high: a.high + next,
+    }
+}
+
+// Of the faces from first + 1 on in whose planes point t lies, one word, those that it lies above by the shift.
+fn ties(
+    rows: &Rows,
+    corners: &Corners,
+    planes: &Planes,
+    first: usize,
+    t: usize,
+    tied: u64,
+    slopes: &mut Planes,
+) -> u64
+    requires rows { ⌜ AllWithin limits (rowIn (now rows)) × FacesWithin limits (faceIn (now corners)) × (t ≤ mostPoints limits)
+        × (first ≤ 2 * limits .mostFaces + 64) ⌝ }
+    requires tied { ⌜ AtEach (Tied (rowIn (now rows)) (faceIn (now corners)) (rowIn (now planes)) first t) tied ⌝ }
+    requires sloped { ⌜ Sloped (rowIn (now rows)) (faceIn (now corners)) (now slopes) ⌝ }
+    ensures { λ r. ⌜ (r ≡ settledOf (rowIn (now (rows .entry))) (faceIn (now (corners .entry))) first t tied)
+        × Sloped (rowIn (now (rows .entry))) (faceIn (now (corners .entry))) (now (slopes .exit)) ⌝ }
+{
+    let mut left = tied;
+    let mut word: u64 = 0;
+    while left != 0 {
+        let k = u64::trailing_zeros(left) as usize;
+        word = word + (bit(tie_above(rows, corners, planes, first + 1 + k, t, slopes)) << k);
+        left = left & (left - 1);
+    }
+    word
+}
+
+// Point t, which lies in the plane of face k, lies above the face by the shift.
+fn tie_above(
+    rows: &Rows,
+    corners: &Corners,
+    planes: &Planes,
+    k: usize,
+    t: usize,
+    slopes: &mut Planes,
+) -> bool
+    requires rows { ⌜ AllWithin limits (rowIn (now rows)) × FacesWithin limits (faceIn (now corners)) ⌝ }
+    requires numbers { ⌜ (k ≤ 2 * limits .mostFaces) × (t ≤ mostPoints limits) ⌝ }
+    requires ready { ⌜ Ready (rowIn (now rows)) (faceIn (now corners)) (rowIn (now planes)) t k ⌝ }
+    requires within { ⌜ InPlane (rowIn (now rows)) (faceIn (now corners) k) t ⌝ }
+    requires sloped { ⌜ Sloped (rowIn (now rows)) (faceIn (now corners)) (now slopes) ⌝ }
+    ensures { λ a. ⌜ (a ≡ above (rowIn (now (rows .entry))) t (faceIn (now (corners .entry)) k))
+        × Sloped (rowIn (now (rows .entry))) (faceIn (now (corners .entry))) (now (slopes .exit)) ⌝ }
+{
+    let d = tilt_at(rows, corners, planes, k, t, slopes);
+    if d != 0 {
+        return d < 0;
+    }
+    let f = face_in(corners, k);
+    tied_at(rows, f.p, f.q, f.r, t)
+}
