@@ -10,32 +10,6 @@ use borrow.Author.Needs.{needs}
 use Rattle.kernel.proofs.inside.inside.Statement.{statement}
 use Rattle.kernel.proofs.inside.inside.Tie as tie
 
-judge-requires : tie.Need-judge-requires
-judge-requires c κs = search needs
-
-enum-known-r : tie.Need-enum-known-r
-enum-known-r c = search needs
-
-returns : tie.Need-returns
-unfolding insideOf
-returns c = search (refused-so Refused)
-
-enum-told : tie.Need-enum-told
-enum-told c = search needs
-
-inside-fault-requires : tie.Need-inside-fault-requires
-inside-fault-requires c κs = search needs
-
-enum-known-r-2 : tie.Need-enum-known-r-2
-enum-known-r-2 c = search needs
-
-returns-2 : tie.Need-returns-2
-unfolding insideOf enclosingIn
-returns-2 c = search (own-refused Refused)
-
-enum-told-2 : tie.Need-enum-told-2
-enum-told-2 c = search needs
-
 inside-of-requires : tie.Need-inside-of-requires
 inside-of-requires c κs =
     let s = c .before .before .before .before .before .before .before in
@@ -51,7 +25,8 @@ returns-3 c =
     both-accept Refused _ ok h (ap Count (c .inside-of .ensures))
 
 pub inside-spec : {M : Type 1} → statement M
+unfolding insideOf enclosingIn
 inside-spec =
     tie.close
-    (tie.spec judge-requires enum-known-r returns enum-told inside-fault-requires enum-known-r-2 returns-2
-    enum-told-2 inside-of-requires returns-3)
+    (tie.spec (λ c κs. search needs) (λ c. search needs) (λ c. search (refused-so Refused)) (λ c. search needs) (λ c κs. search needs)
+    (λ c. search needs) (λ c. search (own-refused Refused)) (λ c. search needs) inside-of-requires returns-3)

@@ -13,38 +13,6 @@ use borrow.Author.Needs.{needs}
 use Rattle.kernel.proofs.masks.enclosed.Statement.{statement}
 use Rattle.kernel.proofs.masks.enclosed.Tie as tie
 
-judge-requires : tie.Need-judge-requires
-judge-requires c κs = search needs
-
-enum-known-r : tie.Need-enum-known-r
-enum-known-r c = search needs
-
-returns : tie.Need-returns
-unfolding enclosedOf
-returns c = search (refused-so Refused)
-
-enum-told : tie.Need-enum-told
-enum-told c = search needs
-
-enclosed-fault-requires : tie.Need-enclosed-fault-requires
-enclosed-fault-requires c κs = search needs
-
-enum-known-r-2 : tie.Need-enum-known-r-2
-enum-known-r-2 c = search needs
-
-returns-2 : tie.Need-returns-2
-unfolding enclosedOf enclosedIn
-returns-2 c = search (own-refused Refused)
-
-enum-told-2 : tie.Need-enum-told-2
-enum-told-2 c = search needs
-
-points-requires : tie.Need-points-requires
-points-requires c κs = search needs
-
-other-solid-requires : tie.Need-other-solid-requires
-other-solid-requires c κs = search needs
-
 mask-of-requires : tie.Need-mask-of-requires
 mask-of-requires c κs =
     let s = c .before .before .before .before .before .before .before .before .before in
@@ -52,9 +20,6 @@ mask-of-requires c κs =
     let h : enclosedFault (viewOf (now (s .args .s))) (s .args .i) ≡ Accepted = search accepted-so in
     let v = viewOf (now (s .args .s)) in
     (ok, far-outside v (s .args .i) (enclosed-vertex v (s .args .i) h) (c .before .points .ensures .0) (c .other-solid .ensures))
-
-is-odd-requires : tie.Need-is-odd-requires
-is-odd-requires c κs = search needs
 
 returns-3 : tie.Need-returns-3
 unfolding enclosedOf enclosedIn
@@ -81,7 +46,9 @@ returns-4 c =
     both-accept Refused _ ok h (no-so p (c .if1 .left))
 
 pub enclosed-spec : {M : Type 1} → statement M
+unfolding enclosedOf enclosedIn
 enclosed-spec =
     tie.close
-    (tie.spec judge-requires enum-known-r returns enum-told enclosed-fault-requires enum-known-r-2 returns-2
-    enum-told-2 points-requires other-solid-requires mask-of-requires is-odd-requires returns-3 returns-4)
+    (tie.spec (λ c κs. search needs) (λ c. search needs) (λ c. search (refused-so Refused)) (λ c. search needs) (λ c κs. search needs)
+    (λ c. search needs) (λ c. search (own-refused Refused)) (λ c. search needs) (λ c κs. search needs) (λ c κs. search needs)
+    mask-of-requires (λ c κs. search needs) returns-3 returns-4)

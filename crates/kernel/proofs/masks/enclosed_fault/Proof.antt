@@ -7,12 +7,6 @@ use borrow.Author.Needs.{needs}
 use Rattle.kernel.proofs.masks.enclosed_fault.Statement.{statement}
 use Rattle.kernel.proofs.masks.enclosed_fault.Tie as tie
 
-vertices-requires : tie.Need-vertices-requires
-vertices-requires c κs = search needs
-
-is-within-requires : tie.Need-is-within-requires
-is-within-requires c κs = search needs
-
 returns : tie.Need-returns
 unfolding enclosedFault isVertex
 returns c = let h = within-so _ refl (c .before .before .vertices .ensures .0) (c .before .is-within .ensures) in search rules
@@ -22,4 +16,4 @@ unfolding enclosedFault isVertex
 returns-2 c = let h = within-so _ refl (c .before .before .vertices .ensures .0) (c .before .is-within .ensures) in search rules
 
 pub enclosed-fault-spec : {M : Type 1} → statement M
-enclosed-fault-spec = tie.close (tie.spec vertices-requires is-within-requires returns returns-2)
+enclosed-fault-spec = tie.close (tie.spec (λ c κs. search needs) (λ c κs. search needs) returns returns-2)

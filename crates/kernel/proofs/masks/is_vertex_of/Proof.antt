@@ -8,18 +8,6 @@ use borrow.Author.Needs.{needs}
 use Rattle.kernel.proofs.masks.is_vertex_of.Statement.{statement}
 use Rattle.kernel.proofs.masks.is_vertex_of.Tie as tie
 
-solid-requires : tie.Need-solid-requires
-solid-requires c κs = search needs
-
-add-is-within : tie.Need-add-is-within
-add-is-within c = search needs
-
-add-is-within-2 : tie.Need-add-is-within-2
-add-is-within-2 c = search needs
-
-is-within-requires : tie.Need-is-within-requires
-is-within-requires c κs = search needs
-
 returns : tie.Need-returns
 unfolding isVertexOf
 returns c =
@@ -27,4 +15,4 @@ returns c =
     within-so _ (ap (λ (o : Solid). o .low + 1) e) (ap (λ (o : Solid). o .low + o .verts) e) (c .is-within .ensures)
 
 pub is-vertex-of-spec : {M : Type 1} → statement M
-is-vertex-of-spec = tie.close (tie.spec solid-requires add-is-within add-is-within-2 is-within-requires returns)
+is-vertex-of-spec = tie.close (tie.spec (λ c κs. search needs) (λ c. search needs) (λ c. search needs) (λ c κs. search needs) returns)

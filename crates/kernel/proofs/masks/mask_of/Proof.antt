@@ -12,12 +12,6 @@ rows-requires c κs = rows-fit (now (c .before .args .s)) (c .before .pre .0)
 faces-requires : tie.Need-faces-requires
 faces-requires c κs = faces-fit (now (c .before .before .args .s)) (c .before .before .pre .0)
 
-solid-requires : tie.Need-solid-requires
-solid-requires c κs = search needs
-
-points-requires : tie.Need-points-requires
-points-requires c κs = search needs
-
 mask-requires : tie.Need-mask-requires
 mask-requires c κs =
     let s = c .before .before .before .before .before .before .before in
@@ -47,4 +41,4 @@ returns c =
     mask-found a (s .args .k) (c4 .solid .ensures .0) (s .args .u) (s .args .v) (c .mask .ensures)
 
 pub mask-of-spec : {M : Type 1} → statement M
-mask-of-spec = tie.close (tie.spec rows-requires faces-requires solid-requires points-requires mask-requires returns)
+mask-of-spec = tie.close (tie.spec rows-requires faces-requires (λ c κs. search needs) (λ c κs. search needs) mask-requires returns)

@@ -8,9 +8,6 @@ use borrow.Author.Needs.{needs}
 use Rattle.kernel.proofs.masks.other_solid.Statement.{statement}
 use Rattle.kernel.proofs.masks.other_solid.Tie as tie
 
-counts-requires : tie.Need-counts-requires
-counts-requires c κs = search needs
-
 returns : tie.Need-returns
 returns c =
     let s = c .before .before .before .before in
@@ -22,4 +19,4 @@ returns-2 c =
     other-a (viewOf (now (s .args .s))) (s .args .i) (ap (λ (n : Scene). n .«vertices_a») (c .before .before .counts .ensures .0)) (c .if1 .left)
 
 pub other-solid-spec : {M : Type 1} → statement M
-other-solid-spec = tie.close (tie.spec counts-requires returns returns-2)
+other-solid-spec = tie.close (tie.spec (λ c κs. search needs) returns returns-2)

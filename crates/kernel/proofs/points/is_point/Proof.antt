@@ -6,15 +6,9 @@ use borrow.Author.Needs.{needs}
 use Rattle.kernel.proofs.points.is_point.Statement.{statement}
 use Rattle.kernel.proofs.points.is_point.Tie as tie
 
-points-requires : tie.Need-points-requires
-points-requires c κs = search needs
-
-is-within-requires : tie.Need-is-within-requires
-is-within-requires c κs = search needs
-
 returns : tie.Need-returns
 unfolding isPoint
 returns c = within-so (c .before .before .before .args .i) refl (c .before .points .ensures .0) (c .is-within .ensures)
 
 pub is-point-spec : {M : Type 1} → statement M
-is-point-spec = tie.close (tie.spec points-requires is-within-requires returns)
+is-point-spec = tie.close (tie.spec (λ c κs. search needs) (λ c κs. search needs) returns)

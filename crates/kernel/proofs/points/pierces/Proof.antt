@@ -13,43 +13,11 @@ use borrow.Author.Needs.{needs}
 use Rattle.kernel.proofs.points.pierces.Statement.{statement}
 use Rattle.kernel.proofs.points.pierces.Tie as tie
 
-judge-requires : tie.Need-judge-requires
-judge-requires c κs = search needs
-
-enum-known-r : tie.Need-enum-known-r
-enum-known-r c = search needs
-
-returns : tie.Need-returns
-unfolding piercesOf
-returns c = search (refused-so Refused)
-
-enum-told : tie.Need-enum-told
-enum-told c = search needs
-
-pierces-fault-requires : tie.Need-pierces-fault-requires
-pierces-fault-requires c κs = search needs
-
-enum-known-r-2 : tie.Need-enum-known-r-2
-enum-known-r-2 c = search needs
-
-returns-2 : tie.Need-returns-2
-unfolding piercesOf piercesIn
-returns-2 c = search (own-refused Refused)
-
-enum-told-2 : tie.Need-enum-told-2
-enum-told-2 c = search needs
-
 rows-requires : tie.Need-rows-requires
 rows-requires c κs =
     let s = c .before .before .before .before .before .before .before in
     let ok : judged (now (s .args .s)) ≡ Accepted = search accepted-so in
     rows-fit (now (s .args .s)) ok
-
-points-requires : tie.Need-points-requires
-points-requires c κs = search needs
-
-corners-requires : tie.Need-corners-requires
-corners-requires c κs = search needs
 
 pierces-requires : tie.Need-pierces-requires
 pierces-requires c κs =
@@ -86,7 +54,9 @@ returns-4 c =
     both-accept Refused _ ok h (no-so p (c .if1 .left))
 
 pub pierces-spec : {M : Type 1} → statement M
+unfolding piercesOf piercesIn
 pierces-spec =
     tie.close
-    (tie.spec judge-requires enum-known-r returns enum-told pierces-fault-requires enum-known-r-2 returns-2
-    enum-told-2 rows-requires points-requires corners-requires pierces-requires returns-3 returns-4)
+    (tie.spec (λ c κs. search needs) (λ c. search needs) (λ c. search (refused-so Refused)) (λ c. search needs) (λ c κs. search needs)
+    (λ c. search needs) (λ c. search (own-refused Refused)) (λ c. search needs) rows-requires (λ c κs. search needs) (λ c κs. search needs)
+    pierces-requires returns-3 returns-4)

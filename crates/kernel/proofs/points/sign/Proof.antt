@@ -13,32 +13,6 @@ use borrow.Author.Needs.{needs}
 use Rattle.kernel.proofs.points.sign.Statement.{statement}
 use Rattle.kernel.proofs.points.sign.Tie as tie
 
-judge-requires : tie.Need-judge-requires
-judge-requires c κs = search needs
-
-enum-known-r : tie.Need-enum-known-r
-enum-known-r c = search needs
-
-returns : tie.Need-returns
-unfolding signOf
-returns c = search (refused-so Refused)
-
-enum-told : tie.Need-enum-told
-enum-told c = search needs
-
-sign-fault-requires : tie.Need-sign-fault-requires
-sign-fault-requires c κs = search needs
-
-enum-known-r-2 : tie.Need-enum-known-r-2
-enum-known-r-2 c = search needs
-
-returns-2 : tie.Need-returns-2
-unfolding signOf signIn
-returns-2 c = search (own-refused Refused)
-
-enum-told-2 : tie.Need-enum-told-2
-enum-told-2 c = search needs
-
 rows-requires : tie.Need-rows-requires
 rows-requires c κs =
     let s = c .before .before .before .before .before .before .before in
@@ -83,7 +57,9 @@ returns-3 c =
     (c .before .before .terms-at .ensures) (c .positive-at .ensures))
 
 pub sign-spec : {M : Type 1} → statement M
+unfolding signOf signIn
 sign-spec =
     tie.close
-    (tie.spec judge-requires enum-known-r returns enum-told sign-fault-requires enum-known-r-2 returns-2
-    enum-told-2 rows-requires terms-at-requires positive-at-requires returns-3)
+    (tie.spec (λ c κs. search needs) (λ c. search needs) (λ c. search (refused-so Refused)) (λ c. search needs) (λ c κs. search needs)
+    (λ c. search needs) (λ c. search (own-refused Refused)) (λ c. search needs) rows-requires terms-at-requires positive-at-requires
+    returns-3)
