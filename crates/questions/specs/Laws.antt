@@ -1,11 +1,13 @@
 -- A question's answer by its faults: it is refused, or answered; in the form in which a call and a branch arrive. Assumes nothing.
 use mathlib.Core.Path.{_≡_, refl, sym, ap, ap₂, _∙_}
-use mathlib.Core.Bool.{Bool, true, false, not, cond, _&&_}
+use mathlib.Core.Bool.{Bool, true, false, not, _&&_}
+use mathlib.Core.List.{List}
 use Prim.Native.Nat.{ℕ, _≤_, _<_}
-use native.Mathlib.Omega.{arith}
 use borrow.Author.Tests.{lt-leb, le-leb}
 use Rattle.laws.specs.Tests.{and-same-stops, and-same-goes-on}
-use Rattle.scene.specs.View.{View}
+use Rattle.scene.specs.Records.{vertsA, countsOf}
+use Rattle.scene.specs.View.{viewOf}
+use Rattle.scene.specs.declared.Scene.{Scene}
 use Rattle.scene.specs.declared.Refusal.{Refusal}
 use Rattle.scene.specs.Limits.{within}
 use Rattle.judge.specs.Judge.{andThen}
@@ -56,14 +58,14 @@ within-so n e d p = p ∙ ap₂ (λ (x y : ℕ). within x y n) e d
 
 -- ---- the solid that a vertex may be enclosed by
 
-module _ (v : View) (i : ℕ) {n : ℕ} (is-n : n ≡ v .vertsA) where
-  pub other-b : i ≤ n → 2 ≡ otherSolid v i
+module _ (s : List ℕ) (i : ℕ) {c : Scene} (are-counts : c ≡ countsOf s) where
+  pub other-b : i ≤ c .«vertices_a» → 2 ≡ otherSolid (viewOf s) i
   unfolding otherSolid
-  other-b h = sym (ap (λ (b : Bool). cond b 2 1) (le-leb i (v .vertsA) (omega (arith, is-n))))
+  other-b h = sym (rw (le-leb i (vertsA s) (rw are-counts at h)))
 
-  pub other-a : n < i → 1 ≡ otherSolid v i
+  pub other-a : c .«vertices_a» < i → 1 ≡ otherSolid (viewOf s) i
   unfolding otherSolid
-  other-a h = sym (ap (λ (b : Bool). cond b 2 1) (lt-leb i (v .vertsA) (omega (arith, is-n))))
+  other-a h = sym (rw (lt-leb i (vertsA s) (rw are-counts at h)))
 
 -- ---- conjunctions of negations, where the code's answer o is x
 

@@ -25,6 +25,7 @@ use Rattle.rules.specs.Given.{counts, weighted, rows-within, faces-within, face
 use Rattle.orient.specs.Signs.{Upto, Four, ne-sym}
 use Rattle.orient.specs.Terms.{termsAt, positiveAt}
 use Rattle.orient.specs.Weighted.{Weighted, Asked}
+use Rattle.orient.specs.Sizes.{NumbersWithin}
 use Rattle.orient.specs.declared.Terms.{Terms}
 use Rattle.edges.specs.Edges.{Corners}
 use Rattle.pierce.specs.Beside.{Beside, BesideAll, beside}
@@ -32,8 +33,8 @@ use Rattle.face_masks.specs.Faces.{isOdd}
 use Rattle.pierce.specs.Against.{maskAgainst}
 use Rattle.pierce.specs.Formula.{pierced}
 use Rattle.listing.specs.Hits.{Seen, seenIn, Sound}
-use Rattle.questions.specs.Answers.{seen, maskIn, otherSolid, isEnclosed, faces-are}
-use Rattle.questions.specs.Asked.{NotOf, Ends, Outside}
+use Rattle.questions.specs.Answers.{seen, signFault, piercesFault, maskIn, otherSolid, isEnclosed, faces-are}
+use Rattle.questions.specs.Asked.{NotOf, Outside, sign-four, pierces-ends}
 use Rattle.questions.specs.declared.Signed.the-variants.{Sign}
 
 not-corner : {i : ℕ} {f : Face} → isCorner i f ≡ false → (i ≢ f .p) × (i ≢ f .q) × (i ≢ f .r)
@@ -53,32 +54,34 @@ module _ (s : List ℕ) (ok : judged s ≡ Accepted) where
   pub faces-fit : faces s ≤ 2 * limits .mostFaces
   faces-fit = let c = counts limits s ok in omega (arith, c .faces-a, c .faces-b)
 
-  pub point-fits : {i : ℕ} → Upto (points v) i → i ≤ mostPoints limits
+  point-fits : {i : ℕ} → Upto (points v) i → i ≤ mostPoints limits
   point-fits h = omega (arith, rows-fit)
 
   -- n is the number of its points
   pub far-fits : {n : ℕ} → n ≡ points v → (6 ≤ n) × (n ≤ mostPoints limits)
   far-fits e = let c = counts limits s ok in (omega (arith, e, c .vertices-a, c .vertices-b), omega (arith, e, rows-fit))
 
-  pub rows-are : {rows : ℕ → Row} → rows ≡ v .row → AllWithin limits rows
+  rows-are : {rows : ℕ → Row} → rows ≡ v .row → AllWithin limits rows
   rows-are e = rw e (rows-within limits s ok)
 
-  pub face-fits : {f : Face} (k : ℕ) → f ≡ v .face k → FaceWithin limits f
+  face-fits : {f : Face} (k : ℕ) → f ≡ v .face k → FaceWithin limits f
   face-fits k e = rw e (faces-within limits s ok k)
-
-  pub corners-are : {corners : ℕ → Face} → corners ≡ v .face → FacesWithin limits corners
-  corners-are e = rw e (faces-within limits s ok)
 
   -- ---- every sign can be asked for
 
   pub scene-weighted : Weighted (points v) (v .row)
   scene-weighted i a b = weighted limits s ok i a (omega (arith, points-are s))
 
-  pub weighted-are : {n : ℕ} {rows : ℕ → Row} → n ≡ points v → rows ≡ v .row → Weighted n rows
+  weighted-are : {n : ℕ} {rows : ℕ → Row} → n ≡ points v → rows ≡ v .row → Weighted n rows
   weighted-are e r = rw (e, r) scene-weighted
 
-  pub four-are : {rows : ℕ → Row} {a b c d : ℕ} → rows ≡ v .row → Four (Upto (points v)) a b c d → Asked rows a b c d
-  four-are r f = record { points = points v; weighted = rw r scene-weighted; four = f }
+  -- of four points, where their sign is not refused
+  pub sign-fits : {rows : ℕ → Row} {a b c d : ℕ} → rows ≡ v .row → signFault v a b c d ≡ Accepted → NumbersWithin limits rows a b c d
+  sign-fits {a} {b} {c} {d} r h =
+      let f = sign-four v a b c d h in (rows-are r, point-fits (f .a-in), point-fits (f .b-in), point-fits (f .c-in), point-fits (f .d-in))
+
+  pub four-are : {rows : ℕ → Row} {a b c d : ℕ} → rows ≡ v .row → signFault v a b c d ≡ Accepted → Asked rows a b c d
+  four-are {a} {b} {c} {d} r h = record { points = points v; weighted = rw r scene-weighted; four = sign-four v a b c d h }
 
   -- ---- either solid: its numbers fit, and its faces have its vertices as corners
 
@@ -108,9 +111,6 @@ module _ (s : List ℕ) (ok : judged s ≡ Accepted) where
   placed : (k : ℕ) → Placed (solid v k)
   placed = either-solid v Placed placed-a placed-b
 
-  pub solid-fits : {o : Solid} (k : ℕ) → o ≡ solid v k → (o .first + o .count ≤ 2 * limits .mostFaces) × (o .count ≤ limits .mostFaces)
-  solid-fits k e = rw e (placed k .fits)
-
   -- points that are none of its vertices, and its faces
   module _ {o : Solid} (p : Placed o) {u w : ℕ} (pu : Upto (points v) u) (pw : Upto (points v) w) (d : u ≢ w) (ou : NotOf o u) (ow : NotOf o w) where
     beside-solid : BesideAll (points v) u w (v .face) (o .first) (o .count)
@@ -120,6 +120,22 @@ module _ (s : List ℕ) (ok : judged s ≡ Accepted) where
       BesideAll n u w corners (o .first) (o .count)
   outside-beside {k} h is-n are-corners is-o =
       rw (is-n, are-corners, is-o) (beside-solid (placed k) (h .u-point) (h .w-point) (h .differ) (h .u-out) (h .w-out))
+
+  -- the mask of an edge outside a solid
+  pub mask-fits : {u w k n : ℕ} {o : Solid} {rows : ℕ → Row} {corners : ℕ → Face} →
+      Outside v u w k → n ≡ points v → rows ≡ v .row → corners ≡ v .face → o ≡ solid v k →
+      (AllWithin limits rows × FacesWithin limits corners)
+      × (((6 ≤ n) × (n ≤ mostPoints limits) × (u ≤ mostPoints limits) × (w ≤ mostPoints limits))
+      × (((o .first + o .count ≤ 2 * limits .mostFaces) × (o .count ≤ limits .mostFaces))
+      × (Weighted n rows × BesideAll n u w corners (o .first) (o .count))))
+  mask-fits {k} h is-n r f is-o =
+      let t = far-fits is-n in (
+        (rows-are r, rw f (faces-within limits s ok)),
+        (
+          (t .0, t .1, point-fits (h .u-point), point-fits (h .w-point)),
+          (rw is-o (placed k .fits), (weighted-are is-n r, outside-beside h is-n f is-o)),
+        ),
+      )
 
   -- a face of the scene, and an edge that has no corner of it
   face-of : (f : ℕ) → Upto (faces s) f → FaceOf 0 (verts s) (v .face f)
@@ -132,12 +148,18 @@ module _ (s : List ℕ) (ok : judged s ≡ Accepted) where
   in-scene : {i : ℕ} → Vertex 0 (verts s) i → Upto (points v) i
   in-scene h = omega arith
 
-  pub ends-beside : {u w f n : ℕ} {g : Face} → Ends v u w f → n ≡ points v → g ≡ v .face f → Beside n u w g
-  ends-beside {f = f} o is-n is-g =
-      let g = face-of f (o .is-face) in
-      let a = not-corner (o .u-out) in
-      let b = not-corner (o .w-out) in
-      rw (is-n, is-g) (search (ne-sym, in-scene))
+  -- where piercing is not refused
+  pub pierces-fit : {rows : ℕ → Row} {n u w : ℕ} (f : ℕ) {g : Face} → piercesFault v u w f ≡ Accepted → rows ≡ v .row → n ≡ points v → g ≡ v .face f →
+      (AllWithin limits rows × (6 ≤ n) × (n ≤ mostPoints limits) × (u ≤ mostPoints limits) × (w ≤ mostPoints limits) × FaceWithin limits g)
+      × (Weighted n rows × Beside n u w g)
+  pierces-fit {n} {u} {w} f {g} h r is-n is-g =
+      let e = pierces-ends v u w f h in
+      let t = far-fits is-n in
+      let c = face-of f (e .is-face) in
+      let a = not-corner (e .u-out) in
+      let b = not-corner (e .w-out) in
+      let beside : Beside n u w g = rw (is-n, is-g) (search (ne-sym, in-scene)) in
+      ((rows-are r, t .0, t .1, point-fits (e .u-point), point-fits (e .w-point), face-fits f is-g), (weighted-are is-n r, beside))
 
   -- ---- both solids are ready, in the arrays too
 
