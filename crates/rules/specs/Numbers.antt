@@ -1,9 +1,11 @@
 -- The turns at which a judgement can refuse, and so which of its parts gave a refusal. Assumes nothing.
-use mathlib.Core.Path.{_≡_, refl, ap, subst}
-use mathlib.Core.Logic.{_↔_, Iff·trans, ⊎-elim, inr, inl}
-use mathlib.Core.Bool.{Bool, true, false}
+use mathlib.Core.Path.{_≡_, refl, sym, ap, _∙_, subst}
+use mathlib.Core.Logic.{_↔_, Iff·trans, Iff·and, ⊎-elim, inr, inl}
+use mathlib.Core.Bool.{Bool, true, false, false≢true}
 use Prim.Native.Nat.{ℕ, suc, _≤_, _<_}
 use native.Mathlib.Omega.{arith}
+use lib.Dec.{lit≤}
+use Rattle.scene.specs.Refusal.{placeOf}
 use Rattle.scene.specs.declared.Refusal.{Refusal}
 use Rattle.scene.specs.declared.Refusal.the-variants.{Opening, Counts, Length, Mark, Coordinate, Weight, Corner}
 use Rattle.scene.specs.declared.Refusal.the-variants.{Unused, Edge, Room, Lacking, Same, Buffer, Nowhere}
@@ -31,52 +33,69 @@ turnOf Same = 13
 turnOf (Buffer p) = 14
 
 -- j refuses, if it does, at a turn from low to high
-abbrev pub Gives : (low high : ℕ) → Judged → Type 0
-Gives low high j = (r : Refusal) → j ≡ Refused r → Between low high (turnOf r)
+pub record Gives (low high : ℕ) (j : Judged) : Type 0 where
+  pub turn : (r : Refusal) → j ≡ Refused r → Between low high (turnOf r)
 
 same : {q r : Refusal} → Refused q ≡ Refused r → q ≡ r
 same e = cc
 
 module _ (low high : ℕ) where
   pub gives-none : Gives low high Accepted
-  gives-none r e = absurd (never e)
+  gives-none = record { turn = λ r e. absurd (never e) }
 
-  pub gives-rule : (b : Bool) (r : Refusal) (k : Judged) → Between low high (turnOf r) → Gives low high k → Gives low high (rule b r k)
+  pub gives-rule : (b : Bool) (r : Refusal) (k : Judged) → low ≤ turnOf r → turnOf r ≤ high → Gives low high k → Gives low high (rule b r k)
   unfolding rule
-  gives-rule true r k h g = g
-  gives-rule false r k h g = λ q e. subst (λ (q : Refusal). Between low high (turnOf q)) (same e) h
+  gives-rule true r k a h g = g
+  gives-rule false r k a h g = record { turn = λ q e. subst (λ (q : Refusal). Between low high (turnOf q)) (same e) (a, h) }
 
   pub gives-then : (x y : Judged) → Gives low high x → Gives low high y → Gives low high (andThen x y)
-  gives-then x y g h r e = ⊎-elim (g r) (λ k. h r (k .1)) (then-refused x y r .0 e)
+  gives-then x y g h = record { turn = λ r e. ⊎-elim (g .turn r) (λ k. h .turn r (k .1)) (then-refused x y r .0 e) }
 
   pub gives-first : (f : ℕ → Judged) (a e : ℕ) → ((i : ℕ) → a ≤ i → i < e → Gives low high (f i)) → Gives low high (firstFault f a e)
-  gives-first f a e g r p = let q = first-refused f r a e .0 p in g (q .at) (q .from) (q .to) r (q .here)
+  gives-first f a e g = record { turn = λ r p. let q = first-refused f r a e .0 p in g (q .at) (q .from) (q .to) .turn r (q .here) }
 
 pub gives-wider : {low high : ℕ} (least most : ℕ) {j : Judged} → least ≤ low → high ≤ most → Gives low high j → Gives least most j
-gives-wider least most a b g r e = let h = g r e in omega arith
+gives-wider least most a b g = record { turn = λ r e. let h = g .turn r e in omega arith }
+
+-- a chain of rules, by the turns of its refusals
+pub ruleset gives = (gives-none, gives-rule, lit≤, tt)
 
 -- ---- a rule and a chain, where what comes after refuses at later turns
 
-module _ (b : Bool) (r q : Refusal) (k : Judged) where
-  pub rule-here : (high : ℕ) → Gives (suc (turnOf q)) high k → (rule b r k ≡ Refused q) ↔ ((b ≡ false) × (r ≡ q))
+module _ {P : Type 0} {b : Bool} (e : (b ≡ true) ↔ P) (r : Refusal) {q : Refusal} (k : Judged) where
+  -- this rule's test, which decides P, fails
+  pub rule-here : (high : ℕ) → Gives (suc (turnOf q)) high k → (rule b r k ≡ Refused q) ↔ ((r ≡ q) × ¬ P)
   unfolding rule
-  rule-here high g = go b
+  rule-here high g = go b e
     where
-      go : (b : Bool) → (rule b r k ≡ Refused q) ↔ ((b ≡ false) × (r ≡ q))
-      go true = (λ e. absurd (omega (arith, g q e .0)), λ h. cc)
-      go false = (λ e. (refl, same e), λ h. ap Refused (h .1))
+      go : (b : Bool) → (b ≡ true) ↔ P → (rule b r k ≡ Refused q) ↔ ((r ≡ q) × ¬ P)
+      go true e = (λ p. absurd (omega (arith, g .turn q p .0)), λ h. absurd (h .1 (e .0 refl)))
+      go false e = (λ p. (same p, λ x. false≢true (e .1 x)), λ h. ap Refused (h .0))
 
-  pub rule-next : turnOf r < turnOf q → (rule b r k ≡ Refused q) ↔ ((b ≡ true) × (k ≡ Refused q))
+  -- it passes, and a later one fails
+  pub rule-next : {Q : Type 0} → turnOf r < turnOf q → (k ≡ Refused q) ↔ Q → (rule b r k ≡ Refused q) ↔ (P × Q)
   unfolding rule
-  rule-next l = go b
+  rule-next {Q} l f = go b e
     where
-      go : (b : Bool) → (rule b r k ≡ Refused q) ↔ ((b ≡ true) × (k ≡ Refused q))
-      go true = (λ e. (refl, e), λ h. h .1)
-      go false = (λ e. absurd (let n = ap turnOf (same e) in omega arith), λ h. cc)
+      go : (b : Bool) → (b ≡ true) ↔ P → (rule b r k ≡ Refused q) ↔ (P × Q)
+      go true e = (λ p. (e .0 refl, f .0 p), λ h. f .1 (h .1))
+      go false e = (λ p. absurd (let n = ap turnOf (same p) in omega arith), λ h. absurd (false≢true (e .1 (h .0))))
+
+-- the one refusal r of a rule
+pub rule-alone : {P : Type 0} {b : Bool} → (b ≡ true) ↔ P → (r : Refusal) (k : Judged) (high : ℕ) → Gives (suc (turnOf r)) high k → (rule b r k ≡ Refused r) ↔ ¬ P
+rule-alone e r k high g = Iff·trans (rule-here e r k high g) (λ h. h .1, λ n. (refl, n))
+
+-- the refusal K of a rule, at the place i
+pub rule-at : {P : Type 0} {b : Bool} → (b ≡ true) ↔ P → (K : ℕ → Refusal) → ((i : ℕ) → placeOf (K i) ≡ i) → (i p : ℕ) (k : Judged) (high : ℕ) →
+    Gives (suc (turnOf (K p))) high k → (rule b (K i) k ≡ Refused (K p)) ↔ ((i ≡ p) × ¬ P)
+rule-at e K place i p k high g =
+    Iff·trans (rule-here e (K i) k high g) (λ h. (sym (place i) ∙ ap placeOf (h .0) ∙ place p, h .1), λ h. (ap K (h .0), h .1))
 
 module _ (x y : Judged) (r : Refusal) where
   pub then-here : (high : ℕ) → Gives (suc (turnOf r)) high y → (andThen x y ≡ Refused r) ↔ (x ≡ Refused r)
-  then-here high g = Iff·trans (then-refused x y r) (⊎-elim (λ p. p) (λ h. absurd (omega (arith, g r (h .1) .0))), inl)
+  then-here high g = Iff·trans (then-refused x y r) (⊎-elim (λ p. p) (λ h. absurd (omega (arith, g .turn r (h .1) .0))), inl)
 
-  pub then-next : (low high : ℕ) → Gives low high x → high < turnOf r → (andThen x y ≡ Refused r) ↔ ((x ≡ Accepted) × (y ≡ Refused r))
-  then-next low high g l = Iff·trans (then-refused x y r) (⊎-elim (λ p. absurd (omega (arith, g r p .1))) (λ h. h), inr)
+  pub then-next : {P Q : Type 0} (low high : ℕ) → Gives low high x → high < turnOf r → (x ≡ Accepted) ↔ P → (y ≡ Refused r) ↔ Q →
+      (andThen x y ≡ Refused r) ↔ (P × Q)
+  then-next low high g l p q =
+      Iff·trans (then-refused x y r) (Iff·trans (⊎-elim (λ p. absurd (omega (arith, g .turn r p .1))) (λ h. h), inr) (Iff·and p q))
