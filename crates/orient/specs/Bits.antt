@@ -206,11 +206,6 @@ turned-decides : (z : ℤ) {t : ℤ} (rest : Sign) → mag t < 2 ^ 63 → t ≡ 
 turned-decides z rest ok e h =
     ap (λ (t : ℤ). ltZ t (pos 0)) (called ok e) ∙ minus-below z ∙ lead-at z rest (λ o. h (ap (ofZ w64) (e ∙ ap negℤ o)))
 
-pub sign-turned : (row : ℕ → Row) (i j k m : ℕ) {t : ℤ} → mag t < 2 ^ 63 → t ≡ negℤ (c0At row i j k m) → (ofZ w64 t ≡ 0 → ⊥) →
-    ltZ (reread t) (pos 0) ≡ positiveAt row i j k m
-unfolding positiveAt orientation
-sign-turned row i j k m ok e h = turned-decides (c0At row i j k m) _ ok e h
-
 -- and then the tie says it
 pub tie-tells : (row : ℕ → Row) (a b c d : ℕ) → c0At row a b c d ≡ pos 0 → {r : Bool} →
     r ≡ isPlus (tied (pointAt row a) (pointAt row b) (pointAt row c) (pointAt row d)) → r ≡ positiveAt row a b c d
