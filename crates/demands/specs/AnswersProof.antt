@@ -1,13 +1,12 @@
 -- Demand 1, proved: question by question. Assumes nothing.
 use mathlib.Core.Path.{_≡_, sym, ap, _∙_}
-use mathlib.Core.Logic.{⊎-elim, _↔_, Iff·trans, Iff·and}
+use mathlib.Core.Logic.{⊎-elim, _↔_, Iff·trans}
 use mathlib.Core.Bool.{Bool, true, false, cond, true≢false}
 use mathlib.Core.List.{List, []}
-use Prim.Native.Nat.{ℕ, suc, _+_, _*_, _<_}
+use Prim.Native.Nat.{ℕ, suc, _+_, _*_, _≤_, _<_}
 use native.Mathlib.Omega.{arith}
 use lib.Dec.{leb}
 use lib.ListN.{length}
-use borrow.Author.Tests.{lt-leb, leb-false}
 use Rattle.laws.specs.Decides.{leb-iff}
 use Rattle.scene.specs.Limits.{limits, within}
 use Rattle.scene.specs.Records.{vertsA, verts, lastRecord}
@@ -18,8 +17,8 @@ use Rattle.judge.specs.Judge.{rule, andThen, judged}
 use Rattle.judge.specs.declared.Judged.{Judged}
 use Rattle.judge.specs.declared.Judged.the-variants.{Accepted, Refused}
 use Rattle.judge.specs.Tests.{within-iff, then-refused}
-use Rattle.rules.specs.Numbers.{turnOf, Gives, gives-none, gives-rule, gives-wider, rule-here, then-here, then-next}
-use Rattle.rules.specs.Parts.{refused-by}
+use Rattle.rules.specs.Numbers.{turnOf, Gives, gives, gives-none, gives-wider, rule-here, then-here, then-next}
+use Rattle.rules.specs.Parts.{judge-gives}
 use Rattle.rules.specs.Accepted.{accepted}
 use Rattle.rules.specs.Refused as table
 use Rattle.record.specs.Shown.{refusal, shown, ifAccepted}
@@ -126,13 +125,13 @@ module _ (s : List ℕ) where
     fits = rule (leb (3 * count) (length d)) (Room count) Accepted
 
     fits-gives : Gives 11 11 fits
-    fits-gives = gives-rule 11 11 _ (Room count) Accepted (omega arith) (gives-none 11 11)
+    fits-gives = search gives
 
     room-iff : (n : ℕ) → (fits ≡ Refused (Room n)) ↔ TooShort s d n
     room-iff n =
-        Iff·trans (rule-here (leb (3 * count) (length d)) (Room count) (Room n) Accepted 12 (gives-none 12 12)) (
-          λ h. let e : n ≡ count = cc in (e, rw e (leb-false _ _ (h .0))),
-          λ h. let e = h .0 in (lt-leb _ _ (rw e at (h .1)), ap Room (sym e)),
+        Iff·trans (rule-here (leb-iff _ _) (Room count) Accepted 12 (gives-none 12 12)) (
+          λ h. let e : n ≡ count = cc in let l : ¬ (3 * count ≤ length d) = h .1 in (e, omega arith),
+          λ h. let e = h .0 in let l = h .1 in (ap Room (sym e), λ k. omega arith),
         )
 
     module _ (d′ : List ℕ) (x : Listed) (h : IsListed s d d′ x) where
@@ -142,7 +141,7 @@ module _ (s : List ℕ) where
 
       never-by : (r : Refusal) → 11 < turnOf r → ¬ (x ≡ listed.Refused r)
       never-by r l e =
-          ⊎-elim (λ k. omega (arith, refused-by limits s r k)) (λ k. omega (arith, fits-gives r (k .1)))
+          ⊎-elim (λ k. omega (arith, judge-gives limits s .turn r k)) (λ k. omega (arith, fits-gives .turn r (k .1)))
           (then-refused (judged s) fits r .0 (at r .0 e))
 
       of-listing : Refusals s (λ r. x ≡ listed.Refused r) (TooShort s d) Always Never
@@ -151,8 +150,8 @@ module _ (s : List ℕ) where
             scene = λ r l. Iff·trans (at r) (Iff·trans (then-here (judged s) fits r 11
                 (gives-wider (suc (turnOf r)) 11 (omega (arith, scene-turn r l)) (omega arith) fits-gives)) (table.refused limits s r));
             room = λ n.
-                Iff·trans (at (Room n)) (Iff·trans (then-next (judged s) fits (Room n) 1 10 (refused-by limits s) (omega arith))
-                (Iff·and (accepted limits s) (room-iff n)));
+                Iff·trans (at (Room n)) (then-next (judged s) fits (Room n) 1 10 (judge-gives limits s) (omega arith) (accepted limits s)
+                (room-iff n));
             buffer = λ n. never-by (Buffer n) (omega arith);
             lacking = (λ e. absurd (never-by Lacking (omega arith) e), λ h. absurd (h .1 tt));
             same = (λ e. absurd (never-by Same (omega arith) e), λ h. absurd (h .2));

@@ -1,10 +1,10 @@
 -- A question's rules: the scene's come first, so that the turn of a refusal tells which of them gave it; and what the tests of each question decide.
 -- Assumes nothing.
 use mathlib.Core.Path.{_≡_, refl, sym, ap, _∙_}
-use mathlib.Core.Logic.{_⊎_, inl, inr, ⊎-elim, _↔_, Iff·rfl, Iff·trans, Iff·and}
+use mathlib.Core.Logic.{_⊎_, inl, inr, ⊎-elim, _↔_, Iff·rfl, Iff·symm, Iff·trans, Iff·and}
 use mathlib.Core.Bool.{Bool, true, false, not, _&&_, true≢false}
 use mathlib.Core.List.{List}
-use Prim.Native.Nat.{ℕ, suc, _≤_}
+use Prim.Native.Nat.{ℕ, suc, _≤_, _<_}
 use native.Mathlib.Omega.{arith}
 use lib.Dec.{eqb}
 use borrow.Author.Tests.{not-false}
@@ -20,10 +20,10 @@ use Rattle.scene.specs.declared.Refusal.the-variants.{Unused, Edge, Room, Lacki
 use Rattle.judge.specs.Judge.{rule, andThen, judged}
 use Rattle.judge.specs.declared.Judged.{Judged}
 use Rattle.judge.specs.declared.Judged.the-variants.{Accepted, Refused}
-use Rattle.rules.specs.Rules.{FileOk}
+use Rattle.rules.specs.Rules.{Between, FileOk}
 use Rattle.judge.specs.Tests.{never, within-iff, then-refused, rule-iff, then-iff}
-use Rattle.rules.specs.Numbers.{turnOf, Gives, gives-none, gives-rule, gives-wider, rule-here, rule-next, then-here, then-next}
-use Rattle.rules.specs.Parts.{refused-by}
+use Rattle.rules.specs.Numbers.{turnOf, Gives, gives, gives-none, gives-wider, rule-alone, rule-next, then-here, then-next}
+use Rattle.rules.specs.Parts.{judge-gives}
 use Rattle.rules.specs.Accepted.{accepted}
 use Rattle.rules.specs.Refused as table
 use Rattle.questions.specs.Laws.{answered-then}
@@ -77,34 +77,27 @@ module _ (s : List ℕ) where
     own = rule p Lacking alone
 
     own-gives : Gives 12 13 own
-    own-gives = gives-rule 12 13 p Lacking alone (omega arith) (gives-rule 12 13 q Same Accepted (omega arith) (gives-none 12 13))
+    own-gives = search gives
 
-    alone-gives : Gives 13 13 alone
-    alone-gives = gives-rule 13 13 q Same Accepted (omega arith) (gives-none 13 13)
+    -- at a turn that is neither the judge's nor one of these
+    neither : (r : Refusal) → 10 < turnOf r → ¬ Between 12 13 (turnOf r) → ¬ (andThen (judged s) own ≡ Refused r)
+    neither r l n e =
+        ⊎-elim (λ k. omega (arith, judge-gives limits s .turn r k)) (λ k. n (own-gives .turn r (k .1))) (then-refused (judged s) own r .0 e)
 
     pub asked : Refusals s (λ r. andThen (judged s) own ≡ Refused r) NoList Has Alike
     asked =
         record {
           scene = λ r h. Iff·trans (then-here (judged s) own r 13
               (gives-wider (suc (turnOf r)) 13 (omega (arith, scene-turn r h)) (omega arith) own-gives)) (table.refused limits s r);
-          room = λ n. (
-            λ e. absurd (⊎-elim (λ k. omega (arith, refused-by limits s (Room n) k)) (λ k. omega (arith, own-gives (Room n) (k .1)))
-                (then-refused (judged s) own (Room n) .0 e)),
-            λ h. absurd (h .1),
-          );
-          buffer = λ n e. ⊎-elim (λ k. omega (arith, refused-by limits s (Buffer n) k)) (λ k. omega (arith, own-gives (Buffer n) (k .1)))
-              (then-refused (judged s) own (Buffer n) .0 e);
+          room = λ n. (λ e. absurd (neither (Room n) (omega arith) (λ h. omega arith) e), λ h. absurd (h .1));
+          buffer = λ n. neither (Buffer n) (omega arith) (λ h. omega arith);
           lacking =
-              Iff·trans (then-next (judged s) own Lacking 1 10 (refused-by limits s) (omega arith))
-              (Iff·and (accepted limits s)
-              (Iff·trans (rule-here p Lacking Lacking alone 13 alone-gives) (λ h. fails-iff p has .0 (h .0), λ n. (fails-iff p has .1 n, refl))));
+              then-next (judged s) own Lacking 1 10 (judge-gives limits s) (omega arith) (accepted limits s) (rule-alone has Lacking alone 13 (search gives));
           same =
-              Iff·trans (then-next (judged s) own Same 1 10 (refused-by limits s) (omega arith))
-              (Iff·trans (Iff·and (accepted limits s) (Iff·trans (rule-next p Lacking Same alone (omega arith))
-              (Iff·and Iff·rfl (rule-here q Same Same Accepted 14 (gives-none 14 14))))) (
-                λ h. let x = has .0 (h .1 .0) in (h .0, x, alike x .0 (h .1 .1 .0)),
-                λ h. (h .0, (has .1 (h .1), (alike (h .1) .1 (h .2), refl))),
-              ));
+              Iff·trans (then-next (judged s) own Same 1 10 (judge-gives limits s) (omega arith) (accepted limits s)
+              (rule-next has Lacking alone (omega arith)
+              (Iff·trans (rule-alone Iff·rfl Same Accepted 14 (gives-none 14 14)) (Iff·symm (fails-iff q Iff·rfl)))))
+              (λ h. (h .0, h .1 .0, alike (h .1 .0) .0 (h .1 .1)), λ h. (h .0, (h .1, alike (h .1) .1 (h .2))));
         }
 
     -- none of them is at fault
@@ -125,10 +118,10 @@ module _ (s : List ℕ) where
   plain =
       record {
         scene = λ r h. table.refused limits s r;
-        room = λ n. (λ e. absurd (omega (arith, refused-by limits s (Room n) e)), λ h. absurd (h .1));
-        buffer = λ n e. omega (arith, refused-by limits s (Buffer n) e);
-        lacking = (λ e. absurd (omega (arith, refused-by limits s Lacking e)), λ h. absurd (h .1 tt));
-        same = (λ e. absurd (omega (arith, refused-by limits s Same e)), λ h. absurd (h .2));
+        room = λ n. (λ e. absurd (omega (arith, judge-gives limits s .turn (Room n) e)), λ h. absurd (h .1));
+        buffer = λ n e. omega (arith, judge-gives limits s .turn (Buffer n) e);
+        lacking = (λ e. absurd (omega (arith, judge-gives limits s .turn Lacking e)), λ h. absurd (h .1 tt));
+        same = (λ e. absurd (omega (arith, judge-gives limits s .turn Same e)), λ h. absurd (h .2));
       }
 
   -- said otherwise
