@@ -80,27 +80,12 @@ masks-value passes face first count = go (decLt 64 count)
         ap₂ (λ (x y : ℕ). x + 2 ^ 64 * y) (ap (maskOf g) m) (ap (maskBy passes face (first + 64)) z)
         ∙ no-more (λ k. passes (face (first + 64 + 1 + k))) (maskOf g count)
 
--- as the code makes them: each word by itself; one word holds all, or the second goes on from there
+-- as the code makes them: each word by itself
 module _ (passes : Face → Bool) (face : ℕ → Face) (first count : ℕ) where
   pub words-value : {m : Mask} → m .low ≡ maskBy passes face first (first64 count) →
       m .high ≡ maskBy passes face (first + 64) (count - 64) → valueOf m ≡ maskBy passes face first count
   unfolding masksBy
   words-value p q = ap valueOf (λ i. record { low = p i; high = q i }) ∙ masks-value passes face first count
-
-  pub masks-one : {w : ℕ} → count ≤ 64 → w ≡ maskBy passes face first count → _≡_ {A = Mask} (record { low = w; high = 0 })
-      (masksBy passes face first count)
-  unfolding masksBy maskOf
-  masks-one h e =
-      let m : count ≡ first64 count = omega arith in
-      let z : 0 ≡ count - 64 = omega arith in
-      λ i. record { low = (e ∙ ap (maskBy passes face first) m) i; high = maskBy passes face (first + 64) (z i) }
-
-  pub masks-two : {w v : ℕ} → 64 < count → w ≡ maskBy passes face first 64 → v ≡ maskBy passes face (first + 64) (count - 64) →
-      _≡_ {A = Mask} (record { low = w; high = v }) (masksBy passes face first count)
-  unfolding masksBy
-  masks-two h e d =
-      let m : 64 ≡ first64 count = omega arith in
-      λ i. record { low = (e ∙ ap (maskBy passes face first) m) i; high = d i }
 
 -- ---- from the last face to the first: the word holds the faces behind the first k
 

@@ -19,7 +19,7 @@ use Rattle.orient.specs.Terms.{tied, isPlus, orientation, pointAt, c0At, positi
 use Rattle.face_masks.specs.Faces.{maskBy}
 use Rattle.face_masks.specs.declared.Mask.{Mask}
 use Rattle.sides.specs.Candidates.{kept, AtEach, kept-mask, kept-none, each-mask}
-use Rattle.sides.specs.Sides.{above, sidesOf, masksBy, first64, low-of, high-of, Ready, ReadyAll, ready-low, ready-high}
+use Rattle.sides.specs.Sides.{above, sidesOf, masksBy, first64, Ready, ReadyAll, ready-low, ready-high}
 use Rattle.sides.specs.Slopes.{isZero}
 use Rattle.sides.specs.Told.{InPlane}
 use Rattle.sides.specs.declared.tell.Digits.{Digits}
@@ -41,11 +41,14 @@ pub record AreDigits (row : ℕ → Row) (face : ℕ → Face) (first count t : 
   pub tied : p .tied ≡ maskBy (flat row t) face first count
 
 pub record IsTold (row : ℕ → Row) (face : ℕ → Face) (first count t : ℕ) (m : Told) : Type 0 where
-  pub above : m .above ≡ masksBy (leads row t) face first count
-  pub tied : m .tied ≡ masksBy (flat row t) face first count
+  pub low : AreDigits row face first (first64 count) t (m .low)
+  pub high : AreDigits row face (first + 64) (count - 64) t (m .high)
 
 abbrev pub hasTies : Told → Bool
-hasTies m = not (eqb (m .tied .low) 0) || not (eqb (m .tied .high) 0)
+hasTies m = not (eqb (m .low .tied) 0) || not (eqb (m .high .tied) 0)
+
+abbrev pub aboveOf : Told → Mask
+aboveOf m = record { low = m .low .above; high = m .high .above }
 
 -- a digit of a face in whose plane the point lies
 pub record Tied (row : ℕ → Row) (face : ℕ → Face) (plane : ℕ → Row) (first t k : ℕ) : Type 0 where
@@ -119,6 +122,28 @@ module _ (row : ℕ → Row) (face : ℕ → Face) (first count t : ℕ) (few : 
 
 -- ---- both words
 
+-- as they are told: one word holds all, or the second goes on from there
+module _ (row : ℕ → Row) (face : ℕ → Face) (first count t : ℕ) {p : Digits} where
+  longer : {m n : ℕ} → m ≡ n → AreDigits row face first m t p → AreDigits row face first n t p
+  longer e d = record {
+    above = d .above ∙ ap (maskBy (leads row t) face first) e;
+    tied = d .tied ∙ ap (maskBy (flat row t) face first) e;
+  }
+
+  pub told-one : count ≤ 64 → AreDigits row face first count t p →
+      IsTold row face first count t (record { low = p; high = record { above = 0; tied = 0 } })
+  unfolding maskOf
+  told-one h d =
+      let z : 0 ≡ count - 64 = omega arith in
+      record {
+        low = longer (omega arith) d;
+        high = record { above = ap (maskBy (leads row t) face (first + 64)) z; tied = ap (maskBy (flat row t) face (first + 64)) z };
+      }
+
+  pub told-two : {q : Digits} → 64 < count → AreDigits row face first 64 t p → AreDigits row face (first + 64) (count - 64) t q →
+      IsTold row face first count t (record { low = p; high = q })
+  told-two h d e = record { low = longer (omega arith) d; high = e }
+
 neither : (a b : Bool) → (not a || not b) ≡ false → (a ≡ true) × (b ≡ true)
 neither true true e = (refl, refl)
 neither true false e = absurd (false≢true (sym e))
@@ -126,52 +151,40 @@ neither false b e = absurd (false≢true (sym e))
 
 module _ (row : ℕ → Row) (face : ℕ → Face) (first count t : ℕ) (most : count ≤ limits .mostFaces) {m : Told}
     (h : IsTold row face first count t m) where
-  above-low : m .above .low ≡ maskBy (leads row t) face first (first64 count)
-  above-low = low-of _ _ _ _ (h .above)
-
-  above-high : m .above .high ≡ maskBy (leads row t) face (first + 64) (count - 64)
-  above-high = high-of _ _ _ _ (h .above)
-
-  tied-low : m .tied .low ≡ maskBy (flat row t) face first (first64 count)
-  tied-low = low-of _ _ _ _ (h .tied)
-
-  tied-high : m .tied .high ≡ maskBy (flat row t) face (first + 64) (count - 64)
-  tied-high = high-of _ _ _ _ (h .tied)
-
   low-few : first64 count ≤ 64
   low-few = omega arith
 
   high-few : count - 64 ≤ 64
   high-few = omega arith
 
-  module _ {x y : ℕ} (ex : x ≡ settledOf row face first t (m .tied .low)) (ey : y ≡ settledOf row face (first + 64) t (m .tied .high)) where
-    pub masks-settled : _≡_ {A = Mask} (record { low = m .above .low + x; high = m .above .high + y }) (sidesOf row face first count t)
+  module _ {x y : ℕ} (ex : x ≡ settledOf row face first t (m .low .tied)) (ey : y ≡ settledOf row face (first + 64) t (m .high .tied)) where
+    pub masks-settled : _≡_ {A = Mask} (record { low = m .low .above + x; high = m .high .above + y }) (sidesOf row face first count t)
     unfolding masksBy
     masks-settled = λ i. record {
-      low = word-settled row face first (first64 count) t low-few above-low tied-low ex i;
-      high = word-settled row face (first + 64) (count - 64) t high-few above-high tied-high ey i;
+      low = word-settled row face first (first64 count) t low-few (h .low .above) (h .low .tied) ex i;
+      high = word-settled row face (first + 64) (count - 64) t high-few (h .high .above) (h .high .tied) ey i;
     }
 
-    pub low-fits : m .above .low + x < 2 ^ 64
-    low-fits = settled-fits row face first (first64 count) t low-few above-low tied-low ex
+    pub low-fits : m .low .above + x < 2 ^ 64
+    low-fits = settled-fits row face first (first64 count) t low-few (h .low .above) (h .low .tied) ex
 
-    pub high-fits : m .above .high + y < 2 ^ 64
-    high-fits = settled-fits row face (first + 64) (count - 64) t high-few above-high tied-high ey
+    pub high-fits : m .high .above + y < 2 ^ 64
+    high-fits = settled-fits row face (first + 64) (count - 64) t high-few (h .high .above) (h .high .tied) ey
 
-  pub masks-clear : hasTies m ≡ false → m .above ≡ sidesOf row face first count t
+  pub masks-clear : hasTies m ≡ false → aboveOf m ≡ sidesOf row face first count t
   unfolding masksBy
   masks-clear e =
-      let z = neither (eqb (m .tied .low) 0) (eqb (m .tied .high) 0) e in
+      let z = neither (eqb (m .low .tied) 0) (eqb (m .high .tied) 0) e in
       λ i. record {
-        low = word-clear row face first (first64 count) t low-few above-low tied-low (eqb-true _ 0 (z .0)) i;
-        high = word-clear row face (first + 64) (count - 64) t high-few above-high tied-high (eqb-true _ 0 (z .1)) i;
+        low = word-clear row face first (first64 count) t low-few (h .low .above) (h .low .tied) (eqb-true _ 0 (z .0)) i;
+        high = word-clear row face (first + 64) (count - 64) t high-few (h .high .above) (h .high .tied) (eqb-true _ 0 (z .1)) i;
       }
 
   module _ (plane : ℕ → Row) (within : first + count ≤ 2 * limits .mostFaces) (ready : ReadyAll row face plane t first count) where
-    pub low-tied : AtEach (Tied row face plane first t) (m .tied .low)
-    low-tied = word-tied row face first (first64 count) t low-few above-low tied-low plane (λ k b. omega arith)
+    pub low-tied : AtEach (Tied row face plane first t) (m .low .tied)
+    low-tied = word-tied row face first (first64 count) t low-few (h .low .above) (h .low .tied) plane (λ k b. omega arith)
         (ready-low row face plane first count ready (first64 count) (omega arith))
 
-    pub high-tied : AtEach (Tied row face plane (first + 64) t) (m .tied .high)
-    high-tied = word-tied row face (first + 64) (count - 64) t high-few above-high tied-high plane
+    pub high-tied : AtEach (Tied row face plane (first + 64) t) (m .high .tied)
+    high-tied = word-tied row face (first + 64) (count - 64) t high-few (h .high .above) (h .high .tied) plane
         (λ k b. omega arith) (ready-high row face plane first count ready)

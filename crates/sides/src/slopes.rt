@@ -5,6 +5,7 @@ ghost use lib.IntN.{_+ℤ_};
 ghost use Rattle.scene.specs.Limits.{limits, mostPoints};
 ghost use Rattle.scene.specs.Arrays.{rowIn, faceIn, AllWithin, FaceWithin, FacesWithin};
 ghost use Rattle.orient.specs.Formed.{mostFormed};
+ghost use Rattle.orient.specs.Shifts.{shiftAt};
 ghost use Rattle.orient.specs.Terms.{c1At};
 ghost use Rattle.sides.specs.Planes.{planeFor};
 ghost use Rattle.sides.specs.Slopes.{sumOf, slopeFor, isZero, isBlank, Sloped};
@@ -23,26 +24,27 @@ use scene::Row;
 use scene::Rows;
 use scene::decode::face_in;
 
-// c1 of the corners of face k, turned as its plane is, and point t.
+// c1 of the corners of face k, turned as its plane is, and point t, whose row is r and whose shift is s.
 pub fn tilt_at(
     rows: &Rows,
     corners: &Corners,
     planes: &Planes,
     k: usize,
     t: usize,
+    r: Row,
+    s: Row,
     slopes: &mut Planes,
 ) -> i64
-    requires rows { ⌜ AllWithin limits (rowIn (now rows)) × FacesWithin limits (faceIn (now corners))
-        × (k ≤ 2 * limits .mostFaces) × (t ≤ mostPoints limits) ⌝ }
+    requires rows { ⌜ AllWithin limits (rowIn (now rows)) × FacesWithin limits (faceIn (now corners)) × (k ≤ 2 * limits .mostFaces) ⌝ }
+    requires point { ⌜ (t ≤ mostPoints limits) × (r ≡ rowIn (now rows) t) × (s ≡ shiftAt (rowIn (now rows)) t) ⌝ }
     requires ready { ⌜ rowIn (now planes) k ≡ planeFor (rowIn (now rows)) (faceIn (now corners) k) ⌝ }
     requires sloped { ⌜ Sloped (rowIn (now rows)) (faceIn (now corners)) (now slopes) ⌝ }
-    ensures tilt { λ r. ⌜ r ≡ c1At (rowIn (now (rows .entry))) ((faceIn (now (corners .entry)) k) .q)
+    ensures tilt { λ o. ⌜ o ≡ c1At (rowIn (now (rows .entry))) ((faceIn (now (corners .entry)) k) .q)
         ((faceIn (now (corners .entry)) k) .p) ((faceIn (now (corners .entry)) k) .r) t ⌝ }
     ensures sloped { λ r. ⌜ Sloped (rowIn (now (rows .entry))) (faceIn (now (corners .entry))) (now (slopes .exit)) ⌝ }
 {
-    let s = slope_at(rows, corners, k, slopes);
-    let a = dot(s, row_at(rows, t));
-    let b = dot(plane_at(planes, k), shift_at(rows, t));
+    let a = dot(slope_at(rows, corners, k, slopes), r);
+    let b = dot(plane_at(planes, k), s);
     plus(a, b)
 }
 

@@ -4,7 +4,7 @@ ghost use Prim.Native.Nat.{_+_, _*_, _≤_};
 ghost use Rattle.scene.specs.Limits.{limits, mostPoints};
 ghost use Rattle.scene.specs.Arrays.{rowIn, faceIn, AllWithin, FacesWithin};
 ghost use Rattle.sides.specs.Sides.{Ready, ReadyAll};
-ghost use Rattle.sides.specs.Ties.{turnedAt, AreDigits, IsTold, hasTies};
+ghost use Rattle.sides.specs.Ties.{turnedAt, AreDigits, IsTold, hasTies, aboveOf};
 use crate::planes::Planes;
 use crate::planes::dot;
 use crate::planes::plane_at;
@@ -16,23 +16,36 @@ use scene::Corners;
 use scene::Row;
 use scene::Rows;
 
-// The faces that a point lies above, and those in whose planes it lies.
-pub struct Told {
-    pub above: Mask,
-    pub tied: Mask,
+// Of so few faces that a word holds them: those that a point lies above, and those in whose planes it lies.
+pub struct Digits {
+    pub above: u64,
+    pub tied: u64,
 }
 
-// The same of so few faces that one word holds it.
-struct Digits {
-    above: u64,
-    tied: u64,
+// Of a solid's faces. The two words of a mask do not stand side by side here: a processor waits where both are read at once that were just
+// written one by one.
+pub struct Told {
+    pub low: Digits,
+    pub high: Digits,
 }
 
 pub fn has_ties(m: Told) -> bool
     ensures { λ r. ⌜ r ≡ hasTies m ⌝ }
 {
-    let t = m.tied;
-    (t.low != 0) | (t.high != 0)
+    let l = m.low;
+    let h = m.high;
+    (l.tied != 0) | (h.tied != 0)
+}
+
+pub fn above_of(m: Told) -> Mask
+    ensures { λ r. ⌜ r ≡ aboveOf m ⌝ }
+{
+    let l = m.low;
+    let h = m.high;
+    Mask {
+        low: l.above,
+        high: h.above,
+    }
 }
 
 // Of the faces numbered from first + 1 on, by their planes.
@@ -50,29 +63,14 @@ pub fn tell(
     ensures { λ r. ⌜ IsTold (rowIn (now (rows .entry))) (faceIn (now (corners .entry))) first count t r ⌝ }
 {
     if count <= WORD {
-        let x = tell_word(rows, corners, planes, first, count, t);
         return Told {
-            above: Mask {
-                low: x.above,
-                high: 0,
-            },
-            tied: Mask {
-                low: x.tied,
-                high: 0,
-            },
+            low: tell_word(rows, corners, planes, first, count, t),
+            high: Digits { above: 0, tied: 0 },
         };
     }
-    let x = tell_word(rows, corners, planes, first, WORD, t);
-    let y = tell_word(rows, corners, planes, first + WORD, count - WORD, t);
     Told {
-        above: Mask {
-            low: x.above,
-            high: y.above,
-        },
-        tied: Mask {
-            low: x.tied,
-            high: y.tied,
-        },
+        low: tell_word(rows, corners, planes, first, WORD, t),
+        high: tell_word(rows, corners, planes, first + WORD, count - WORD, t),
     }
 }
 

@@ -3,21 +3,26 @@ ghost use mathlib.Core.Path.{_≡_};
 ghost use Prim.Native.Nat.{_+_, _*_, _≤_};
 ghost use Rattle.scene.specs.Limits.{limits, mostPoints};
 ghost use Rattle.scene.specs.Arrays.{rowIn, faceIn, AllWithin, FacesWithin};
+ghost use Rattle.orient.specs.Shifts.{shiftAt};
 ghost use Rattle.sides.specs.Sides.{above, sidesOf, Ready, ReadyAll};
 ghost use Rattle.sides.specs.Told.{InPlane};
 ghost use Rattle.sides.specs.Candidates.{AtEach};
 ghost use Rattle.sides.specs.Slopes.{Sloped};
 ghost use Rattle.sides.specs.Ties.{IsTold, Tied, settledOf};
 use crate::planes::Planes;
+use crate::planes::row_at;
 use crate::slopes::tilt_at;
 use crate::tell::Told;
+use crate::tell::above_of;
 use crate::tell::has_ties;
 use crate::tell::tell;
 use crate::words::bit;
 use face_masks::Mask;
 use face_masks::WORD;
+use orient::shift_at;
 use orient::tied_at;
 use scene::Corners;
+use scene::Row;
 use scene::Rows;
 use scene::decode::face_in;
 
@@ -42,7 +47,7 @@ pub fn sides(
     if has_ties(m) {
         return settled(rows, corners, planes, first, count, t, m, slopes);
     }
-    m.above
+    above_of(m)
 }
 
 // What the planes tell of point t, and the ties settled.
@@ -64,38 +69,42 @@ fn settled(
     ensures { λ r. ⌜ (r ≡ sidesOf (rowIn (now (rows .entry))) (faceIn (now (corners .entry))) first count t)
         × Sloped (rowIn (now (rows .entry))) (faceIn (now (corners .entry))) (now (slopes .exit)) ⌝ }
 {
-    let a = m.above;
-    let b = m.tied;
-    let near = ties(rows, corners, planes, first, t, b.low, slopes);
-    let next = ties(rows, corners, planes, first + WORD, t, b.high, slopes);
+    let l = m.low;
+    let h = m.high;
+    let r = row_at(rows, t);
+    let s = shift_at(rows, t);
+    let near = ties(rows, corners, planes, first, t, r, s, l.tied, slopes);
+    let next = ties(rows, corners, planes, first + WORD, t, r, s, h.tied, slopes);
     Mask {
-        low: a.low + near,
-        high: a.high + next,
+        low: l.above + near,
+        high: h.above + next,
     }
 }
 
-// Of the faces from first + 1 on in whose planes point t lies, one word, those that it lies above by the shift.
+// Of the faces from first + 1 on in whose planes point t lies, one word, those that it lies above by the shift; r is its row, s its shift.
 fn ties(
     rows: &Rows,
     corners: &Corners,
     planes: &Planes,
     first: usize,
     t: usize,
+    r: Row,
+    s: Row,
     tied: u64,
     slopes: &mut Planes,
 ) -> u64
-    requires rows { ⌜ AllWithin limits (rowIn (now rows)) × FacesWithin limits (faceIn (now corners)) × (t ≤ mostPoints limits)
-        × (first ≤ 2 * limits .mostFaces + 64) ⌝ }
+    requires rows { ⌜ AllWithin limits (rowIn (now rows)) × FacesWithin limits (faceIn (now corners)) × (first ≤ 2 * limits .mostFaces + 64) ⌝ }
+    requires point { ⌜ (t ≤ mostPoints limits) × (r ≡ rowIn (now rows) t) × (s ≡ shiftAt (rowIn (now rows)) t) ⌝ }
     requires tied { ⌜ AtEach (Tied (rowIn (now rows)) (faceIn (now corners)) (rowIn (now planes)) first t) tied ⌝ }
     requires sloped { ⌜ Sloped (rowIn (now rows)) (faceIn (now corners)) (now slopes) ⌝ }
-    ensures { λ r. ⌜ (r ≡ settledOf (rowIn (now (rows .entry))) (faceIn (now (corners .entry))) first t tied)
+    ensures { λ o. ⌜ (o ≡ settledOf (rowIn (now (rows .entry))) (faceIn (now (corners .entry))) first t tied)
         × Sloped (rowIn (now (rows .entry))) (faceIn (now (corners .entry))) (now (slopes .exit)) ⌝ }
 {
     let mut left = tied;
     let mut word: u64 = 0;
     while left != 0 {
         let k = u64::trailing_zeros(left) as usize;
-        word = word + (bit(tie_above(rows, corners, planes, first + 1 + k, t, slopes)) << k);
+        word = word + (bit(tie_above(rows, corners, planes, first + 1 + k, t, r, s, slopes)) << k);
         left = left & (left - 1);
     }
     word
@@ -108,17 +117,19 @@ fn tie_above(
     planes: &Planes,
     k: usize,
     t: usize,
+    r: Row,
+    s: Row,
     slopes: &mut Planes,
 ) -> bool
-    requires rows { ⌜ AllWithin limits (rowIn (now rows)) × FacesWithin limits (faceIn (now corners)) ⌝ }
-    requires numbers { ⌜ (k ≤ 2 * limits .mostFaces) × (t ≤ mostPoints limits) ⌝ }
+    requires rows { ⌜ AllWithin limits (rowIn (now rows)) × FacesWithin limits (faceIn (now corners)) × (k ≤ 2 * limits .mostFaces) ⌝ }
+    requires point { ⌜ (t ≤ mostPoints limits) × (r ≡ rowIn (now rows) t) × (s ≡ shiftAt (rowIn (now rows)) t) ⌝ }
     requires ready { ⌜ Ready (rowIn (now rows)) (faceIn (now corners)) (rowIn (now planes)) t k ⌝ }
     requires within { ⌜ InPlane (rowIn (now rows)) (faceIn (now corners) k) t ⌝ }
     requires sloped { ⌜ Sloped (rowIn (now rows)) (faceIn (now corners)) (now slopes) ⌝ }
     ensures { λ a. ⌜ (a ≡ above (rowIn (now (rows .entry))) t (faceIn (now (corners .entry)) k))
         × Sloped (rowIn (now (rows .entry))) (faceIn (now (corners .entry))) (now (slopes .exit)) ⌝ }
 {
-    let d = tilt_at(rows, corners, planes, k, t, slopes);
+    let d = tilt_at(rows, corners, planes, k, t, r, s, slopes);
     if d != 0 {
         return d < 0;
     }

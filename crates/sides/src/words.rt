@@ -7,6 +7,7 @@ ghost use Rattle.scene.specs.Arrays.{rowIn, faceIn, AllWithin, FacesWithin};
 ghost use Rattle.sides.specs.Sides.{sidesOf, ReadyAll};
 ghost use Rattle.sides.specs.Tables.{maskIn, wordSet, masksFrom, wordsFor, ReadyFor};
 use crate::planes::Planes;
+use crate::tell::above_of;
 use crate::tell::has_ties;
 use crate::tell::tell;
 use crate::ties::sides;
@@ -61,7 +62,7 @@ fn fill_clear(rows: &Rows, corners: &Corners, planes: &Planes, k: Solid, words: 
         if has_ties(m) {
             return i;
         }
-        put(words, t, m.above);
+        put(words, t, above_of(m));
         i += 1;
     }
     verts

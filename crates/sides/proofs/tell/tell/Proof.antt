@@ -3,7 +3,8 @@ use borrow.Author.Needs.{needs}
 use native.Mathlib.Omega.{arith}
 use denote.Ref.{now}
 use Rattle.scene.specs.Arrays.{rowIn, faceIn}
-use Rattle.sides.specs.Sides.{masks-one, masks-two, ready-low, ready-high}
+use Rattle.sides.specs.Sides.{ready-low, ready-high}
+use Rattle.sides.specs.Ties.{told-one, told-two}
 use Rattle.sides.proofs.tell.tell.Statement.{statement}
 use Rattle.sides.proofs.tell.tell.Tie as tie
 
@@ -13,11 +14,7 @@ tell-word-requires c κs = search needs
 returns : tie.Need-returns
 returns c =
     let a = c .before .before .args in
-    let t = c .tell-word .ensures in
-    record {
-      above = masks-one _ (faceIn (now (a .corners))) (a .first) _ (c .before .if1 .taken) (t .above);
-      tied = masks-one _ (faceIn (now (a .corners))) (a .first) _ (c .before .if1 .taken) (t .tied);
-    }
+    told-one (rowIn (now (a .rows))) (faceIn (now (a .corners))) (a .first) _ _ (c .before .if1 .taken) (c .tell-word .ensures)
 
 tell-word-requires-2 : tie.Need-tell-word-requires-2
 tell-word-requires-2 c κs =
@@ -54,13 +51,8 @@ tell-word-requires-3 c κs =
 returns-2 : tie.Need-returns-2
 returns-2 c =
     let a = c .before .before .before .args in
-    let many = c .before .before .if1 .left in
-    let t = c .before .tell-word2 .ensures in
-    let u = c .tell-word3 .ensures in
-    record {
-      above = masks-two _ (faceIn (now (a .corners))) (a .first) _ many (t .above) (u .above);
-      tied = masks-two _ (faceIn (now (a .corners))) (a .first) _ many (t .tied) (u .tied);
-    }
+    told-two (rowIn (now (a .rows))) (faceIn (now (a .corners))) (a .first) _ _ (c .before .before .if1 .left) (c .before .tell-word2 .ensures)
+    (c .tell-word3 .ensures)
 
 pub tell-spec : {M : Type 1} → statement M
 tell-spec =

@@ -16,14 +16,29 @@ row s = rowIn (now (s .args .rows))
 abbrev face : tie.Start → ℕ → Face
 face s = faceIn (now (s .args .corners))
 
+-- before the ties of the first word
+abbrev start : tie.After-ties → tie.Start
+start e = e .before .before .before .before .before .before
+
+row-at-requires : tie.Need-row-at-requires
+row-at-requires c κs = search needs
+
+shift-at-requires : tie.Need-shift-at-requires
+shift-at-requires c κs = search needs
+
 ties-requires : tie.Need-ties-requires
 ties-requires c κs =
-    let s = c .before .before .before in
+    let d = c .before in
+    let r = d .before in
+    let s = r .before .before .before in
     let p = s .pre in
     let f = p .1 .0 in
     let a = s .args in (
-      (p .0 .0, p .0 .1, p .0 .2, omega arith),
-      (low-tied (row s) (face s) (a .first) (a .count) (a .t) (f .1) (p .1 .1 .0) (rowIn (now (a .planes))) (f .0) (f .2), p .1 .1 .1),
+      (p .0 .0, p .0 .1, omega arith),
+      (
+        (p .0 .2, r .row-at .ensures, d .shift-at .ensures),
+        (low-tied (row s) (face s) (a .first) (a .count) (a .t) (f .1) (p .1 .1 .0) (rowIn (now (a .planes))) (f .0) (f .2), p .1 .1 .1),
+      ),
     )
 
 add-ties : tie.Need-add-ties
@@ -31,49 +46,57 @@ add-ties c = search needs
 
 ties-requires-2 : tie.Need-ties-requires-2
 ties-requires-2 c κs =
-    let s = c .before .before .before .before .before in
+    let e = c .before in
+    let d = e .before .before in
+    let r = d .before in
+    let s = r .before .before .before in
     let p = s .pre in
     let f = p .1 .0 in
     let a = s .args in (
-      (p .0 .0, p .0 .1, p .0 .2, omega arith),
+      (p .0 .0, p .0 .1, omega arith),
       (
-        high-tied (row s) (face s) (a .first) (a .count) (a .t) (f .1) (p .1 .1 .0) (rowIn (now (a .planes))) (f .0) (f .2),
-        c .before .ties .ensures .1,
+        (p .0 .2, r .row-at .ensures, d .shift-at .ensures),
+        (
+          high-tied (row s) (face s) (a .first) (a .count) (a .t) (f .1) (p .1 .1 .0) (rowIn (now (a .planes))) (f .0) (f .2),
+          e .ties .ensures .1,
+        ),
       ),
     )
 
-add-t16 : tie.Need-add-t16
-add-t16 c =
+add-t18 : tie.Need-add-t18
+add-t18 c =
     let d = c .before in
-    let s = d .before .before .before .before .before .before in
+    let e = d .before .before in
+    let s = start e in
     let a = s .args in
     let p = s .pre in
     omega (
       arith,
-      low-fits (row s) (face s) (a .first) (a .count) (a .t) (p .1 .0 .1) (p .1 .1 .0) (d .before .before .ties .ensures .0) (d .ties2 .ensures .0),
+      low-fits (row s) (face s) (a .first) (a .count) (a .t) (p .1 .0 .1) (p .1 .1 .0) (e .ties .ensures .0) (d .ties2 .ensures .0),
     )
 
-add-t17 : tie.Need-add-t17
-add-t17 c =
+add-t19 : tie.Need-add-t19
+add-t19 c =
     let d = c .before .before in
-    let s = d .before .before .before .before .before .before in
+    let e = d .before .before in
+    let s = start e in
     let a = s .args in
     let p = s .pre in
     omega (
       arith,
-      high-fits (row s) (face s) (a .first) (a .count) (a .t) (p .1 .0 .1) (p .1 .1 .0) (d .before .before .ties .ensures .0) (d .ties2 .ensures .0),
+      high-fits (row s) (face s) (a .first) (a .count) (a .t) (p .1 .0 .1) (p .1 .1 .0) (e .ties .ensures .0) (d .ties2 .ensures .0),
     )
 
 returns : tie.Need-returns
 returns c =
     let d = c .before .before in
-    let s = d .before .before .before .before .before .before in
+    let e = d .before .before in
+    let s = start e in
     let a = s .args in
     let p = s .pre in (
-      masks-settled (row s) (face s) (a .first) (a .count) (a .t) (p .1 .0 .1) (p .1 .1 .0) (d .before .before .ties .ensures .0)
-          (d .ties2 .ensures .0),
+      masks-settled (row s) (face s) (a .first) (a .count) (a .t) (p .1 .0 .1) (p .1 .1 .0) (e .ties .ensures .0) (d .ties2 .ensures .0),
       d .ties2 .ensures .1,
     )
 
 pub settled-spec : {M : Type 1} → statement M
-settled-spec = tie.close (tie.spec ties-requires add-ties ties-requires-2 add-t16 add-t17 returns)
+settled-spec = tie.close (tie.spec row-at-requires shift-at-requires ties-requires add-ties ties-requires-2 add-t18 add-t19 returns)

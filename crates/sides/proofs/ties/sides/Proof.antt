@@ -22,6 +22,9 @@ settled-requires c κs =
 returns : tie.Need-returns
 returns c = c .settled .ensures
 
+above-of-requires : tie.Need-above-of-requires
+above-of-requires c κs = search needs
+
 returns-2 : tie.Need-returns-2
 returns-2 c =
     let e = c .before in
@@ -29,10 +32,11 @@ returns-2 c =
     let d = h .before in
     let s = d .before in
     let a = s .args in (
-      masks-clear (rowIn (now (a .rows))) (faceIn (now (a .corners))) (a .first) (a .count) (a .t) (s .pre .1 .0 .1) (d .tell .ensures)
+      c .above-of .ensures
+          ∙ masks-clear (rowIn (now (a .rows))) (faceIn (now (a .corners))) (a .first) (a .count) (a .t) (s .pre .1 .0 .1) (d .tell .ensures)
           (sym (h .has-ties .ensures) ∙ e .if1 .left),
       s .pre .1 .1 .1,
     )
 
 pub sides-spec : {M : Type 1} → statement M
-sides-spec = tie.close (tie.spec tell-requires has-ties-requires settled-requires returns returns-2)
+sides-spec = tie.close (tie.spec tell-requires has-ties-requires settled-requires returns above-of-requires returns-2)

@@ -11,7 +11,7 @@ use Rattle.sides.proofs.ties.tie_above.Tie as tie
 tilt-at-requires : tie.Need-tilt-at-requires
 tilt-at-requires c κs =
     let p = c .before .pre in
-    ((p .0 .0, p .0 .1, p .1 .0 .0, p .1 .0 .1), (p .1 .1 .0 .made, p .1 .1 .1 .1))
+    (p .0, (p .1 .0, (p .1 .1 .0 .made, p .1 .1 .1 .1)))
 
 returns : tie.Need-returns
 returns c =
@@ -31,7 +31,7 @@ tied-at-requires c κs =
     let s = c .before .before .before .before in
     let p = s .pre in
     let w = p .0 .1 (s .args .k) in
-    rw (c .face-in .ensures) ((p .0 .0, w .p, w .q, w .r, p .1 .0 .1), (p .1 .1 .0 .asked, p .1 .1 .1 .0))
+    rw (c .face-in .ensures) ((p .0 .0, w .p, w .q, w .r, p .1 .0 .0), (p .1 .1 .0 .asked, p .1 .1 .1 .0))
 
 returns-2 : tie.Need-returns-2
 unfolding above

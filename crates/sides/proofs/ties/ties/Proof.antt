@@ -18,16 +18,16 @@ use Rattle.sides.proofs.ties.ties.Statement.{statement}
 use Rattle.sides.proofs.ties.ties.Tie as tie
 
 abbrev Inv-loop : tie.InvT-loop
-Inv-loop rows corners planes first t tied slopes₀ left₀ word₀ slopes left word =
+Inv-loop rows corners planes first t r s tied slopes₀ left₀ word₀ slopes left word =
     (left ≤ tied) × AtEach (Tied (rowIn rows) (faceIn corners) (rowIn planes) first t) left
     × (word + settledOf (rowIn rows) (faceIn corners) first t left ≡ settledOf (rowIn rows) (faceIn corners) first t tied)
     × Sloped (rowIn rows) (faceIn corners) slopes
 
 abbrev μ-loop : tie.MeasureT-loop
-μ-loop rows corners planes first t tied slopes₀ left₀ word₀ slopes left word = left
+μ-loop rows corners planes first t r s tied slopes₀ left₀ word₀ slopes left word = left
 
 loop-holds : tie.Need-loop-holds Inv-loop μ-loop
-loop-holds c = (omega arith, c .pre .1 .0, omega arith, c .pre .1 .1)
+loop-holds c = (omega arith, c .pre .1 .1 .0, omega arith, c .pre .1 .1 .1)
 
 cast-k : tie.Need-cast-k Inv-loop μ-loop
 cast-k c = omega (arith, trailing-le 64 (c .before .loop .left))
@@ -50,7 +50,7 @@ tie-above-requires c κs =
     let l = c .before .before in
     let p = l .before .pre in
     let h = here (c .before) in
-    ((p .0 .0, p .0 .1), ((h .number, p .0 .2), (h .ready, (h .within, l .loop .inv .3))))
+    ((p .0 .0, p .0 .1, h .number), (p .1 .0, (h .ready, (h .within, l .loop .inv .3))))
 
 bit-requires : tie.Need-bit-requires Inv-loop μ-loop
 bit-requires c κs = search needs

@@ -41,6 +41,9 @@ has-ties-requires c κs = search needs
 returns : tie.Need-returns Inv-loop μ-loop
 returns c = search needs
 
+above-of-requires : tie.Need-above-of-requires Inv-loop μ-loop
+above-of-requires c κs = search needs
+
 put-requires : tie.Need-put-requires Inv-loop μ-loop
 put-requires c κs = search needs
 
@@ -52,7 +55,8 @@ loop-less c = search needs
 
 loop-again : tie.Need-loop-again Inv-loop μ-loop
 loop-again c =
-    let e = c .before .before in
+    let u = c .before in
+    let e = u .before .before in
     let h = e .before in
     let d = h .before in
     let l = d .before .before in
@@ -60,7 +64,7 @@ loop-again c =
       omega arith,
       c .put .ensures
           ∙ masks-more _ _ _ _ (l .loop .inv .1)
-          (masks-clear (rowIn (now (a .rows))) (faceIn (now (a .corners))) (a .k .other) (a .k .others) _ (omega arith) (d .tell .ensures)
+          (u .above-of .ensures ∙ masks-clear (rowIn (now (a .rows))) (faceIn (now (a .corners))) (a .k .other) (a .k .others) _ (omega arith) (d .tell .ensures)
           (sym (h .has-ties .ensures) ∙ e .if1 .left)),
     )
 
@@ -81,6 +85,7 @@ fill-clear-spec =
     tell-requires
     has-ties-requires
     returns
+    above-of-requires
     put-requires
     add-i
     loop-less
