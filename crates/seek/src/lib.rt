@@ -3,7 +3,9 @@
 ghost use mathlib.Core.Path.{_≡_};
 ghost use mathlib.Core.List.{[]};
 ghost use Rattle.table.specs.Edges.{AreLinks};
+ghost use Rattle.scene.specs.Arrays.{rowIn, faceIn};
 ghost use Rattle.sides.specs.Lent.{Told};
+ghost use Rattle.sides.specs.Slopes.{Sloped};
 ghost use Rattle.listing.specs.Hits.{seenIn, solidHits};
 ghost use Rattle.spread.specs.Ready.{Ready};
 ghost use Rattle.spread.specs.Walk.{insideWord};
@@ -24,8 +26,8 @@ use scene::Solid;
 use sides::planes::Planes;
 use spread::enclosed_word;
 use told::make_planes;
+use told::tell_lent;
 use told::tell_parts;
-use told::tell_sides;
 
 mod first;
 mod look;
@@ -77,15 +79,17 @@ fn seek_told(
     planes: &Planes,
     links: &Words,
     words: &sides::words::Words,
+    slopes: &mut Planes,
 ) -> Sought
     requires { ⌜ Begun (seenIn n (now rows) (now corners)) a b (now planes) (now links) (now words) ⌝ }
+    requires { ⌜ Sloped (rowIn (now rows)) (faceIn (now corners)) (now slopes) ⌝ }
     ensures { λ r. ⌜ IsSought (seenIn n (now (rows .entry)) (now (corners .entry))) a b r ⌝ }
 {
     let mut others: sides::words::Words = [0; 2 * (Scene::MOST_POINTS + 1)];
     let mut own: sides::words::Words = [0; 2 * (Scene::MOST_POINTS + 1)];
     let mut cuts: Cuts = [0; 2 * (2 * Scene::MOST_FACES + 1)];
     let mut blinks: Words = [0; WORDS];
-    tell_sides(rows, corners, planes, n, b, &mut others);
+    tell_lent(rows, corners, planes, n, b, &mut others, slopes);
     tell_parts(corners, a, b, &others, &mut own, &mut cuts);
     let of_a = first_of(engine, rows, corners, n, a, links, words, &own, &cuts);
     if let Found::Pair(u, v, f) = of_a {
@@ -110,14 +114,26 @@ pub fn seek(engine: Engine, rows: &Rows, corners: &Corners, n: usize, a: Solid, 
     ensures { λ r. ⌜ IsSought (seenIn n (now (rows .entry)) (now (corners .entry))) a b r ⌝ }
 {
     let mut planes: Planes = [0; 4 * (2 * Scene::MOST_FACES + 1)];
+    let mut slopes: Planes = [0; 4 * (2 * Scene::MOST_FACES + 1)];
     let mut links: Words = [0; WORDS];
     make_planes(rows, corners, a, b, &mut planes);
     fill_links(corners, a, &mut links);
-    let found = look(engine, rows, corners, n, a, &planes, &links);
+    let found = look(engine, rows, corners, n, a, &planes, &links, &mut slopes);
     if let Found::Pair(u, v, f) = found {
         return crossed(u, v, f);
     }
     let mut words: sides::words::Words = [0; 2 * (Scene::MOST_POINTS + 1)];
-    tell_sides(rows, corners, &planes, n, a, &mut words);
-    seek_told(engine, rows, corners, n, a, b, &planes, &links, &words)
+    tell_lent(rows, corners, &planes, n, a, &mut words, &mut slopes);
+    seek_told(
+        engine,
+        rows,
+        corners,
+        n,
+        a,
+        b,
+        &planes,
+        &links,
+        &words,
+        &mut slopes,
+    )
 }

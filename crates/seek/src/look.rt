@@ -19,7 +19,6 @@ use links::Words;
 use listing::find::Found;
 use scene::Corners;
 use scene::Rows;
-use scene::Scene;
 use scene::Solid;
 use sides::between;
 use sides::planes::Planes;
@@ -72,7 +71,8 @@ fn look_from(
     requires sides { ⌜ (m ≡ sidesOf (rowIn (now rows)) (faceIn (now corners)) (k .other) (k .others) u)
         × Sloped (rowIn (now rows)) (faceIn (now corners)) (now slopes) ⌝ }
     ensures { λ r. ⌜ Glimpsed (hitsOf (seenIn n (now (rows .entry)) (now (corners .entry))) k
-        (vertexEdges (seenIn n (now (rows .entry)) (now (corners .entry))) k u)) r ⌝ }
+        (vertexEdges (seenIn n (now (rows .entry)) (now (corners .entry))) k u)) r
+        × Sloped (rowIn (now (rows .entry))) (faceIn (now (corners .entry))) (now (slopes .exit)) ⌝ }
 {
     let mut left = higher;
     let mut i: usize = 0;
@@ -100,28 +100,19 @@ pub fn look(
     k: Solid,
     planes: &Planes,
     links: &Words,
+    slopes: &mut Planes,
 ) -> Found
     requires solid { ⌜ Sound (seenIn n (now rows) (now corners)) k × Made (rowIn (now rows)) (faceIn (now corners)) k (now planes) ⌝ }
     requires links { ⌜ AreLinks (seenIn n (now rows) (now corners)) k (now links) ⌝ }
-    ensures { λ r. ⌜ Glimpsed (solidHits (seenIn n (now (rows .entry)) (now (corners .entry))) k) r ⌝ }
+    requires sloped { ⌜ Sloped (rowIn (now rows)) (faceIn (now corners)) (now slopes) ⌝ }
+    ensures { λ r. ⌜ Glimpsed (solidHits (seenIn n (now (rows .entry)) (now (corners .entry))) k) r
+        × Sloped (rowIn (now (rows .entry))) (faceIn (now (corners .entry))) (now (slopes .exit)) ⌝ }
 {
     if k.verts == 0 {
         return Found::Nothing;
     }
     let u = k.low + 1;
-    let mut slopes: Planes = [0; 4 * (2 * Scene::MOST_FACES + 1)];
-    let m = sides(rows, corners, planes, k.other, k.others, u, &mut slopes);
+    let m = sides(rows, corners, planes, k.other, k.others, u, slopes);
     let higher = links[u] >> 1;
-    look_from(
-        engine,
-        rows,
-        corners,
-        n,
-        k,
-        planes,
-        u,
-        m,
-        higher,
-        &mut slopes,
-    )
+    look_from(engine, rows, corners, n, k, planes, u, m, higher, slopes)
 }

@@ -5,6 +5,7 @@ ghost use Rattle.laws.specs.Mask.{digit};
 ghost use Rattle.scene.specs.Limits.{limits, mostPoints};
 ghost use Rattle.scene.specs.Arrays.{rowIn, faceIn, AllWithin, FacesWithin};
 ghost use Rattle.sides.specs.Sides.{sidesOf, ReadyAll};
+ghost use Rattle.sides.specs.Slopes.{Sloped};
 ghost use Rattle.sides.specs.Tables.{maskIn, wordSet, masksFrom, wordsFor, ReadyFor};
 use crate::planes::Planes;
 use crate::tell::above_of;
@@ -68,7 +69,7 @@ fn fill_clear(rows: &Rows, corners: &Corners, planes: &Planes, k: Solid, words: 
     verts
 }
 
-// Of the n points above low, where ties are likely: a face's slope is made once.
+// Of the n points above low, where ties are likely.
 fn fill_tied(
     rows: &Rows,
     corners: &Corners,
@@ -90,13 +91,47 @@ fn fill_tied(
         return;
     }
     let mut slopes: Planes = [0; 4 * (2 * Scene::MOST_FACES + 1)];
+    fill_points(
+        rows,
+        corners,
+        planes,
+        low,
+        n,
+        first,
+        count,
+        words,
+        &mut slopes,
+    );
+}
+
+// Of the n points above low, with a lent table of slopes: a face's is made once.
+pub fn fill_points(
+    rows: &Rows,
+    corners: &Corners,
+    planes: &Planes,
+    low: usize,
+    n: usize,
+    first: usize,
+    count: usize,
+    words: &mut Words,
+    slopes: &mut Planes,
+)
+    requires rows { ⌜ AllWithin limits (rowIn (now rows)) × FacesWithin limits (faceIn (now corners)) ⌝ }
+    requires solid { ⌜ (low + n ≤ mostPoints limits) × (first + count ≤ 2 * limits .mostFaces) × (count ≤ limits .mostFaces) ⌝ }
+    requires ready { ⌜ ((i : ℕ) → i < n →
+        ReadyAll (rowIn (now rows)) (faceIn (now corners)) (rowIn (now planes)) (low + 1 + i) first count) ⌝ }
+    requires sloped { ⌜ Sloped (rowIn (now rows)) (faceIn (now corners)) (now slopes) ⌝ }
+    ensures words { λ r. ⌜ now (words .exit)
+        ≡ masksFrom (sidesOf (rowIn (now (rows .entry))) (faceIn (now (corners .entry))) first count) low n (now (words .entry)) ⌝ }
+    ensures sloped { λ r. ⌜ Sloped (rowIn (now (rows .entry))) (faceIn (now (corners .entry))) (now (slopes .exit)) ⌝ }
+{
     let mut i: usize = 0;
     while i < n {
         let t = low + 1 + i;
         put(
             words,
             t,
-            sides(rows, corners, planes, first, count, t, &mut slopes),
+            sides(rows, corners, planes, first, count, t, slopes),
         );
         i += 1;
     }

@@ -1,6 +1,7 @@
 // What the masks of a solid's edges are read off: the sides of the other solid's faces on which its vertices and the far point lie, and
 // what narrows the questions.
 ghost use Rattle.sides.specs.Lent.{Told};
+ghost use Rattle.sides.specs.Slopes.{Sloped};
 ghost use Rattle.listing.specs.Hits.{seenIn};
 ghost use Rattle.spread.specs.Ready.{Ready};
 ghost use Rattle.told.specs.Told.{farOf, noPlanes, Made};
@@ -16,6 +17,7 @@ use scene::Rows;
 use scene::Solid;
 use sides::planes::Planes;
 use sides::words::Words;
+use sides::words::fill_points;
 
 // The far point as a solid of one vertex.
 fn far(n: usize, k: Solid) -> Solid
@@ -64,6 +66,38 @@ pub fn tell_sides(
 {
     sides::words::fill(rows, corners, planes, far(n, k), words);
     sides::words::fill(rows, corners, planes, k, words);
+}
+
+// The same, with a lent table of slopes: those that one solid's ties asked for serve again.
+pub fn tell_lent(
+    rows: &Rows,
+    corners: &Corners,
+    planes: &Planes,
+    n: usize,
+    k: Solid,
+    words: &mut Words,
+    slopes: &mut Planes,
+)
+    requires solid { ⌜ Ready (seenIn n (now rows) (now corners)) k × (length (now words) ≡ 2 * (mostPoints limits + 1)) ⌝ }
+    requires made { ⌜ Made (rowIn (now rows)) (faceIn (now corners)) k (now planes) ⌝ }
+    requires sloped { ⌜ Sloped (rowIn (now rows)) (faceIn (now corners)) (now slopes) ⌝ }
+    ensures told { λ _. ⌜ Told (seenIn n (now (rows .entry)) (now (corners .entry))) k (now (words .exit)) ⌝ }
+    ensures sloped { λ _. ⌜ Sloped (rowIn (now (rows .entry))) (faceIn (now (corners .entry))) (now (slopes .exit)) ⌝ }
+{
+    let first = k.other;
+    let count = k.others;
+    fill_points(rows, corners, planes, n - 1, 1, first, count, words, slopes);
+    fill_points(
+        rows,
+        corners,
+        planes,
+        k.low,
+        k.verts,
+        first,
+        count,
+        words,
+        slopes,
+    );
 }
 
 // Each of the two has the other's faces opposite.

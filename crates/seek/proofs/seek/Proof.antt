@@ -1,6 +1,8 @@
 -- The first look, and where it finds nothing all edges.
 use denote.Ref.{now}
 use Rattle.listing.specs.Hits.{seenIn}
+use Rattle.sides.specs.Slopes.{zeros-sloped}
+use Rattle.told.specs.Told.{Begun}
 use Rattle.seek.specs.Seek.{sought-early}
 use borrow.Author.Needs.{needs}
 use Rattle.seek.proofs.seek.Statement.{statement}
@@ -14,10 +16,10 @@ fill-links-requires c κs = search needs
 
 look-requires : tie.Need-look-requires
 look-requires c κs =
-    let l = c .before .before in
+    let l = c .before .before .before in
     let m = l .before .before in
     let s = m .before .before in
-    ((s .pre .0 .within .sound, m .make-planes .ensures .0), l .fill-links .ensures .own)
+    ((s .pre .0 .within .sound, m .make-planes .ensures .0), (l .fill-links .ensures .own, zeros-sloped _ _))
 
 enum-known-found : tie.Need-enum-known-found
 enum-known-found c = search needs
@@ -28,33 +30,34 @@ crossed-requires c κs = search needs
 returns : tie.Need-returns
 returns c =
     let l = c .before .before .before .before in
-    let s = l .before .before .before .before .before .before .before in
+    let s = l .before .before .before .before .before .before .before .before in
     let v = seenIn (s .args .n) (now (s .args .rows)) (now (s .args .corners)) in
-    sought-early v (s .args .a) (s .args .b) {x = l .look .result} (search needs) (c .crossed .ensures) (l .look .ensures)
+    sought-early v (s .args .a) (s .args .b) {x = l .look .result} (search needs) (c .crossed .ensures) (l .look .ensures .0)
 
 enum-told : tie.Need-enum-told
 enum-told c = search needs
 
-tell-sides-requires : tie.Need-tell-sides-requires
-tell-sides-requires c κs =
-    let l = c .before .before .before .before in
-    let m = l .before .before .before .before .before in
+tell-lent-requires : tie.Need-tell-lent-requires
+tell-lent-requires c κs =
+    let l = c .before .before .before .before .before in
+    let m = l .before .before .before .before .before .before in
     let s = m .before .before in
-    ((s .pre .0, search needs), m .make-planes .ensures .0)
+    ((s .pre .0, search needs), (m .make-planes .ensures .0, l .look .ensures .1))
 
 seek-told-requires : tie.Need-seek-told-requires
 seek-told-requires c κs =
-    let t = c .before .before .before in
-    let l = t .before .before .before .before .before .before .before .before in
+    let t = c .before .before .before .before in
+    let l = t .before .before .before .before .before .before .before .before .before .before in
     let m = l .before .before in
     let s = m .before .before in
-    record {
+    let b : Begun (seenIn (s .args .n) (now (s .args .rows)) (now (s .args .corners))) (s .args .a) (s .args .b) _ _ _ = record {
       a-ready = s .pre .0;
       b-ready = s .pre .1;
       linked = l .fill-links .ensures .own;
-      told = t .tell-sides .ensures;
+      told = t .tell-lent .ensures .0;
       made = m .make-planes .ensures .1;
-    }
+    } in
+    (b, t .tell-lent .ensures .1)
 
 returns-2 : tie.Need-returns-2
 returns-2 c = search needs
@@ -70,6 +73,6 @@ seek-spec =
     crossed-requires
     returns
     enum-told
-    tell-sides-requires
+    tell-lent-requires
     seek-told-requires
     returns-2)

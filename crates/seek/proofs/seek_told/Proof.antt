@@ -7,25 +7,27 @@ use borrow.Author.Needs.{needs}
 use Rattle.seek.proofs.seek_told.Statement.{statement}
 use Rattle.seek.proofs.seek_told.Tie as tie
 
-tell-sides-requires : tie.Need-tell-sides-requires
-tell-sides-requires c κs = search needs
+tell-lent-requires : tie.Need-tell-lent-requires
+tell-lent-requires c κs =
+    let s = c .before .before in
+    ((s .pre .0 .b-ready, search needs), (s .pre .0 .made, s .pre .1))
 
 tell-parts-requires : tie.Need-tell-parts-requires
 tell-parts-requires c κs =
-    let s = c .before .before .before .before .before in
-    parts-asked _ (s .args .a) (s .pre .a-ready)
+    let s = c .before .before .before .before .before .before in
+    parts-asked _ (s .args .a) (s .pre .0 .a-ready)
 
 first-of-requires : tie.Need-first-of-requires
 first-of-requires c κs =
     let p = c .before .before in
     let t = p .before .before .before .before in
-    let s = t .before .before in
+    let s = t .before .before .before in
     let v = seenIn (s .args .n) (now (s .args .rows)) (now (s .args .corners)) in
-    let b = s .pre in
+    let b = s .pre .0 in
     let e = p .tell-parts .ensures in
     let z = blank-new v (s .args .a) in (
       (b .a-ready .within .sound, b .linked),
-      (b .told, parts-told v (s .args .a) (s .args .b) (b .a-ready) (b .b-ready) (t .tell-sides .ensures) (e .0) (e .1) z),
+      (b .told, parts-told v (s .args .a) (s .args .b) (b .a-ready) (b .b-ready) (t .tell-lent .ensures .0) (e .0) (e .1) z),
     )
 
 enum-known-of-a : tie.Need-enum-known-of-a
@@ -43,15 +45,15 @@ enum-told c = search needs
 fill-links-requires : tie.Need-fill-links-requires
 fill-links-requires c κs =
     let n = c .before in
-    let s = n .before .before .before .before .before .before .before .before .before .before .before in
-    let o = s .pre .b-ready .within .sound in
+    let s = n .before .before .before .before .before .before .before .before .before .before .before .before in
+    let o = s .pre .0 .b-ready .within .sound in
     ((o .corners, o .own), (search needs, o .vertices .0, o .vertices .1))
 
 tell-parts-requires-2 : tie.Need-tell-parts-requires-2
 tell-parts-requires-2 c κs =
     let l = c .before .before in
-    let s = l .before .before .before .before .before .before .before .before .before .before .before .before .before in
-    parts-asked _ (s .args .b) (s .pre .b-ready)
+    let s = l .before .before .before .before .before .before .before .before .before .before .before .before .before .before in
+    parts-asked _ (s .args .b) (s .pre .0 .b-ready)
 
 first-of-requires-2 : tie.Need-first-of-requires-2
 first-of-requires-2 c κs =
@@ -59,15 +61,15 @@ first-of-requires-2 c κs =
     let l = q .before .before .before in
     let p = l .before .before .before .before .before .before .before in
     let t = p .before .before .before .before in
-    let s = t .before .before in
+    let s = t .before .before .before in
     let v = seenIn (s .args .n) (now (s .args .rows)) (now (s .args .corners)) in
-    let b = s .pre in
+    let b = s .pre .0 in
     let e = p .tell-parts .ensures in
     let f = q .tell-parts2 .ensures in
     let n = blank-new v (s .args .b) in
-    let z = blank-told v (s .args .a) (s .args .b) (b .a-ready) (b .b-ready) (t .tell-sides .ensures) (e .0) (e .1) n in (
+    let z = blank-told v (s .args .a) (s .args .b) (b .a-ready) (b .b-ready) (t .tell-lent .ensures .0) (e .0) (e .1) n in (
       (b .b-ready .within .sound, l .fill-links .ensures .own),
-      (t .tell-sides .ensures, parts-told v (s .args .b) (s .args .a) (b .b-ready) (b .a-ready) (b .told) (f .0) (f .1) z),
+      (t .tell-lent .ensures .0, parts-told v (s .args .b) (s .args .a) (b .b-ready) (b .a-ready) (b .told) (f .0) (f .1) z),
     )
 
 enum-known-of-b : tie.Need-enum-known-of-b
@@ -87,10 +89,10 @@ inside-still-requires c κs =
     let q = c .before .before .before .before .before .before .before in
     let l = q .before .before .before in
     let n = l .before .before in
-    let s = n .before .before .before .before .before .before .before .before .before .before .before in
+    let s = n .before .before .before .before .before .before .before .before .before .before .before .before in
     let v = seenIn (s .args .n) (now (s .args .rows)) (now (s .args .corners)) in (
-      (s .pre .a-ready, s .pre .linked),
-      (s .pre .told, none-first (solidHits v (s .args .a)) (n .before .before .first-of .ensures) (n .enum-told .given .1)),
+      (s .pre .0 .a-ready, s .pre .0 .linked),
+      (s .pre .0 .told, none-first (solidHits v (s .args .a)) (n .before .before .first-of .ensures) (n .enum-told .given .1)),
     )
 
 inside-still-requires-2 : tie.Need-inside-still-requires-2
@@ -99,10 +101,10 @@ inside-still-requires-2 c κs =
     let f = n .before .before in
     let l = f .before .before .before .before .before .before .before .before in
     let t = l .before .before .before .before .before .before .before .before .before .before .before in
-    let s = t .before .before in
+    let s = t .before .before .before in
     let v = seenIn (s .args .n) (now (s .args .rows)) (now (s .args .corners)) in (
-      (s .pre .b-ready, l .fill-links .ensures .own),
-      (t .tell-sides .ensures, none-first (solidHits v (s .args .b)) (f .first-of2 .ensures) (n .enum-told2 .given .1)),
+      (s .pre .0 .b-ready, l .fill-links .ensures .own),
+      (t .tell-lent .ensures .0, none-first (solidHits v (s .args .b)) (f .first-of2 .ensures) (n .enum-told2 .given .1)),
     )
 
 returns-3 : tie.Need-returns-3
@@ -110,7 +112,7 @@ returns-3 c =
     let i = c .before .before .before in
     let n = i .before in
     let m = n .before .before .before .before .before .before .before .before .before .before .before .before in
-    let s = m .before .before .before .before .before .before .before .before .before .before .before in
+    let s = m .before .before .before .before .before .before .before .before .before .before .before .before in
     let v = seenIn (s .args .n) (now (s .args .rows)) (now (s .args .corners)) in
     sought-none v (s .args .a) (s .args .b) (m .before .before .first-of .ensures) (m .enum-told .given .1)
     (n .before .before .first-of2 .ensures) (n .enum-told2 .given .1) (i .inside-still .ensures) (c .inside-still2 .ensures)
@@ -119,7 +121,7 @@ pub seek-told-spec : {M : Type 1} → statement M
 seek-told-spec =
     tie.close
     (tie.spec
-    tell-sides-requires
+    tell-lent-requires
     tell-parts-requires
     first-of-requires
     enum-known-of-a

@@ -3,14 +3,13 @@ use Prim.Native.Nat.{_+_}
 use native.Mathlib.Omega.{arith}
 use denote.Ref.{now}
 use Rattle.listing.specs.Hits.{seenIn, Own}
-use Rattle.sides.specs.Slopes.{zeros-sloped}
 use Rattle.seek.specs.Look.{side-asked, higher-first, glimpsed-first}
 use borrow.Author.Needs.{needs}
 use Rattle.seek.proofs.look.look.Statement.{statement}
 use Rattle.seek.proofs.look.look.Tie as tie
 
 returns : tie.Need-returns
-returns c = search needs
+returns c = (search needs, c .before .before .pre .1 .1)
 
 add-u : tie.Need-add-u
 add-u c = search needs
@@ -20,7 +19,7 @@ sides-requires c κs =
     let s = c .before .before .before .before in
     let v = seenIn (s .args .n) (now (s .args .rows)) (now (s .args .corners)) in
     let q = side-asked v (s .args .k) (s .args .k .low + 1) (s .pre .0 .0) (s .pre .0 .1) (omega arith, omega arith) in
-    (q .0, (q .1 .0, (q .1 .1, zeros-sloped (v .row) (v .face))))
+    (q .0, (q .1 .0, (q .1 .1, s .pre .1 .1)))
 
 mul-higher : tie.Need-mul-higher
 mul-higher c = search needs
@@ -35,13 +34,13 @@ look-from-requires c κs =
     let v = seenIn (s .args .n) (now (s .args .rows)) (now (s .args .corners)) in
     let o = s .pre .0 .0 in
     let own : Own v (s .args .k) (s .args .k .low + 1) = (omega arith, omega arith) in
-    (s .pre .0, ((own, higher-first v (s .args .k) o (omega arith) (s .pre .1 _ own)), d .before .sides .ensures))
+    (s .pre .0, ((own, higher-first v (s .args .k) o (omega arith) (s .pre .1 .0 _ own)), d .before .sides .ensures))
 
 returns-2 : tie.Need-returns-2
 returns-2 c =
     let s = c .before .before .before .before .before .before .before .before in
     let v = seenIn (s .args .n) (now (s .args .rows)) (now (s .args .corners)) in
-    glimpsed-first v (s .args .k) (s .pre .0 .0) (omega arith) (c .look-from .result) (c .look-from .ensures)
+    (glimpsed-first v (s .args .k) (s .pre .0 .0) (omega arith) (c .look-from .result) (c .look-from .ensures .0), c .look-from .ensures .1)
 
 pub look-spec : {M : Type 1} → statement M
 look-spec =

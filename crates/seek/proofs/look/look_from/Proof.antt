@@ -30,7 +30,7 @@ loop-holds c =
     (search needs, omega arith, ap (λ (l : List Entry). firstOf (hitsOf v (s .k) l)) (c .pre .1 .0 .1 .edges), c .pre .1 .1 .1)
 
 returns : tie.Need-returns Inv-loop μ-loop
-returns c = search needs
+returns c = (search needs, c .before .before .loop .inv .3)
 
 add-v : tie.Need-add-v Inv-loop μ-loop
 add-v c = search needs
@@ -59,9 +59,10 @@ returns-2 c =
     let f = c .before .before .before in
     let l = f .before .before .before .before in
     let s = l .before in
-    let v = seenIn (s .args .n) (now (s .args .rows)) (now (s .args .corners)) in
-    search
-    (left-found v (s .args .k) (s .args .u) (l .loop .left) (omega arith) (l .loop .inv .0) refl (f .look-at .ensures .0) (l .loop .inv .2))
+    let v = seenIn (s .args .n) (now (s .args .rows)) (now (s .args .corners)) in (
+      search (left-found v (s .args .k) (s .args .u) (l .loop .left) (omega arith) (l .loop .inv .0) refl (f .look-at .ensures .0) (l .loop .inv .2)),
+      f .look-at .ensures .1,
+    )
 
 enum-told : tie.Need-enum-told Inv-loop μ-loop
 enum-told c = search needs
@@ -90,7 +91,7 @@ loop-again c =
     )
 
 returns-3 : tie.Need-returns-3 Inv-loop μ-loop
-returns-3 c = search needs
+returns-3 c = (search needs, c .before .loop .inv .3)
 
 pub look-from-spec : {M : Type 1} → statement M
 look-from-spec =

@@ -1,79 +1,24 @@
--- Each turn stores the words of one more point; a slope that is in the table stays right.
+-- A new table of slopes is blank.
 use borrow.Author.Needs.{needs}
-use mathlib.Core.Path.{_≡_, _∙_}
-use Prim.Native.Nat.{_-_, _≤_}
+use mathlib.Core.Path.{_≡_}
 use native.Mathlib.Omega.{arith}
 use Rattle.laws.specs.Filled.{filled}
-use Rattle.scene.specs.Arrays.{rowIn, faceIn}
-use Rattle.sides.specs.Tables.{masksFrom, masks-more}
-use Rattle.sides.specs.Sides.{sidesOf}
-use Rattle.sides.specs.Slopes.{Sloped, zeros-sloped}
+use Rattle.sides.specs.Tables.{masksFrom}
+use Rattle.sides.specs.Slopes.{zeros-sloped}
 use Rattle.sides.proofs.words.fill_tied.Statement.{statement}
 use Rattle.sides.proofs.words.fill_tied.Tie as tie
 
-abbrev Inv-loop : tie.InvT-loop
-Inv-loop rows corners planes low n first count words₀ slopes₀ i₀ words slopes i =
-    (i ≤ n) × (words ≡ masksFrom (sidesOf (rowIn rows) (faceIn corners) first count) low i words₀)
-    × Sloped (rowIn rows) (faceIn corners) slopes
-
-abbrev μ-loop : tie.MeasureT-loop
-μ-loop rows corners planes low n first count words₀ slopes₀ i₀ words slopes i = n - i
-
-returns : tie.Need-returns Inv-loop μ-loop
+returns : tie.Need-returns
 unfolding masksFrom filled
 returns c = let z : c .before .args .n ≡ 0 = omega arith in rw z
 
-loop-holds : tie.Need-loop-holds Inv-loop μ-loop
-unfolding masksFrom filled
-loop-holds c = (search needs, search needs, zeros-sloped _ _)
+fill-points-requires : tie.Need-fill-points-requires
+fill-points-requires c κs =
+    let p = c .before .before .before .pre in
+    (p .0, (p .1 .0, (p .1 .1, zeros-sloped _ _)))
 
-add-t : tie.Need-add-t Inv-loop μ-loop
-add-t c = search needs
-
-add-t-2 : tie.Need-add-t-2 Inv-loop μ-loop
-add-t-2 c = search needs
-
-sides-requires : tie.Need-sides-requires Inv-loop μ-loop
-sides-requires c κs =
-    let l = c .before .before .before in
-    let p = l .before .before .pre in (
-      (p .0 .0, p .0 .1, search needs),
-      ((p .1 .0 .1, p .1 .0 .2), (p .1 .1 (l .loop .i) (search needs), l .loop .inv .2)),
-    )
-
-put-requires : tie.Need-put-requires Inv-loop μ-loop
-put-requires c κs = search needs
-
-add-i : tie.Need-add-i Inv-loop μ-loop
-add-i c = search needs
-
-loop-less : tie.Need-loop-less Inv-loop μ-loop
-loop-less c = search needs
-
-loop-again : tie.Need-loop-again Inv-loop μ-loop
-loop-again c =
-    let d = c .before in
-    let l = d .before .before .before .before in
-    (omega arith, c .put .ensures ∙ masks-more _ _ _ _ (l .loop .inv .1) (d .sides .ensures .0), d .sides .ensures .1)
-
-returns-2 : tie.Need-returns-2 Inv-loop μ-loop
-returns-2 c =
-    let e : c .before .loop .i ≡ c .before .before .before .args .n = omega arith in
-    cc (c .before .loop .inv .1)
+returns-2 : tie.Need-returns-2
+returns-2 c = c .fill-points .ensures .0
 
 pub fill-tied-spec : {M : Type 1} → statement M
-fill-tied-spec =
-    tie.close
-    (tie.spec
-    Inv-loop
-    μ-loop
-    returns
-    loop-holds
-    add-t
-    add-t-2
-    sides-requires
-    put-requires
-    add-i
-    loop-less
-    loop-again
-    returns-2)
+fill-tied-spec = tie.close (tie.spec returns fill-points-requires returns-2)
