@@ -33,7 +33,7 @@ pub record Ones (p q r s : Point) : Type 0 where
   pub c : r .w ≡ pos 1
   pub d : s .w ≡ pos 1
 
-one-is : (w : ℤ) → isOne w ≡ true → w ≡ pos 1
+pub one-is : (w : ℤ) → isOne w ≡ true → w ≡ pos 1
 one-is (pos zero) e = absurd (false≢true e)
 one-is (pos (suc zero)) e = refl
 one-is (pos (suc (suc n))) e = absurd (false≢true e)

@@ -5,6 +5,8 @@ pub mod Sides
 pub mod Told
 pub mod Slopes
 pub mod SlopeSizes
+pub mod Units
+pub mod UnitSizes
 pub mod Tables
 pub mod Candidates
 pub mod Crossing

@@ -30,7 +30,7 @@ module _ {A K B L C M : ℕ} {a b c : Row} (p : Upto A K a) (q : Upto B L b) (r 
   sum-size =
       record { x = p .x ⊕ q .x ⊕ r .x; y = p .y ⊕ q .y ⊕ r .y; z = p .z ⊕ q .z ⊕ r .z; w = p .w ⊕ q .w ⊕ r .w }
 
-  sum-within : {k : ℕ} → A + B + C + (K + L + M) ≤ k → SumWithin k a b c
+  pub sum-within : {k : ℕ} → A + B + C + (K + L + M) ≤ k → SumWithin k a b c
   sum-within h =
       record {
         x = le-trans (add-le-add (add-le-add (p .x .size) (q .x .size)) (r .x .size)) (le-trans (omega arith) h);

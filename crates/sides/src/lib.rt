@@ -34,6 +34,7 @@ pub mod planes;
 mod slopes;
 mod tell;
 pub mod ties;
+mod units;
 pub mod words;
 
 // The mask of u, v against the `count` faces of a solid, numbered from first + 1 on, in a scene of n points, where the table of words holds

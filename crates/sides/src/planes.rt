@@ -8,6 +8,8 @@ ghost use Rattle.scene.specs.Decode.{rowSet};
 ghost use Rattle.orient.specs.Formed.{mostFormed};
 ghost use Rattle.sides.specs.Planes.{spanOf, dotOf, planeOf, planeFor};
 ghost use Rattle.sides.specs.Sizes.{SpanWithin, PlaneWithin, dotSize};
+use crate::units;
+use crate::units::are_units;
 use orient::minors::Line;
 use orient::minors::cross;
 use orient::minors::join;
@@ -44,7 +46,11 @@ fn plane(rows: &Rows, f: Face) -> Row
 {
     let p = row_at(rows, f.p);
     let q = row_at(rows, f.q);
-    through(q, p, row_at(rows, f.r))
+    let r = row_at(rows, f.r);
+    if are_units(q, p, r) {
+        return units::plane(q, p, r);
+    }
+    through(q, p, r)
 }
 
 // The plane of three rows.

@@ -9,6 +9,7 @@ ghost use Rattle.orient.specs.Shifts.{shiftAt};
 ghost use Rattle.orient.specs.Terms.{c1At};
 ghost use Rattle.sides.specs.Planes.{planeFor};
 ghost use Rattle.sides.specs.Slopes.{sumOf, slopeFor, isZero, isBlank, Sloped};
+ghost use Rattle.sides.specs.Units.{Units};
 ghost use Rattle.sides.specs.SlopeSizes.{SumWithin, plusSize};
 use crate::planes::Planes;
 use crate::planes::dot;
@@ -16,7 +17,11 @@ use crate::planes::plane_at;
 use crate::planes::put;
 use crate::planes::row_at;
 use crate::planes::through;
+use crate::units::are_units;
+use crate::units::seen;
+use orient::minors::less;
 use orient::minors::sum;
+use orient::minors::triple;
 use orient::shift_at;
 use scene::Corners;
 use scene::Face;
@@ -72,10 +77,35 @@ fn slope(rows: &Rows, f: Face) -> Row
     let p = row_at(rows, f.p);
     let q = row_at(rows, f.q);
     let r = row_at(rows, f.r);
+    if are_units(q, p, r) {
+        return slope_seen(rows, f);
+    }
     added(
         through(shift_at(rows, f.q), p, r),
         through(q, shift_at(rows, f.p), r),
         through(q, p, shift_at(rows, f.r)),
+    )
+}
+
+// The same of corners of weight 1, by directions.
+fn slope_seen(rows: &Rows, f: Face) -> Row
+    requires { ⌜ AllWithin limits (rowIn (now rows)) × FaceWithin limits f
+        × Units (rowIn (now rows) (f .q)) (rowIn (now rows) (f .p)) (rowIn (now rows) (f .r)) ⌝ }
+    ensures { λ r. ⌜ r ≡ slopeFor (rowIn (now (rows .entry))) f ⌝ }
+{
+    let r = row_at(rows, f.r);
+    let o = shift_at(rows, f.r);
+    let u = less(row_at(rows, f.q), r);
+    let v = less(row_at(rows, f.p), r);
+    added(
+        seen(less(shift_at(rows, f.q), o), v, r),
+        seen(u, less(shift_at(rows, f.p), o), r),
+        Row {
+            x: 0,
+            y: 0,
+            z: 0,
+            w: triple(o, u, v),
+        },
     )
 }
 

@@ -1,11 +1,12 @@
 -- The rows of a face's corners and their shifts are within the limits.
 use borrow.Author.Needs.{needs}
-use mathlib.Core.Path.{_∙_}
+use mathlib.Core.Path.{sym, _∙_}
 use denote.Ref.{now}
 use Rattle.scene.specs.Arrays.{rowIn}
 use Rattle.sides.specs.Planes.{planeOf}
 use Rattle.sides.specs.Slopes.{sumOf, slopeOf, slopeFor}
 use Rattle.sides.specs.SlopeSizes.{first-formed, second-formed, third-formed, slope-formed}
+use Rattle.sides.specs.Units.{units-are}
 use Rattle.sides.proofs.slopes.slope.Statement.{statement}
 use Rattle.sides.proofs.slopes.slope.Tie as tie
 
@@ -18,12 +19,31 @@ row-at-requires-2 c κs = search needs
 row-at-requires-3 : tie.Need-row-at-requires-3
 row-at-requires-3 c κs = search needs
 
+are-units-requires : tie.Need-are-units-requires
+are-units-requires c κs = search needs
+
+slope-seen-requires : tie.Need-slope-seen-requires
+slope-seen-requires c κs =
+    let e = c .before in
+    let r3 = e .before in
+    let r2 = r3 .before in
+    let r1 = r2 .before in
+    let s = r1 .before in (
+      s .pre .0,
+      s .pre .1,
+      rw (sym (r2 .row-at2 .ensures), sym (r1 .row-at .ensures), sym (r3 .row-at3 .ensures))
+          (units-are _ _ _ (sym (e .are-units .ensures) ∙ c .if1 .taken)),
+    )
+
+returns : tie.Need-returns
+returns c = search needs
+
 shift-at-requires : tie.Need-shift-at-requires
 shift-at-requires c κs = search needs
 
 through-requires : tie.Need-through-requires
 through-requires c κs =
-    let r3 = c .before in
+    let r3 = c .before .before .before in
     let r1 = r3 .before .before in
     let s = r1 .before in
     let f = s .args .f in
@@ -36,7 +56,7 @@ shift-at-requires-2 c κs = search needs
 
 through-requires-2 : tie.Need-through-requires-2
 through-requires-2 c κs =
-    let r3 = c .before .before .before in
+    let r3 = c .before .before .before .before .before in
     let r2 = r3 .before in
     let s = r2 .before .before in
     let f = s .args .f in
@@ -45,11 +65,13 @@ through-requires-2 c κs =
     (second-formed (rowIn (now (s .args .rows))) (f .q) (f .p) (f .r) (s .pre .0) (h .q) (h .p) (h .r))
 
 shift-at-requires-3 : tie.Need-shift-at-requires-3
-shift-at-requires-3 c κs = search needs
+shift-at-requires-3 c κs =
+    let s = c .before .before .before .before .before .before .before .before .before in
+    (s .pre .0, s .pre .1 .r)
 
 through-requires-3 : tie.Need-through-requires-3
 through-requires-3 c κs =
-    let r2 = c .before .before .before .before .before .before in
+    let r2 = c .before .before .before .before .before .before .before .before in
     let r1 = r2 .before in
     let s = r1 .before in
     let f = s .args .f in
@@ -64,7 +86,7 @@ added-requires c κs =
     let s2 = t2 .before in
     let t1 = s2 .before in
     let s1 = t1 .before in
-    let r3 = s1 .before in
+    let r3 = s1 .before .before .before in
     let r2 = r3 .before in
     let r1 = r2 .before in
     let s = r1 .before in
@@ -83,16 +105,16 @@ added-requires c κs =
     )
     (slope-formed (rowIn (now (s .args .rows))) (f .q) (f .p) (f .r) (s .pre .0) (h .q) (h .p) (h .r))
 
-returns : tie.Need-returns
+returns-2 : tie.Need-returns-2
 unfolding slopeOf slopeFor
-returns c =
+returns-2 c =
     let t3 = c .before in
     let s3 = t3 .before in
     let t2 = s3 .before in
     let s2 = t2 .before in
     let t1 = s2 .before in
     let s1 = t1 .before in
-    let r3 = s1 .before in
+    let r3 = s1 .before .before .before in
     let r2 = r3 .before in
     let r1 = r2 .before in
     let p = r1 .row-at .ensures in
@@ -111,6 +133,9 @@ slope-spec =
     row-at-requires
     row-at-requires-2
     row-at-requires-3
+    are-units-requires
+    slope-seen-requires
+    returns
     shift-at-requires
     through-requires
     shift-at-requires-2
@@ -118,4 +143,4 @@ slope-spec =
     shift-at-requires-3
     through-requires-3
     added-requires
-    returns)
+    returns-2)
