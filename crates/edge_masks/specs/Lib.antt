@@ -1,2 +1,1 @@
 pub mod Store
-pub mod Room

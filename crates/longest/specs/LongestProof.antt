@@ -1,15 +1,12 @@
 -- A face that an edge pierces parts its ends. It parts two sides of a triangle at most, and an edge lies in two faces of its solid at least:
 -- so no more edges of a solid pierce a face than the solid has faces. Assumes nothing.
-use mathlib.Core.Path.{_≡_, refl, sym, ap, _∙_}
+use mathlib.Core.Path.{_≡_, sym, ap, _∙_}
 use mathlib.Core.Bool.{Bool, true, false, _&&_}
-use mathlib.Core.List.{List, [], _∷_}
+use mathlib.Core.List.{List}
 use Prim.Native.Nat.{ℕ, _+_, _*_, _≤_}
 use native.Mathlib.Omega.{arith}
 use native.Mathlib.Nat.{mul-le-mul}
-use borrow.Author.Tests.{ltb-true}
-use lib.Dec.{ltb}
 use lib.ListN.{length, length-append}
-use Rattle.laws.specs.Bools.{_⊕_}
 use Rattle.laws.specs.Decides.{and-iff}
 use Rattle.laws.specs.Even.{count}
 use Rattle.laws.specs.Lists.{Each, run, length-run, each-map}
@@ -21,27 +18,23 @@ use Rattle.scene.specs.View.{viewOf, solid, solidA, solidB}
 use Rattle.scene.specs.declared.Face.{Face}
 use Rattle.scene.specs.declared.Solid.{Solid}
 use Rattle.rules.specs.Given.{counts, each-of-a, each-of-b, edges-of-a, edges-of-b}
-use Rattle.edges.specs.Edges.{joined}
-use Rattle.pierce.specs.Closed.{hasEdge, Closed, closed-by-edges}
+use Rattle.pierce.specs.Closed.{Closed, closed-by-edges}
 use Rattle.pierce.specs.Formula.{pierced}
 use Rattle.sides.specs.Sides.{above}
 use Rattle.sides.specs.Crossing.{pierced-differs}
 use Rattle.listing.specs.Hits.{Seen, Hit, only, faceHits, edgeHits, pairHits, pairsAt, vertexHits, solidHits}
-use Rattle.links.specs.Number.{sumOf, ones-sum}
-use Rattle.table.specs.Runs.{upTo-length}
+use Rattle.table.specs.Sums.{sumOf, ones-sum, digit-le}
+use Rattle.table.specs.Runs.{upTo-length, only-length}
+use Rattle.table.specs.Pairs.{pairSum, pairs-le, list-most}
+use Rattle.table.specs.Counted.{isEdge, edges-where}
 use Rattle.questions.specs.Answers.{listingIn, seen}
 use Rattle.longest.specs.Longest.{LongestListing}
-use Rattle.longest.specs.Pairs.{pairSum, pairs-add, pairs-le, list-most}
-use Rattle.longest.specs.TwoFaces.{edgeOf, two-faces}
-use Rattle.longest.specs.Parted.{parted, triangle-most}
+use Rattle.longest.specs.Parted.{parted, sides-parted}
 
 module _ (s : Seen) (k : Solid) (closed : Closed (run (s .face) (k .first + 1) (k .count))) where
-  -- the solid's vertices, from 0; its faces and the other's
+  -- the solid's vertices, from 0, and the other's faces
   abbrev at : ℕ → ℕ
   at i = k .low + 1 + i
-
-  abbrev own : List Face
-  own = run (s .face) (k .first + 1) (k .count)
 
   abbrev others : List Face
   others = run (s .face) (k .other + 1) (k .others)
@@ -49,45 +42,29 @@ module _ (s : Seen) (k : Solid) (closed : Closed (run (s .face) (k .first + 1) (
   abbrev hit : (u v : ℕ) → Face → Bool
   hit = pierced (s .points) (s .row)
 
-  -- an edge, lower point first, that pierces f
-  abbrev isEdge : (i j : ℕ) → Bool
-  isEdge i j = ltb (at i) (at j) && joined (s .face) k (at i) (at j)
-
+  -- an edge that pierces f
   abbrev passes : (i j : ℕ) → Face → Bool
-  passes i j f = isEdge i j && hit (at i) (at j) f
+  passes i j f = isEdge (s .face) k i j && hit (at i) (at j) f
 
   -- ---- no more edges of the solid pierce f than it has faces
 
-  module _ (f : Face) where
-    -- a side of the face g that f parts
-    abbrev parts : (i j : ℕ) → Face → Bool
-    parts i j g = parted (λ t. above (s .row) t f) (k .low + 1) (k .verts) i j && hasEdge (edgeOf (at i) (at j)) g
+  face-most : (f : Face) → pairSum (λ i j. digit (passes i j f)) (k .verts) ≤ k .count
+  face-most f =
+      omega (
+        arith,
+        pairs-le (λ i j. digit (passes i j f)) (λ i j. digit (apart (at i) (at j) && isEdge (s .face) k i j)) (k .verts)
+            (λ i j. digit-le _ _ (by i j)),
+        edges-where (s .face) k closed apart 2 (sides-parted (λ t. above (s .row) t f)),
+      )
+    where
+      apart : (u v : ℕ) → Bool
+      apart = parted (λ t. above (s .row) t f)
 
-    twice : (i j : ℕ) → digit (passes i j f) + digit (passes i j f) ≤ count (parts i j) own
-    twice i j = go (passes i j f) refl
-      where
-        go : (b : Bool) → passes i j f ≡ b → digit b + digit b ≤ count (parts i j) own
-        go false e = omega arith
-        go true e =
-            let c = and-iff (isEdge i j) (hit (at i) (at j) f) .0 e in
-            let d = and-iff (ltb (at i) (at j)) (joined (s .face) k (at i) (at j)) .0 (c .0) in
-            let p : above (s .row) (at i) f ⊕ above (s .row) (at j) f ≡ true =
-            and-iff _ (hit (at i) (at j) f) .0 (pierced-differs (s .points) (s .row) (at i) (at j) f ∙ c .1) .0 in
-            omega (
-              arith,
-              ap (λ (b : Bool). count (λ g. b && hasEdge (edgeOf (at i) (at j)) g) own) p,
-              two-faces (s .face) k closed (at i) (at j) (ltb-true (at i) (at j) (d .0)) (d .1),
-            )
-
-    face-most : pairSum (λ i j. digit (passes i j f)) (k .verts) ≤ k .count
-    face-most =
-        omega (
-          arith,
-          pairs-add (λ i j. digit (passes i j f)) (λ i j. digit (passes i j f)) (k .verts),
-          pairs-le (λ i j. digit (passes i j f) + digit (passes i j f)) (λ i j. count (parts i j) own) (k .verts) twice,
-          list-most parts (k .verts) 2 (triangle-most (λ t. above (s .row) t f) (k .low + 1) (k .verts)) own,
-          length-run (s .face) (k .first + 1) (k .count),
-        )
+      by : (i j : ℕ) → passes i j f ≡ true → (apart (at i) (at j) && isEdge (s .face) k i j) ≡ true
+      by i j e =
+          let c = and-iff (isEdge (s .face) k i j) (hit (at i) (at j) f) .0 e in
+          let d = and-iff _ (hit (at i) (at j) f) .0 (pierced-differs (s .points) (s .row) (at i) (at j) f ∙ c .1) in
+          and-iff (apart (at i) (at j)) _ .1 (d .0, c .0)
 
   -- ---- a pair of the listing for each face that an edge pierces
 
@@ -96,17 +73,13 @@ module _ (s : Seen) (k : Solid) (closed : Closed (run (s .face) (k .first + 1) (
   edge-length u v =
       upTo-length (faceHits s k u v) (k .others)
       ∙ ap (λ (g : ℕ → ℕ). sumOf g (k .others))
-      (λ t i. one (hit u v (s .face (k .other + 1 + i))) (record { low = u; high = v; face = k .other + 1 + i }) t)
+      (λ t i. only-length {A = Hit} (hit u v (s .face (k .other + 1 + i))) (record { low = u; high = v; face = k .other + 1 + i }) t)
       ∙ sym (ones-sum (λ i. hit u v (s .face (k .other + 1 + i))) (k .others))
       ∙ mask-ones (hit u v) (s .face) (k .other + 1) (k .others)
-    where
-      one : (b : Bool) (h : Hit) → length (only b (h ∷ [])) ≡ digit b
-      one true h = refl
-      one false h = refl
 
   pair-length : (i j : ℕ) → length (pairsAt s k (at i) j) ≤ count (passes i j) others
   unfolding pairHits
-  pair-length i j = go (isEdge i j)
+  pair-length i j = go (isEdge (s .face) k i j)
     where
       go : (b : Bool) → length (only b (edgeHits s k (at i) (at j))) ≤ count (λ f. b && hit (at i) (at j) f) others
       go true = omega (arith, edge-length (at i) (at j))

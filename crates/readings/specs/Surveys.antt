@@ -2,10 +2,11 @@
 -- scene's own. Assumes nothing.
 use mathlib.Core.Path.{_≡_, ap, _∙_}
 use mathlib.Core.List.{List}
-use Prim.Native.Nat.{ℕ}
+use Prim.Native.Nat.{ℕ, _+_}
 use native.Mathlib.Omega.{arith}
 use lib.Count.{ones}
 use lib.IntN.{ℤ}
+use Rattle.laws.specs.Lists.{run}
 use Rattle.scene.specs.Limits.{limits}
 use Rattle.scene.specs.Records.{vertsA, verts}
 use Rattle.scene.specs.View.{View, viewOf, solid, solidA, solidB, either-solid}
@@ -13,6 +14,7 @@ use Rattle.scene.specs.declared.Solid.{Solid}
 use Rattle.judge.specs.Judge.{judged}
 use Rattle.judge.specs.declared.Judged.the-variants.{Accepted}
 use Rattle.rules.specs.Given.{counts, each-of-a, each-of-b, edges-of-a, edges-of-b}
+use Rattle.pierce.specs.Parity as parity
 use Rattle.pierce.specs.Parity.{solid-by-edges}
 use Rattle.listing.specs.Hits.{seenIn, insideCount}
 use Rattle.listing.specs.First.{firstOf}
@@ -33,14 +35,20 @@ module _ (s : List ℕ) (ok : judged s ≡ Accepted) where
   abbrev v : View
   v = viewOf s
 
+  closed-a : parity.Solid (seen v .points) 0 (vertsA s) (run (v .face) 1 (v .facesA))
+  closed-a = solid-by-edges _ (omega arith) (each-of-a limits s ok) (edges-of-a limits s ok)
+
+  closed-b : parity.Solid (seen v .points) (vertsA s) (verts s) (run (v .face) (v .facesA + 1) (v .facesB))
+  closed-b = solid-by-edges _ (omega arith) (each-of-b limits s ok) (edges-of-b limits s ok)
+
   of-a : Ready (seen v) (solidA v)
   of-a =
       let c = counts limits s ok in
       record {
-        within = record { sound = sound-a s ok; few = omega (arith, c .faces-a) };
+        within = record { sound = sound-a s ok; few = omega (arith, c .faces-a); closed = closed-a .closed };
         low = vertsA s;
         high = verts s;
-        closed = solid-by-edges _ (omega arith) (each-of-b limits s ok) (edges-of-b limits s ok);
+        closed = closed-b;
         apart = λ u h w. omega arith;
         far = λ w. omega arith;
         before = omega arith;
@@ -50,10 +58,10 @@ module _ (s : List ℕ) (ok : judged s ≡ Accepted) where
   of-b =
       let c = counts limits s ok in
       record {
-        within = record { sound = sound-b s ok; few = omega (arith, c .faces-b) };
+        within = record { sound = sound-b s ok; few = omega (arith, c .faces-b); closed = closed-b .closed };
         low = 0;
         high = vertsA s;
-        closed = solid-by-edges _ (omega arith) (each-of-a limits s ok) (edges-of-a limits s ok);
+        closed = closed-a;
         apart = λ u h w. omega arith;
         far = λ w. omega arith;
         before = omega arith;

@@ -5,10 +5,12 @@ use mathlib.Core.Path.{_≡_}
 use Prim.Native.Nat.{ℕ, _+_, _-_, _^_, _≤_, _<_}
 use lib.Dec.{ltb}
 use lib.ListN.{length, getD}
+use Rattle.laws.specs.Lists.{run}
 use Rattle.laws.specs.Walk.{places}
 use Rattle.scene.specs.Limits.{limits}
 use Rattle.edges.specs.Edges.{joined, neighbours}
 use Rattle.scene.specs.declared.Solid.{Solid}
+use Rattle.pierce.specs.Closed.{Closed}
 use Rattle.listing.specs.Hits.{Seen, Sound, Own, upTo, only, edgeMask}
 use Rattle.table.specs.Table.{Entry, entriesIn, each}
 
@@ -34,10 +36,11 @@ module _ (s : Seen) (k : Solid) where
     pub small : w < 2 ^ (k .low + k .verts - u)
     pub edges : bitEdges u w ≡ vertexEdges u
 
-  -- what the limits and the rules give
+  -- what the limits and the rules give: the solid is closed, so that its edges have room in a table
   pub record Within : Type 0 where
     pub sound : Sound s k
     pub few : k .count ≤ limits .mostFaces
+    pub closed : Closed (run (s .face) (k .first + 1) (k .count))
 
   -- the word of each vertex of the solid has its neighbours
   abbrev pub AreLinks : List ℕ → Type 0

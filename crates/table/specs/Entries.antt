@@ -10,15 +10,16 @@ use lib.ListN.{length}
 use lib.Pow.{pow-add}
 use Rattle.laws.specs.Mask.{digit, testBit, test-low, test-high}
 use Rattle.links.specs.Bits.{word-bits, word-first, test-zero}
-use Rattle.links.specs.Number.{sumOf, ones-sum}
 use Rattle.face_masks.specs.Faces.{width, valueOf}
 use Rattle.face_masks.specs.declared.Mask.{Mask}
+use Rattle.listing.specs.Hits.{Hit}
 use Rattle.listing.specs.Laws.{upTo-same, bounded, only-most}
 use Rattle.listing.specs.Pour.{maskHit, maskHits}
 use Rattle.listing.specs.First.{firstOf, first-none, first-found}
 use Rattle.listing.specs.declared.find.Found.the-variants.{Nothing, Pair}
 use Rattle.table.specs.Table.{Entry, entryHits}
-use Rattle.table.specs.Runs.{upTo-join, upTo-none, upTo-length}
+use Rattle.table.specs.Sums.{sumOf, ones-sum}
+use Rattle.table.specs.Runs.{upTo-join, upTo-none, upTo-length, only-length}
 
 -- two words have room for twice as many digits
 pub words-fit : (n a b : ℕ) → a < 2 ^ n → b < 2 ^ n → a + 2 ^ n * b < 2 ^ (n + n)
@@ -40,10 +41,6 @@ module _ (u v first : ℕ) where
       next : (i : ℕ) → first + 1 + (64 + i) ≡ first + 64 + 1 + i
       next i = omega arith
 
-  hit-length : (b : Bool) (f : ℕ) → length (maskHit b u v f) ≡ digit b
-  hit-length true f = refl
-  hit-length false f = refl
-
   pub hits-most : (w n : ℕ) → length (maskHits w u v first n) ≤ n
   hits-most w n = omega (arith, bounded (λ j. maskHit (testBit w j) u v (first + 1 + j)) 1 n (λ j. only-most (testBit w j) _ 1 (omega arith)))
 
@@ -54,7 +51,7 @@ module _ (u v first : ℕ) where
       ∙ same n ∙ sym (ones-sum (testBit w) n) ∙ ap ones (word-bits n h)
     where
       same : (n : ℕ) → sumOf (λ j. length (maskHit (testBit w j) u v (first + 1 + j))) n ≡ sumOf (λ j. digit (testBit w j)) n
-      same n = ap (λ (g : ℕ → ℕ). sumOf g n) (λ i j. hit-length (testBit w j) (first + 1 + j) i)
+      same n = ap (λ (g : ℕ → ℕ). sumOf g n) (λ i j. only-length {A = Hit} (testBit w j) (record { low = u; high = v; face = first + 1 + j }) i)
 
   none-before : (w n : ℕ) → ((i : ℕ) → i < n → testBit w i ≡ false) → [] ≡ maskHits w u v first n
   none-before w n h = sym (upTo-none _ n (λ i b. ap (λ (t : Bool). maskHit t u v (first + 1 + i)) (h i b)))

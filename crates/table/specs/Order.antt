@@ -13,7 +13,6 @@ use Rattle.laws.specs.Range.{fold, over, anyOf}
 use Rattle.laws.specs.Walk.{mask-places}
 use Rattle.links.specs.Bits.{test-beyond}
 use Rattle.links.specs.Links.{outside}
-use Rattle.links.specs.Number.{upWord}
 use Rattle.scene.specs.Faces.{Vertex, isCorner, hasBoth}
 use Rattle.scene.specs.declared.Face.{Face}
 use Rattle.edges.specs.Edges as words
@@ -43,6 +42,10 @@ unfolding joined anyOf over hasBoth
 not-joined face k u v corners out =
     any-none (λ f. hasBoth u v (face f)) (k .first + 1) (k .first + 1 + k .count - (k .first + 1))
     (λ f a b. both-false (isCorner u (face f)) (isCorner v (face f)) (outside (k .low) (k .verts) v (face f) (corners f (omega arith) (omega arith)) out))
+
+-- the vertices above the i-th (from 0) that an edge joins it to: bit j stands for the j-th of those above
+unfoldable upWord : (ℕ → Face) → Solid → ℕ → ℕ
+upWord face k i = maskOf (λ j. joined face k (k .low + 1 + i) (k .low + 1 + i + 1 + j)) (words.width - (i + 1))
 
 -- what passes nowhere from n on
 mask-cut : (g : ℕ → Bool) (n d : ℕ) → n ≤ d → ((m : ℕ) → n ≤ m → g m ≡ false) → maskOf g d ≡ maskOf g n
@@ -75,7 +78,7 @@ module _ (s : Seen) (k : Solid) (sound : Sound s k) where
     place j = omega arith
 
     -- those above i of the neighbours' word
-    pub shifted : {w : ℕ} → w ≡ neighbours (s .face) k u → w / 2 ^ (i + 1) ≡ upWord (s .face) k i
+    shifted : {w : ℕ} → w ≡ neighbours (s .face) k u → w / 2 ^ (i + 1) ≡ upWord (s .face) k i
     unfolding neighbours upWord
     shifted e =
         let g : ℕ → Bool = λ m. joined (s .face) k u (k .low + 1 + m) in

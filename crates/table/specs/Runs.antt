@@ -9,10 +9,10 @@ use lib.ListN.{length, length-append}
 use Rattle.laws.specs.Mask.{digit, testBit}
 use Rattle.laws.specs.Walk.{places, passing, placed, mask-places}
 use Rattle.links.specs.Bits.{word-bits}
-use Rattle.links.specs.Number.{sumOf}
 use Rattle.listing.specs.Hits.{upTo, only}
 use Rattle.listing.specs.Laws.{upTo-first, upTo-same}
 use Rattle.table.specs.Table.{each}
+use Rattle.table.specs.Sums.{sumOf}
 
 module _ {A : Type 0} where
   pub upTo-join : (g : ℕ → List A) (m n : ℕ) → upTo g (m + n) ≡ upTo g m ++ upTo (λ j. g (m + j)) n
@@ -31,6 +31,10 @@ module _ {A : Type 0} where
   unfolding upTo sumOf
   upTo-length g zero = refl
   upTo-length g (suc n) = length-append (upTo g n) (g n) ∙ ap (λ (x : ℕ). x + length (g n)) (upTo-length g n)
+
+  pub only-length : (b : Bool) (x : A) → length (only b (x ∷ [])) ≡ digit b
+  only-length true x = refl
+  only-length false x = refl
 
 module _ {A B : Type 0} (g : A → List B) where
   pub each-append : (l m : List A) → each g (l ++ m) ≡ each g l ++ each g m

@@ -1,6 +1,6 @@
 -- A table of edges: two ends and the mask of each, two words to a mask, and the pairs that they stand for. Assumes nothing.
 use mathlib.Core.List.{List, [], _∷_, _++_}
-use Prim.Native.Nat.{ℕ, _+_, _*_, _^_}
+use Prim.Native.Nat.{ℕ, _+_, _*_, _/_, _^_}
 use lib.ListN.{getD}
 use Rattle.scene.specs.Limits.{limits}
 use Rattle.face_masks.specs.Faces.{width, valueOf}
@@ -8,9 +8,9 @@ use Rattle.face_masks.specs.declared.Mask.{Mask}
 use Rattle.listing.specs.Hits.{Hit, upTo}
 use Rattle.listing.specs.Pour.{maskHits}
 
--- the edges of a solid that a table has room for
+-- the edges of a solid that a table has room for: each lies in two faces at least
 abbrev pub mostEdges : ℕ
-mostEdges = 3 * limits .mostFaces
+mostEdges = 3 * limits .mostFaces / 2
 
 -- an edge, lower point first, and the number of its mask
 pub record Entry : Type 0 where

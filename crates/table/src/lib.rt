@@ -11,8 +11,8 @@ use scene::Scene;
 pub mod first;
 pub mod pour;
 
-// The edges of a solid that a table has room for: no face adds more than three.
-pub const MOST_EDGES: usize = 3 * Scene::MOST_FACES;
+// The edges of a solid that a table has room for: a face has three, and each lies in two faces at least.
+pub const MOST_EDGES: usize = 3 * Scene::MOST_FACES / 2;
 
 pub const ENDS: usize = 2 * MOST_EDGES;
 

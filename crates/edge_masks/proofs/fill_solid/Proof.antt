@@ -5,8 +5,8 @@ use native.Mathlib.Omega.{arith}
 use denote.Ref.{now}
 use Rattle.listing.specs.Hits.{seenIn, upTo}
 use Rattle.table.specs.Edges.{vertexEdges, solidEdges, Filled}
+use Rattle.table.specs.Room.{room}
 use Rattle.edge_masks.specs.Store.{filled-none, filled-more}
-use Rattle.edge_masks.specs.Room.{room}
 use borrow.Author.Needs.{needs}
 use Rattle.edge_masks.proofs.fill_solid.Statement.{statement}
 use Rattle.edge_masks.proofs.fill_solid.Tie as tie

@@ -2,7 +2,7 @@
 use native.Mathlib.Omega.{arith}
 use denote.Ref.{now}
 use Rattle.listing.specs.Hits.{seenIn}
-use Rattle.edge_masks.specs.Room.{solid-room}
+use Rattle.table.specs.Room.{solid-room}
 use Rattle.spread.specs.OddsProof.{odds-are}
 use Rattle.survey.specs.Laws.{filled-edges, marked-edges, ends-in}
 use borrow.Author.Needs.{needs}

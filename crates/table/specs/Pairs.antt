@@ -12,7 +12,7 @@ use lib.ListN.{length}
 use Rattle.laws.specs.Even.{count}
 use Rattle.laws.specs.Mask.{digit}
 use Rattle.laws.specs.Range.{more}
-use Rattle.links.specs.Number.{sumOf, sum-le, sum-add}
+use Rattle.table.specs.Sums.{sumOf, sum-le, sum-add}
 
 -- w i j, of all i and j below n
 abbrev pub pairSum : (ℕ → ℕ → ℕ) → ℕ → ℕ
