@@ -22,7 +22,7 @@ use table::Ends;
 use table::Masks;
 
 // What is held at once, 64 KiB: the 4,096 bytes that `io` takes; the scene, where one byte more than the longest tells that the input is too long; the
-// survey's tables, two bytes for an end and eight for a word, of both solids; a seventh of the longest listing, two bytes for each number; and the text.
+// survey's tables, two bytes for an end and eight for a word, of both solids; a sixth of the longest listing, two bytes for each number; and the text.
 const HELD: usize = 65536;
 
 const IO: usize = 4096;
@@ -31,7 +31,7 @@ const SCENE: usize = Scene::LONGEST + 1;
 
 const TABLES: usize = 2 * (2 + 8) * ENDS;
 
-const NUMBERS: usize = 3 * (MOST_PAIRS / 7 + 1);
+const NUMBERS: usize = 3 * (MOST_PAIRS / 6 + 1);
 
 const TEXT: usize = HELD - IO - SCENE - TABLES - 2 * NUMBERS;
 

@@ -10,7 +10,7 @@ use Rattle.report.proofs.write_rows.Tie as tie
 
 abbrev Inv-loop : tie.InvT-loop
 Inv-loop t s aends amasks bends bmasks n out₀ list₀ from₀ out list from =
-    (from ≤ n) × (length list ≡ 3 * (2 * limits .mostFaces * limits .mostFaces / 7 + 1)) × (length out ≡ length out₀)
+    (from ≤ n) × (length list ≡ 3 * (2 * limits .mostFaces * limits .mostFaces / 6 + 1)) × (length out ≡ length out₀)
 
 abbrev μ-loop : tie.MeasureT-loop
 μ-loop t s aends amasks bends bmasks n out₀ list₀ from₀ out list from = n - from
