@@ -20,6 +20,7 @@ use judge::Judged;
 use scene::Refusal;
 use scene::Row;
 use scene::Rows;
+use scene::Scene;
 use scene::decode;
 use scene::read::byte;
 
@@ -46,7 +47,8 @@ fn flat_scene(s: &[u8]) -> bool
     requires { ⌜ judged (now s) ≡ Accepted ⌝ }
     ensures { λ r. ⌜ r ≡ hasFlat (verts (now (s .entry)) + 1) (row (tablesOf (now (s .entry)))) ⌝ }
 {
-    let rows = decode::rows(s);
+    let mut rows: Rows = [0; Scene::ROWS];
+    decode::rows(s, &mut rows);
     has_flat(&rows, byte(s, 2) + byte(s, 4) + 1)
 }
 

@@ -7,7 +7,10 @@ ghost use Rattle.questions.specs.Answers.{insideFault, insideIn, insideOf};
 use engine::Engine;
 use judge::Judged;
 use questions::Enclosing;
+use scene::Corners;
 use scene::Refusal;
+use scene::Rows;
+use scene::Scene;
 use scene::decode;
 use scene::is_within;
 use scene::offsets::points;
@@ -32,8 +35,10 @@ fn inside_of(engine: Engine, s: &[u8], k: usize) -> usize
     requires { ⌜ judged (now s) ≡ Accepted ⌝ }
     ensures { λ r. ⌜ r ≡ insideIn (viewOf (now (s .entry))) k ⌝ }
 {
-    let rows = decode::rows(s);
-    let corners = decode::faces(s);
+    let mut rows: Rows = [0; Scene::ROWS];
+    let mut corners: Corners = [0; Scene::CORNERS];
+    decode::rows(s, &mut rows);
+    decode::faces(s, &mut corners);
     let n = points(s);
     let o = solid(s, k);
     let mut ends: Ends = [0; ENDS];

@@ -12,7 +12,10 @@ use face_masks::Mask;
 use judge::Judged;
 use questions::Answer;
 use questions::Masked;
+use scene::Corners;
 use scene::Refusal;
+use scene::Rows;
+use scene::Scene;
 use scene::decode;
 use scene::is_within;
 use scene::offsets::points;
@@ -69,8 +72,10 @@ fn mask_of(engine: Engine, s: &[u8], u: usize, v: usize, k: usize) -> Mask
     requires { ⌜ (judged (now s) ≡ Accepted) × Outside (viewOf (now s)) u v k ⌝ }
     ensures { λ r. ⌜ valueOf r ≡ maskIn (viewOf (now (s .entry))) u v k ⌝ }
 {
-    let rows = decode::rows(s);
-    let corners = decode::faces(s);
+    let mut rows: Rows = [0; Scene::ROWS];
+    let mut corners: Corners = [0; Scene::CORNERS];
+    decode::rows(s, &mut rows);
+    decode::faces(s, &mut corners);
     let o = solid(s, k);
     engine::mask(engine, &rows, &corners, points(s), u, v, o.first, o.count)
 }

@@ -8,6 +8,8 @@ use questions::Answer;
 use questions::Signed;
 use scene::Face;
 use scene::Refusal;
+use scene::Rows;
+use scene::Scene;
 use scene::decode;
 use scene::is_within;
 use scene::offsets;
@@ -79,7 +81,8 @@ pub fn sign(s: &[u8], a: usize, b: usize, c: usize, d: usize) -> Signed
     if let Judged::Refused(r) = sign_fault(s, a, b, c, d) {
         return Signed::Refused(r);
     }
-    let rows = decode::rows(s);
+    let mut rows: Rows = [0; Scene::ROWS];
+    decode::rows(s, &mut rows);
     let terms = orient::terms_at(&rows, a, b, c, d);
     Signed::Sign(terms, orient::positive_at(&rows, a, b, c, d))
 }
@@ -137,7 +140,8 @@ pub fn pierces(engine: Engine, s: &[u8], u: usize, v: usize, f: usize) -> Answer
     if let Judged::Refused(r) = pierces_fault(s, u, v, f) {
         return Answer::Refused(r);
     }
-    let rows = decode::rows(s);
+    let mut rows: Rows = [0; Scene::ROWS];
+    decode::rows(s, &mut rows);
     if engine::pierces(engine, &rows, points(s), u, v, corners(s, f)) {
         return Answer::Yes;
     }

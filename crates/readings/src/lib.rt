@@ -10,6 +10,9 @@ ghost use Rattle.readings.specs.Surveys.{SurveyIs, SoughtIs, Settles};
 use engine::Engine;
 use listing::find::Found;
 use questions::Verdict;
+use scene::Corners;
+use scene::Rows;
+use scene::Scene;
 use scene::decode;
 use scene::offsets::points;
 use scene::read::solid;
@@ -37,8 +40,10 @@ pub fn survey_of(
     requires { ⌜ Sized (now aends) (now amasks) × Sized (now bends) (now bmasks) ⌝ }
     ensures { λ r. ⌜ SurveyIs (viewOf (now (s .entry))) (now (aends .exit)) (now (amasks .exit)) (now (bends .exit)) (now (bmasks .exit)) r ⌝ }
 {
-    let rows = decode::rows(s);
-    let corners = decode::faces(s);
+    let mut rows: Rows = [0; Scene::ROWS];
+    let mut corners: Corners = [0; Scene::CORNERS];
+    decode::rows(s, &mut rows);
+    decode::faces(s, &mut corners);
     let n = points(s);
     let a = solid(s, 1);
     let b = solid(s, 2);
@@ -61,8 +66,10 @@ pub fn sought_of(engine: Engine, s: &[u8]) -> Sought
     requires { ⌜ judged (now s) ≡ Accepted ⌝ }
     ensures { λ r. ⌜ SoughtIs (viewOf (now (s .entry))) r ⌝ }
 {
-    let rows = decode::rows(s);
-    let corners = decode::faces(s);
+    let mut rows: Rows = [0; Scene::ROWS];
+    let mut corners: Corners = [0; Scene::CORNERS];
+    decode::rows(s, &mut rows);
+    decode::faces(s, &mut corners);
     let n = points(s);
     let a = solid(s, 1);
     let b = solid(s, 2);

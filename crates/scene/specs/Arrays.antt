@@ -4,8 +4,8 @@
 use mathlib.Core.List.{List}
 use Prim.Native.Nat.{ℕ, _+_, _*_, _≤_}
 use lib.IntN.{ℤ, pos, natAbs}
-use lib.ListN.{getD}
-use Rattle.scene.specs.Limits.{Limits, mostPoints}
+use lib.ListN.{getD, replicate}
+use Rattle.scene.specs.Limits.{Limits, limits, mostPoints}
 use Rattle.scene.specs.declared.Row.{Row}
 use Rattle.scene.specs.declared.Face.{Face}
 
@@ -14,6 +14,13 @@ rowIn l i = record { x = getD l (4 * i) (pos 0); y = getD l (4 * i + 1) (pos 0);
 
 abbrev pub faceIn : List ℕ → ℕ → Face
 faceIn l k = record { p = getD l (3 * k) 0; q = getD l (3 * k + 1) 0; r = getD l (3 * k + 2) 0 }
+
+-- the empty arrays
+abbrev pub noRows : List ℤ
+noRows = replicate (4 * (mostPoints limits + 1)) (pos 0)
+
+abbrev pub noCorners : List ℕ
+noCorners = replicate (3 * (2 * limits .mostFaces + 1)) 0
 
 -- the four numbers of a row are within the limits; so are those of each row
 pub record RowWithin (l : Limits) (r : Row) : Type 0 where

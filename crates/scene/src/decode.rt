@@ -4,13 +4,12 @@ ghost use Prim.Native.Nat.{_+_, _*_, _≤_};
 ghost use Rattle.scene.specs.Limits.{limits, mostPoints};
 ghost use Rattle.scene.specs.Records.{verts, faces};
 ghost use Rattle.scene.specs.Tables.{tablesOf, row, face};
-ghost use Rattle.scene.specs.Arrays.{rowIn, faceIn};
+ghost use Rattle.scene.specs.Arrays.{rowIn, faceIn, noRows, noCorners};
 ghost use Rattle.scene.specs.Decode.{rowSet, faceSet};
 use crate::Corners;
 use crate::Face;
 use crate::Row;
 use crate::Rows;
-use crate::Scene;
 use crate::read::byte;
 use crate::read::corners;
 use crate::read::row;
@@ -30,19 +29,18 @@ fn put_row(a: &mut Rows, i: usize, p: Row)
     a[k + 3] = w;
 }
 
-// The rows of a scene with no more points than there may be.
-pub fn rows(s: &[u8]) -> Rows
-    requires { ⌜ verts (now s) + 1 ≤ mostPoints limits ⌝ }
-    ensures { λ r. ⌜ rowIn r ≡ row (tablesOf (now (s .entry))) ⌝ }
+// The rows of a scene with no more points than there may be, into an array of zeros.
+pub fn rows(s: &[u8], a: &mut Rows)
+    requires points { ⌜ verts (now s) + 1 ≤ mostPoints limits ⌝ }
+    requires empty { ⌜ now a ≡ noRows ⌝ }
+    ensures { λ _. ⌜ rowIn (now (a .exit)) ≡ row (tablesOf (now (s .entry))) ⌝ }
 {
     let n = byte(s, 2) + byte(s, 4) + 2;
-    let mut a: Rows = [0; Scene::ROWS];
     let mut i = 0;
     while i < n {
-        put_row(&mut a, i, row(s, i));
+        put_row(a, i, row(s, i));
         i += 1;
     }
-    a
 }
 
 fn put_face(a: &mut Corners, k: usize, f: Face)
@@ -58,19 +56,18 @@ fn put_face(a: &mut Corners, k: usize, f: Face)
     a[i + 2] = r;
 }
 
-// The corners of a scene with no more faces than there may be.
-pub fn faces(s: &[u8]) -> Corners
-    requires { ⌜ faces (now s) ≤ 2 * limits .mostFaces ⌝ }
-    ensures { λ r. ⌜ faceIn r ≡ face (tablesOf (now (s .entry))) ⌝ }
+// The corners of a scene with no more faces than there may be, into an array of zeros.
+pub fn faces(s: &[u8], a: &mut Corners)
+    requires faces { ⌜ faces (now s) ≤ 2 * limits .mostFaces ⌝ }
+    requires empty { ⌜ now a ≡ noCorners ⌝ }
+    ensures { λ _. ⌜ faceIn (now (a .exit)) ≡ face (tablesOf (now (s .entry))) ⌝ }
 {
     let n = byte(s, 3) + byte(s, 5) + 1;
-    let mut a: Corners = [0; Scene::CORNERS];
     let mut k = 0;
     while k < n {
-        put_face(&mut a, k, corners(s, k));
+        put_face(a, k, corners(s, k));
         k += 1;
     }
-    a
 }
 
 // The face numbered k, of corners that were decoded.

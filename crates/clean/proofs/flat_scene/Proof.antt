@@ -9,7 +9,7 @@ use Rattle.clean.proofs.flat_scene.Statement.{statement}
 use Rattle.clean.proofs.flat_scene.Tie as tie
 
 rows-requires : tie.Need-rows-requires
-rows-requires c κs = rows-fit (now (c .before .args .s)) (c .before .pre)
+rows-requires c κs = search rows-fit
 
 byte-requires : tie.Need-byte-requires
 byte-requires c κs = search needs
@@ -26,14 +26,13 @@ add-has-flat-2 c = search needs
 has-flat-requires : tie.Need-has-flat-requires
 has-flat-requires c κs =
     let d = c .before .before .before in
-    let s = d .before .before in
-    ready (now (s .args .s)) (s .pre) (d .rows .ensures) (omega arith)
+    let s = d .before .before .before in
+    ready (now (s .args .s)) (s .pre) (d .rows2 .ensures) (omega arith)
 
 returns : tie.Need-returns
 returns c =
     let d = c .before .before .before .before in
-    let s = d .before .before in
-    c .has-flat .ensures ∙ ap₂ hasFlat (omega arith) (d .rows .ensures)
+    c .has-flat .ensures ∙ ap₂ hasFlat (omega arith) (d .rows2 .ensures)
 
 pub flat-scene-spec : {M : Type 1} → statement M
 flat-scene-spec =

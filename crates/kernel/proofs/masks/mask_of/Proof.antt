@@ -7,9 +7,10 @@ use Rattle.kernel.proofs.masks.mask_of.Tie as tie
 
 mask-requires : tie.Need-mask-requires
 mask-requires c κs =
-    let c4 = c .before .before .before .before in
-    let s = c4 .before .before .before in
-    mask-fits (now (s .args .s)) (s .pre .0) (s .pre .1) (c .points .ensures .0) (c4 .before .rows .ensures) (c4 .faces .ensures)
+    let d = c .before .before .before .before in
+    let r = d .before .before in
+    let s = r .before .before .before in
+    mask-fits (now (s .args .s)) (s .pre .0) (s .pre .1) (c .points .ensures .0) (r .rows2 .ensures) (d .faces .ensures)
     (c .before .before .before .solid .ensures .0)
 
 pub mask-of-spec : {M : Type 1} → statement M

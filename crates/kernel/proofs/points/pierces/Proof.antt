@@ -14,10 +14,11 @@ use Rattle.kernel.proofs.points.pierces.Tie as tie
 
 pierces-requires : tie.Need-pierces-requires
 pierces-requires c κs =
-    let s = c .before .before .before .before .before .before .before .before .before .before .before in
+    let r = c .before .before .before in
+    let s = r .before .before .before .before .before .before .before .before .before in
     let ok : judged (now (s .args .s)) ≡ Accepted = search accepted-so in
     let h : piercesFault (viewOf (now (s .args .s))) (s .args .u) (s .args .v) (s .args .f) ≡ Accepted = search accepted-so in
-    pierces-fit (now (s .args .s)) ok (s .args .f) h (c .before .before .before .rows .ensures) (c .before .points .ensures .0) (c .corners .ensures)
+    pierces-fit (now (s .args .s)) ok (s .args .f) h (r .rows2 .ensures) (c .before .points .ensures .0) (c .corners .ensures)
 
 pub pierces-spec : {M : Type 1} → statement M
 unfolding piercesOf piercesIn

@@ -5,19 +5,19 @@ use Rattle.scene.specs.Read.{face-none}
 use Prim.Native.Nat.{_+_, _*_, _-_, _≤_}
 use Rattle.laws.specs.Filled.{filled, filled-more}
 use Rattle.scene.specs.Limits.{limits}
+use Rattle.scene.specs.Arrays.{noCorners}
 use Rattle.scene.specs.Tables.{tablesOf, face}
 use Rattle.scene.specs.Decode.{faceSet, faces-decoded}
 use denote.Ref.{now}
-use lib.ListN.{replicate}
 use borrow.Author.Needs.{needs}
 use Rattle.scene.proofs.decode.faces.Statement.{statement}
 use Rattle.scene.proofs.decode.faces.Tie as tie
 
 abbrev Inv-loop : tie.InvT-loop
-Inv-loop s n a₀ k₀ a k = (k ≤ n) × (a ≡ filled faceSet (face (tablesOf s)) k (replicate (3 * (2 * limits .mostFaces + 1)) (0)))
+Inv-loop s a₀ n k₀ a k = (k ≤ n) × (a ≡ filled faceSet (face (tablesOf s)) k noCorners)
 
 abbrev μ-loop : tie.MeasureT-loop
-μ-loop s n a₀ k₀ a k = n - k
+μ-loop s a₀ n k₀ a k = n - k
 
 byte-requires : tie.Need-byte-requires Inv-loop μ-loop
 byte-requires c κs = search needs

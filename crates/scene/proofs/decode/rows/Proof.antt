@@ -5,20 +5,19 @@ use Rattle.scene.specs.Read.{row-none}
 use Prim.Native.Nat.{_+_, _*_, _-_, _≤_}
 use Rattle.laws.specs.Filled.{filled, filled-more}
 use Rattle.scene.specs.Limits.{limits, mostPoints}
+use Rattle.scene.specs.Arrays.{noRows}
 use Rattle.scene.specs.Tables.{tablesOf, row}
 use Rattle.scene.specs.Decode.{rowSet, rows-decoded}
 use denote.Ref.{now}
-use lib.ListN.{replicate}
 use borrow.Author.Needs.{needs}
-use lib.IntN.{pos}
 use Rattle.scene.proofs.decode.rows.Statement.{statement}
 use Rattle.scene.proofs.decode.rows.Tie as tie
 
 abbrev Inv-loop : tie.InvT-loop
-Inv-loop s n a₀ i₀ a i = (i ≤ n) × (a ≡ filled rowSet (row (tablesOf s)) i (replicate (4 * (mostPoints limits + 1)) (pos 0)))
+Inv-loop s a₀ n i₀ a i = (i ≤ n) × (a ≡ filled rowSet (row (tablesOf s)) i noRows)
 
 abbrev μ-loop : tie.MeasureT-loop
-μ-loop s n a₀ i₀ a i = n - i
+μ-loop s a₀ n i₀ a i = n - i
 
 byte-requires : tie.Need-byte-requires Inv-loop μ-loop
 byte-requires c κs = search needs
