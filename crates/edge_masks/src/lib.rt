@@ -62,23 +62,18 @@ fn narrow(x: usize) -> u16
     x as u16
 }
 
-fn put_ends(ends: &mut Ends, j: usize, u: u16, v: u16)
+// Edge j of the table. The second word is read last: a processor waits where both are read at once that were just written one by one.
+fn put_edge(ends: &mut Ends, masks: &mut Masks, j: usize, u: u16, v: u16, m: Mask)
     requires { ⌜ j < mostEdges ⌝ }
     ensures { λ _. ⌜ now (ends .exit) ≡ pairSet (now (ends .entry)) j u v ⌝ }
-{
-    let at = 2 * j;
-    ends[at] = u;
-    ends[at + 1] = v;
-}
-
-fn put_mask(masks: &mut Masks, j: usize, m: Mask)
-    requires { ⌜ j < mostEdges ⌝ }
     ensures { λ _. ⌜ now (masks .exit) ≡ pairSet (now (masks .entry)) j (m .low) (m .high) ⌝ }
 {
     let at = 2 * j;
     let low = m.low;
-    let high = m.high;
     masks[at] = low;
+    ends[at] = u;
+    ends[at + 1] = v;
+    let high = m.high;
     masks[at + 1] = high;
 }
 
@@ -113,8 +108,7 @@ fn fill_vertex(
     while left != 0 {
         let v = u + 1 + u64::trailing_zeros(left) as usize;
         let m = edge_mask(engine, rows, corners, n, k, words, own, cuts, u, v);
-        put_ends(ends, c, narrow(u), narrow(v));
-        put_mask(masks, c, m);
+        put_edge(ends, masks, c, narrow(u), narrow(v), m);
         c += 1;
         left = left & (left - 1);
     }

@@ -73,38 +73,32 @@ edge-mask-requires c κs =
     ((o, (omega arith, omega arith), (omega arith, omega (arith, t)), omega arith), s .pre .1 .1)
 
 narrow-requires : tie.Need-narrow-requires Inv-loop μ-loop
-narrow-requires c κs = omega (arith, c .before .before .before .before .before .before .pre .0 .0 .vertices .1)
+narrow-requires c κs = omega (arith, c .before .before .before .before .before .before .before .pre .0 .0 .vertices .1)
 
 narrow-requires-2 : tie.Need-narrow-requires-2 Inv-loop μ-loop
 narrow-requires-2 c κs =
-    let l = c .before .before .before .before in
+    let l = c .before .before .before .before .before in
     omega (arith, trailing-le 64 (l .loop .left), l .before .before .before .pre .0 .0 .vertices .1)
 
-put-ends-requires : tie.Need-put-ends-requires Inv-loop μ-loop
-put-ends-requires c κs =
-    let l = c .before .before .before .before .before in
-    omega (arith, filling-room _ _ _ (l .loop .left) (omega arith) (l .loop .inv .0) (l .loop .inv .2))
-
-put-mask-requires : tie.Need-put-mask-requires Inv-loop μ-loop
-put-mask-requires c κs =
-    let l = c .before .before .before .before .before .before .before in
+put-edge-requires : tie.Need-put-edge-requires Inv-loop μ-loop
+put-edge-requires c κs =
+    let l = c .before .before .before .before .before .before in
     omega (arith, filling-room _ _ _ (l .loop .left) (omega arith) (l .loop .inv .0) (l .loop .inv .2))
 
 add-c : tie.Need-add-c Inv-loop μ-loop
 add-c c =
-    let l = c .before .before .before .before .before .before .before .before in
+    let l = c .before .before .before .before .before .before .before in
     omega (arith, filling-room _ _ _ (l .loop .left) (omega arith) (l .loop .inv .0) (l .loop .inv .2))
 
 sub-left : tie.Need-sub-left Inv-loop μ-loop
 sub-left c = search needs
 
 loop-less : tie.Need-loop-less Inv-loop μ-loop
-loop-less c = walk-less (c .before .before .before .before .before .before .before .before .loop .left) (omega arith)
+loop-less c = walk-less (c .before .before .before .before .before .before .before .loop .left) (omega arith)
 
 loop-again : tie.Need-loop-again Inv-loop μ-loop
 loop-again c =
-    let e = c .before .before in
-    let m = e .before .before .before .before in
+    let m = c .before .before .before .before .before in
     let l = m .before .before in
     let s = l .before .before .before in
     let r = filling-room _ _ _ (l .loop .left) (omega arith) (l .loop .inv .0) (l .loop .inv .2) in
@@ -113,8 +107,8 @@ loop-again c =
       omega (arith, and-le-r (l .loop .left) (l .loop .left - 1)),
       lt-of-le-of-lt (and-le-r (l .loop .left) (l .loop .left - 1)) (omega (arith, l .loop .inv .1)),
       filling-turn v (s .args .k) u (l .loop .left) (m .edge-mask .result) (omega arith) (l .loop .inv .0) (omega (arith, r))
-          (omega (arith, r)) refl (m .edge-mask .ensures) (l .loop .inv .2) (e .before .before .narrow .ensures)
-          (e .before .narrow2 .ensures) (e .put-ends .ensures) (c .put-mask .ensures),
+          (omega (arith, r)) refl (m .edge-mask .ensures) (l .loop .inv .2) (c .before .before .narrow .ensures)
+          (c .before .narrow2 .ensures) (c .put-edge .ensures .0) (c .put-edge .ensures .1),
     )
 
 returns : tie.Need-returns Inv-loop μ-loop
@@ -139,8 +133,7 @@ fill-vertex-spec =
     edge-mask-requires
     narrow-requires
     narrow-requires-2
-    put-ends-requires
-    put-mask-requires
+    put-edge-requires
     add-c
     sub-left
     loop-less
