@@ -44,7 +44,8 @@ module _ {A B : Type 0} (put : List A → ℕ → B → List A) where
         go (no d) before = other (filled g n l) n j (g n) d ∙ before (omega arith)
 
     -- so at every number, where g is beyond n what the table held at first
-    pub filled-is : (g : ℕ → B) (n : ℕ) (l : List A) → ((i : ℕ) → i < n → room i (length l)) → ((j : ℕ) → n ≤ j → look l j ≡ g j) → look (filled g n l) ≡ g
+    pub filled-is : (g : ℕ → B) (n : ℕ) (l : List A) → ((i : ℕ) → i < n → room i (length l)) → ((j : ℕ) → n ≤ j → look l j ≡ g j) →
+        look (filled g n l) ≡ g
     filled-is g n l r z = λ i j. every j i
       where
         every : (j : ℕ) → look (filled g n l) j ≡ g j

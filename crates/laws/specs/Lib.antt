@@ -15,3 +15,9 @@ pub mod Walk
 pub mod Bits
 pub mod Sign
 pub mod Unique
+pub mod Members
+pub mod Rising
+pub mod Runs
+pub mod Lowest
+pub mod Parts
+pub mod Never

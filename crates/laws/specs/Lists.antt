@@ -86,7 +86,8 @@ module _ {A : Type 0} where
   number-once (not-this p a) (one-more q b) = absurd (p q)
   number-once (not-this p a) (not-this q b) = number-once a b
 
-  pub number-iff : (P : A → Type 0) (g : A → Bool) → ((x : A) → (g x ≡ true) ↔ P x) → (xs : List A) (n : ℕ) → (count g xs ≡ n) ↔ Number P xs n
+  pub number-iff : (P : A → Type 0) (g : A → Bool) → ((x : A) → (g x ≡ true) ↔ P x) → (xs : List A) (n : ℕ) →
+      (count g xs ≡ n) ↔ Number P xs n
   number-iff P g e xs n = (λ h. subst (Number P xs) h (number-count P g e xs), λ h. number-once (number-count P g e xs) h)
 
   pub even-iff : (P : A → Type 0) (g : A → Bool) → ((x : A) → (g x ≡ true) ↔ P x) → (xs : List A) → (count g xs % 2 ≡ 0) ↔ Even P xs
@@ -143,7 +144,8 @@ module _ {A : Type 0} where
   count-fold f g p k zero h = refl
   count-fold f g p k (suc n) h = ap₂ more (h k) (count-fold f g p (suc k) n h)
 
-  pub count-run : (f : ℕ → A) (g : A → Bool) (p : ℕ → Bool) (k e n : ℕ) → e - k ≡ n → ((i : ℕ) → p i ≡ g (f i)) → countOf p k e ≡ count g (run f k n)
+  pub count-run : (f : ℕ → A) (g : A → Bool) (p : ℕ → Bool) (k e n : ℕ) → e - k ≡ n → ((i : ℕ) → p i ≡ g (f i)) →
+      countOf p k e ≡ count g (run f k n)
   unfolding countOf over
   count-run f g p k e n s h = rw (s) (count-fold f g p k n h)
 

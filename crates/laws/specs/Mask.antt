@@ -1,5 +1,5 @@
--- Words by their bits: bit k of `maskOf g n`, below n, is set exactly when g k. A loop builds one bit by bit, and its ones are the numbers that
--- pass. Assumes nothing.
+-- Words by their bits: bit k of `maskOf g n`, below n, is set exactly when g k. A loop builds one bit by bit, and its ones are the numbers
+-- that pass. Assumes nothing.
 use mathlib.Core.Path.{_≡_, refl, sym, ap, ap₂, _∙_}
 use mathlib.Core.Bool.{Bool, true, false, not, _||_}
 use Prim.Native.Nat.{ℕ, zero, suc, _+_, _-_, _*_, _^_, _/_, _%_, _≤_, _<_}
@@ -207,7 +207,9 @@ pub mask-test : (g : ℕ → Bool) (n k : ℕ) → k < n → testBit (maskOf g n
 mask-test g zero k h = absurd (omega arith)
 mask-test g (suc n) zero h =
     let e : maskOf g (suc n) / 2 ^ 0 ≡ maskOf g (suc n) = omega arith in
-    rw e (bit-test g (suc n) 0 (omega arith) (ap (λ (f : ℕ → Bool). maskOf f (suc n)) (λ i j. g (plain j i)) ∙ ap (maskOf (λ j. g (0 + j))) (omega arith)))
+    rw e
+    (bit-test g (suc n) 0 (omega arith) (ap (λ (f : ℕ → Bool). maskOf f (suc n)) (λ i j. g (plain j i))
+    ∙ ap (maskOf (λ j. g (0 + j))) (omega arith)))
   where
     plain : (j : ℕ) → j ≡ 0 + j
     plain j = omega arith
@@ -255,7 +257,8 @@ pub test-high : (n a b k : ℕ) → a < 2 ^ n → n ≤ k → testBit (a + 2 ^ n
 test-high n a b k h l =
     ap (λ (q : ℕ). eqb (q % 2) 1)
     (ap (λ (i : ℕ). (a + 2 ^ n * b) / 2 ^ i) e ∙ sym (shr-shr (a + 2 ^ n * b) n (k - n))
-    ∙ ap (λ (q : ℕ). q / 2 ^ (k - n)) (ap (λ (x : ℕ). x / 2 ^ n) (add-comm a (2 ^ n * b) ∙ ap (λ (x : ℕ). x + a) (mul-comm (2 ^ n) b)) ∙ high b n h))
+    ∙ ap (λ (q : ℕ). q / 2 ^ (k - n))
+    (ap (λ (x : ℕ). x / 2 ^ n) (add-comm a (2 ^ n * b) ∙ ap (λ (x : ℕ). x + a) (mul-comm (2 ^ n) b)) ∙ high b n h))
   where
     e : k ≡ n + (k - n)
     e = omega arith

@@ -105,7 +105,8 @@ more-swap true true n = refl
 more-swap true false n = refl
 more-swap false b n = refl
 
-count-last : (p : ℕ → Bool) (a n : ℕ) → fold (λ k rest. more (p k) rest) 0 a (suc n) ≡ more (p (a + n)) (fold (λ k rest. more (p k) rest) 0 a n)
+count-last : (p : ℕ → Bool) (a n : ℕ) →
+    fold (λ k rest. more (p k) rest) 0 a (suc n) ≡ more (p (a + n)) (fold (λ k rest. more (p k) rest) 0 a n)
 count-last p a zero = ap (λ (k : ℕ). more (p k) 0) (omega arith)
 count-last p a (suc n) =
     ap (more (p a)) (count-last p (suc a) n ∙ ap (λ (k : ℕ). more (p k) (fold (λ k rest. more (p k) rest) 0 (suc a) n)) (omega arith))
@@ -127,7 +128,8 @@ module _ (f : ℕ → Bool) (i e n : ℕ) {w : ℕ} (inv : n + countOf f i e ≡
   count-turn : {o : Bool} → i < e → o ≡ f i → n + more o (countOf f (i + 1) e) ≡ w
   unfolding countOf
   count-turn {o} h p =
-      ap (λ (j : Bool). n + more j (countOf f (i + 1) e)) p ∙ sym (ap (λ (k : ℕ). n + k) (over-step (λ k rest. more (f k) rest) 0 i e h)) ∙ inv
+      ap (λ (j : Bool). n + more j (countOf f (i + 1) e)) p
+      ∙ sym (ap (λ (k : ℕ). n + k) (over-step (λ k rest. more (f k) rest) 0 i e h)) ∙ inv
 
   pub count-one : {o : Bool} {m : ℕ} → i < e → o ≡ f i → o ≡ true → m ≡ n + 1 → m + countOf f (i + 1) e ≡ w
   count-one h p q k =
@@ -187,7 +189,8 @@ lowest-passes p a e h t l m = lowest-fold p e a (e - a) h t l (omega arith)
 module _ {A : Type 0} (g h : ℕ → A → A) (z : A) where
   fold-same : (a n : ℕ) → ((k : ℕ) → a ≤ k → k < a + n → (r : A) → g k r ≡ h k r) → fold g z a n ≡ fold h z a n
   fold-same a zero e = refl
-  fold-same a (suc n) e = ap (g a) (fold-same (suc a) n (λ k l m. e k (omega arith) (omega arith))) ∙ e a (omega arith) (omega arith) (fold h z (suc a) n)
+  fold-same a (suc n) e =
+      ap (g a) (fold-same (suc a) n (λ k l m. e k (omega arith) (omega arith))) ∙ e a (omega arith) (omega arith) (fold h z (suc a) n)
 
   pub over-same : (a e : ℕ) → ((k : ℕ) → a ≤ k → k < e → (r : A) → g k r ≡ h k r) → over g z a e ≡ over h z a e
   unfolding over
@@ -200,7 +203,8 @@ module _ (p q : ℕ → Bool) (a e : ℕ) (same : (k : ℕ) → a ≤ k → k < 
 
   pub lowest-same : lowestOf p a e ≡ lowestOf q a e
   unfolding lowestOf
-  lowest-same = over-same (λ k rest. cond (p k) k rest) (λ k rest. cond (q k) k rest) e a e (λ k l m r. ap (λ (b : Bool). cond b k r) (same k l m))
+  lowest-same =
+      over-same (λ k rest. cond (p k) k rest) (λ k rest. cond (q k) k rest) e a e (λ k l m r. ap (λ (b : Bool). cond b k r) (same k l m))
 
 -- what a loop's needs are searched with
 pub ruleset loops = (any-end, any-found, any-next, count-end, count-one, count-none, lowest-end, lowest-found, lowest-next, needs)

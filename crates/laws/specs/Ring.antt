@@ -1,7 +1,7 @@
--- Polynomial identities over ℤ, by computation. An identity is stated in plain `_+ℤ_`, `_-ℤ_`, `_*ℤ_`, `negℤ`; its two sides are also written as
--- `Expr`, whose value (`eval`) computes to the plain side; `ring` brings both to a normal form, and `tt` shows that the difference is zero.
--- Normal form: a tree `node v p q` for x_v · p + q, the numbers of the variables not falling along p and rising along q. Only the native
--- comparison of those numbers is computed, with sums and products of literals: nothing goes by the size of a number.
+-- Polynomial identities over ℤ, by computation. An identity is stated in plain `_+ℤ_`, `_-ℤ_`, `_*ℤ_`, `negℤ`; its two sides are also
+-- written as `Expr`, whose value (`eval`) computes to the plain side; `ring` brings both to a normal form, and `tt` shows that the
+-- difference is zero. Normal form: a tree `node v p q` for x_v · p + q, the numbers of the variables not falling along p and rising along
+-- q. Only the native comparison of those numbers is computed, with sums and products of literals: nothing goes by the size of a number.
 -- Assumes nothing.
 use mathlib.Core.Path.{_≡_, refl, sym, _∙_, ap, ap₂}
 use mathlib.Core.Bool.{Bool, true, false}
@@ -119,7 +119,8 @@ module _ (x : ℕ → ℤ) where
   val (con c) = c
   val (node v p q) = x v *ℤ val p +ℤ val q
 
-  pick-is : (v w : ℕ) (o : Ordering) → (T (isEq o) → v ≡ w) → (a b c : Poly) (z : ℤ) → val a ≡ z → (v ≡ w → val b ≡ z) → val c ≡ z → val (pick o a b c) ≡ z
+  pick-is : (v w : ℕ) (o : Ordering) → (T (isEq o) → v ≡ w) → (a b c : Poly) (z : ℤ) → val a ≡ z → (v ≡ w → val b ≡ z) → val c ≡ z →
+      val (pick o a b c) ≡ z
   pick-is v w Ordering·lt h a b c z ha hb hc = ha
   pick-is v w Ordering·eq h a b c z ha hb hc = hb (h tt)
   pick-is v w Ordering·gt h a b c z ha hb hc = hc

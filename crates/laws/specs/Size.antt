@@ -93,13 +93,16 @@ formed e p h = record { same = e; size = p .size; fits = fits64 p h }
 small : {N : ℕ} {v z : ℤ} → Held N v z → Small N z
 small p = record { size = p .size }
 
-pub times : {A B : ℕ} {u v a b : ℤ} → Held A u a → Held B v b → A * B < 2 ^ 63 → Held (A * B) (toZ w64 (ofZ w64 u) *ℤ toZ w64 (ofZ w64 v)) (a *ℤ b)
+pub times : {A B : ℕ} {u v a b : ℤ} → Held A u a → Held B v b → A * B < 2 ^ 63 →
+    Held (A * B) (toZ w64 (ofZ w64 u) *ℤ toZ w64 (ofZ w64 v)) (a *ℤ b)
 times p q h = formed (λ i. kept p i *ℤ kept q i) (small p ⊗ small q) h
 
-pub plus : {A B : ℕ} {u v a b : ℤ} → Held A u a → Held B v b → A + B < 2 ^ 63 → Held (A + B) (toZ w64 (ofZ w64 u) +ℤ toZ w64 (ofZ w64 v)) (a +ℤ b)
+pub plus : {A B : ℕ} {u v a b : ℤ} → Held A u a → Held B v b → A + B < 2 ^ 63 →
+    Held (A + B) (toZ w64 (ofZ w64 u) +ℤ toZ w64 (ofZ w64 v)) (a +ℤ b)
 plus p q h = formed (λ i. kept p i +ℤ kept q i) (small p ⊕ small q) h
 
-pub less : {A B : ℕ} {u v a b : ℤ} → Held A u a → Held B v b → A + B < 2 ^ 63 → Held (A + B) (toZ w64 (ofZ w64 u) -ℤ toZ w64 (ofZ w64 v)) (a -ℤ b)
+pub less : {A B : ℕ} {u v a b : ℤ} → Held A u a → Held B v b → A + B < 2 ^ 63 →
+    Held (A + B) (toZ w64 (ofZ w64 u) -ℤ toZ w64 (ofZ w64 v)) (a -ℤ b)
 less p q h = formed (λ i. kept p i -ℤ kept q i) (small p ⊖ small q) h
 
 -- a number that a local holds, read back from its bits

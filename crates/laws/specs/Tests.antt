@@ -1,5 +1,5 @@
--- What a branch of the code says of a test in a definition: a conjunction or a disjunction that an early return leaves or goes on with, stated in
--- the form in which a call's answer (o ≡ x) and a branch arrive. Assumes nothing.
+-- What a branch of the code says of a test in a definition: a conjunction or a disjunction that an early return leaves or goes on with,
+-- stated in the form in which a call's answer (o ≡ x) and a branch arrive. Assumes nothing.
 use mathlib.Core.Path.{_≡_, sym, ap, _∙_}
 use mathlib.Core.Bool.{Bool, true, false, not, _&&_, _||_}
 use Prim.Native.Nat.{ℕ, _≤_, _<_}

@@ -1,5 +1,5 @@
--- The set digits of a word, lowest first, as a loop meets them: k = trailing_zeros(w), then w & (w - 1). Of a mask they are the numbers that
--- pass its test. Assumes nothing.
+-- The set digits of a word, lowest first, as a loop meets them: k = trailing_zeros(w), then w & (w - 1). Of a mask they are the numbers
+-- that pass its test. Assumes nothing.
 use mathlib.Core.Path.{_≡_, refl, sym, ap, ap₂, _∙_}
 use mathlib.Core.Bool.{Bool, true, false}
 use mathlib.Core.Logic.{_⊎_, inl, inr}
@@ -144,7 +144,8 @@ places-mask g (suc d) k (suc n) h =
     let b = digit-lt (g (k + 0)) in
     let low : maskOf (λ i. g (k + i)) (suc n) % 2 ≡ digit (g (k + 0)) = omega (arith, e, b) in
     let half : maskOf (λ i. g (k + i)) (suc n) / 2 ≡ m = omega (arith, e, b) in
-    ap₂ (λ (x y : ℕ). placed x k (places d (suc k) y)) (low ∙ ap (λ (i : ℕ). digit (g i)) (start k)) (half ∙ ap (λ (f : ℕ → Bool). maskOf f n) shifted)
+    ap₂ (λ (x y : ℕ). placed x k (places d (suc k) y)) (low ∙ ap (λ (i : ℕ). digit (g i)) (start k))
+    (half ∙ ap (λ (f : ℕ → Bool). maskOf f n) shifted)
     ∙ ap (placed (digit (g k)) k) (places-mask g d (suc k) n (omega arith))
   where
     start : (k : ℕ) → k + 0 ≡ k
@@ -168,13 +169,19 @@ unfolding passing
 passing-first g k zero t l e = let z : _≡_ {A = ℕ} 0 1 = cc in absurd (omega arith)
 passing-first g k (suc n) t l e = by (g k) refl e (passing-first g (suc k) n t l)
   where
-    by : (b : Bool) → g k ≡ b → placed (digit b) k (passing g (suc k) n) ≡ t ∷ l → (passing g (suc k) n ≡ t ∷ l → First g (suc k) n t) → First g k (suc n) t
+    by : (b : Bool) → g k ≡ b → placed (digit b) k (passing g (suc k) n) ≡ t ∷ l → (passing g (suc k) n ≡ t ∷ l → First g (suc k) n t) →
+        First g k (suc n) t
     by true p q next =
         let same : k ≡ t = cc in
         record { passes = rw (← same) p; from = omega arith; below = omega arith; none = λ j a b. absurd (omega arith) }
     by false p q next =
         let f = next q in
-        record { passes = f .passes; from = omega (arith, f .from); below = omega (arith, f .below); none = λ j a b. lower f j a b (ℕ-discrete k j) }
+        record {
+          passes = f .passes;
+          from = omega (arith, f .from);
+          below = omega (arith, f .below);
+          none = λ j a b. lower f j a b (ℕ-discrete k j);
+        }
       where
         lower : First g (suc k) n t → (j : ℕ) → k ≤ j → j < t → Dec (k ≡ j) → g j ≡ false
         lower f j a b (yes s) = rw (← s) p

@@ -1,10 +1,10 @@
 -- The first of a run of hits. Assumes nothing.
 use mathlib.Core.Path.{_≡_, refl, sym, ap, _∙_}
-use Prim.Native.Nat.{ℕ, zero, suc, _+_, _≤_, _<_, _-_}
+use Prim.Native.Nat.{ℕ, _+_, _≤_, _<_, _-_}
 use native.Mathlib.Omega.{arith}
-use mathlib.Core.List.{List, [], _∷_, _++_, append-nil, append-assoc}
-use Rattle.listing.specs.Hits.{Hit, upTo}
-use Rattle.listing.specs.Laws.{upTo-more}
+use mathlib.Core.List.{List, [], _∷_, _++_}
+use Rattle.laws.specs.Runs.{upTo, upTo-more, upTo-join}
+use Rattle.listing.specs.Hits.{Hit}
 use Rattle.listing.specs.declared.find.Found.{Found}
 use Rattle.listing.specs.declared.find.Found.the-variants.{Nothing, Pair}
 
@@ -39,20 +39,14 @@ module _ (g : ℕ → List Hit) where
   pub first-more : (i : ℕ) {o : Found} → [] ≡ upTo g i → o ≡ firstOf (g i) → o ≡ Nothing → [] ≡ upTo g (i + 1)
   first-more i e p q = empty-next (g i) e p q ∙ sym (upTo-more g i)
 
-  -- the rest of the runs, behind the first i
-  behind : (i m : ℕ) → upTo g (i + m) ≡ upTo g i ++ upTo (λ j. g (i + j)) m
-  unfolding upTo
-  behind i zero = let e : i + 0 ≡ i = omega arith in rw e (sym (append-nil (upTo g i)))
-  behind i (suc m) =
-      let e : i + suc m ≡ suc (i + m) = omega arith in
-      rw e (ap (λ (l : List Hit). l ++ g (i + m)) (behind i m) ∙ append-assoc (upTo g i) (upTo (λ j. g (i + j)) m) (g (i + m)))
-
-  pub first-found : (i n : ℕ) {o : Found} {a b f : ℕ} → i < n → [] ≡ upTo g i → o ≡ firstOf (g i) → o ≡ Pair a b f → Pair a b f ≡ firstOf (upTo g n)
+  pub first-found : (i n : ℕ) {o : Found} {a b f : ℕ} → i < n → [] ≡ upTo g i → o ≡ firstOf (g i) → o ≡ Pair a b f →
+      Pair a b f ≡ firstOf (upTo g n)
   first-found i n h e p q =
       let m : ℕ = n - (i + 1) in
       let d : n ≡ i + 1 + m = omega arith in
       first-next (g i) e p q (upTo (λ j. g (i + 1 + j)) m)
-      ∙ ap firstOf (ap (λ (l : List Hit). l ++ upTo (λ j. g (i + 1 + j)) m) (sym (upTo-more g i)) ∙ sym (behind (i + 1) m) ∙ ap (upTo g) (sym d))
+      ∙ ap firstOf
+      (ap (λ (l : List Hit). l ++ upTo (λ j. g (i + 1 + j)) m) (sym (upTo-more g i)) ∙ sym (upTo-join g (i + 1) m) ∙ ap (upTo g) (sym d))
 
   pub first-end : {i n : ℕ} → i ≤ n → n ≤ i → [] ≡ upTo g i → Nothing ≡ firstOf (upTo g n)
   first-end {i} {n} a b e = let d : i ≡ n = omega arith in first-none (rw d at e)

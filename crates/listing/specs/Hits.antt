@@ -1,11 +1,13 @@
--- The pierced pairs of a scene in the order of the listing: edges of A with faces of B, then edges of B with faces of A; by lower point, then
--- higher point, then face. Assumes nothing.
-use Prim.Native.Nat.{ℕ, zero, suc, _+_, _*_, _≤_, _<_}
-use mathlib.Core.Bool.{Bool, cond, _&&_}
-use mathlib.Core.List.{List, [], _∷_, _++_}
+-- The pierced pairs of a scene in the order of the listing: edges of A with faces of B, then edges of B with faces of A; by lower point,
+-- then higher point, then face. Assumes nothing.
+use Prim.Native.Nat.{ℕ, _+_, _*_, _≤_, _<_}
+use mathlib.Core.Bool.{Bool, _&&_}
+use mathlib.Core.List.{List, [], _∷_}
 use lib.Dec.{ltb}
 use lib.IntN.{ℤ}
 use Rattle.laws.specs.Range.{countOf, lowestOf}
+unfoldable pub use Rattle.laws.specs.Runs.{upTo}
+pub use Rattle.laws.specs.Runs.{only}
 use Rattle.scene.specs.Limits.{limits, mostPoints}
 use Rattle.scene.specs.Arrays.{rowIn, faceIn, AllWithin, FacesWithin}
 use Rattle.scene.specs.Faces.{Vertex}
@@ -34,19 +36,11 @@ pub record Hit : Type 0 where
   pub high : ℕ
   pub face : ℕ
 
-module _ {A : Type 0} where
-  -- g 0, then g 1, and so on, n of them
-  unfoldable pub upTo : (ℕ → List A) → ℕ → List A
-  upTo g zero = []
-  upTo g (suc n) = upTo g n ++ g n
-
-  abbrev pub only : Bool → List A → List A
-  only b l = cond b l []
-
 module _ (s : Seen) (k : Solid) where
   -- the edge u, v with the i-th face of the other solid, from 0, where it is pierced
   unfoldable pub faceHits : (u v i : ℕ) → List Hit
-  faceHits u v i = only (pierced (s .points) (s .row) u v (s .face (k .other + 1 + i))) (record { low = u; high = v; face = k .other + 1 + i } ∷ [])
+  faceHits u v i =
+      only (pierced (s .points) (s .row) u v (s .face (k .other + 1 + i))) (record { low = u; high = v; face = k .other + 1 + i } ∷ [])
 
   unfoldable pub edgeHits : (u v : ℕ) → List Hit
   edgeHits u v = upTo (faceHits u v) (k .others)
@@ -66,7 +60,8 @@ module _ (s : Seen) (k : Solid) where
   unfoldable pub solidHits : List Hit
   solidHits = upTo (λ i. vertexHits (k .low + 1 + i)) (k .verts)
 
-  -- ---- the edge's mask, and the solid's vertices that the other one encloses: how many, and the lowest (the number behind the last, if none)
+  -- ---- the edge's mask, and the solid's vertices that the other one encloses: how many, and the lowest (the number behind the last, if
+  -- none)
 
   unfoldable pub edgeMask : (u v : ℕ) → ℕ
   edgeMask u v = maskAgainst (s .points) (s .row) (s .face) u v (k .other) (k .others)

@@ -1,5 +1,5 @@
--- What a lent list of numbers holds once a run of hits is poured in: three numbers for each, the one numbered `from` at the front, and what has no
--- room left out. Assumes nothing.
+-- What a lent list of numbers holds once a run of hits is poured in: three numbers for each, the one numbered `from` at the front, and what
+-- has no room left out. Assumes nothing.
 use mathlib.Core.Path.{_≡_}
 use Prim.Native.Nat.{ℕ, _+_, _*_, _/_, _^_, _-_}
 use mathlib.Core.Bool.{Bool, cond}
@@ -8,7 +8,8 @@ use lib.Dec.{leb}
 use lib.ListN.{length, take, drop}
 use lib.Seq.{sets}
 use Rattle.laws.specs.Mask.{testBit}
-use Rattle.listing.specs.Hits.{Hit, upTo, only}
+use Rattle.laws.specs.Runs.{upTo, only}
+use Rattle.listing.specs.Hits.{Hit}
 
 abbrev pub three : Hit → List ℕ
 three h = h .low ∷ h .high ∷ h .face ∷ []

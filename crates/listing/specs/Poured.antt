@@ -10,11 +10,12 @@ use lib.ListN.{length, take, drop, length-append, take-append-drop}
 use lib.Seq.{sets, sets-eq, length-sets, take-at, drop-at, drop-drop, length-take-le, take-all, drop-nil, take-nil}
 use lib.Dec.{leb}
 use borrow.Author.Tests.{leb-true, leb-false, le-leb, lt-leb}
-use Rattle.listing.specs.Hits.{Hit, upTo}
+use Rattle.laws.specs.Runs.{upTo, bounded}
+use Rattle.listing.specs.Hits.{Hit}
 use Rattle.listing.specs.Pour.{Pours, poured, stepped, three, flat, partIn, allIn}
-use Rattle.listing.specs.Laws.{bounded}
 
-poured-append : (l m : List Hit) (d : List ℕ) (from seen : ℕ) → poured d from seen (l ++ m) ≡ poured (poured d from seen l) from (seen + length l) m
+poured-append : (l m : List Hit) (d : List ℕ) (from seen : ℕ) →
+    poured d from seen (l ++ m) ≡ poured (poured d from seen l) from (seen + length l) m
 unfolding poured
 poured-append [] m d from seen = rw add-zero
 poured-append (h ∷ l) m d from seen =
@@ -100,7 +101,8 @@ module _ (d : List ℕ) (from seen : ℕ) (h : Hit) (l : List Hit) where
       rw (lt-leb _ _ lt, e, z) ih
 
   -- in it
-  inside : from ≤ seen → 3 * (seen - from) + 3 ≤ length d → Laid (sets d (3 * (seen - from)) (three h)) from (seen + 1) l → Laid d from seen (h ∷ l)
+  inside : from ≤ seen → 3 * (seen - from) + 3 ≤ length d → Laid (sets d (3 * (seen - from)) (three h)) from (seen + 1) l →
+      Laid d from seen (h ∷ l)
   unfolding Laid poured stepped flat
   inside le fit ih =
       let z : from - seen ≡ 0 = omega arith in
