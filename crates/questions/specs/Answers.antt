@@ -1,5 +1,5 @@
--- The answer of each question, asked of a view, with the question's own refusals (10 to 12); and asked of bytes: the judge's refusal, or the answer of
--- what the bytes denote. Each answer enum has its numbers and values in the words of document 01. Assumes nothing.
+-- The answer of each question, asked of a view, with the question's own refusals (10 to 12); and asked of bytes: the judge's refusal, or
+-- the answer of what the bytes denote. Each answer enum has its numbers and values in the words of document 01. Assumes nothing.
 use mathlib.Core.Path.{_≡_}
 use mathlib.Core.Bool.{Bool, not, cond, _&&_}
 use mathlib.Core.List.{List, [], _∷_, _++_}

@@ -28,7 +28,8 @@ module _ {X : Type 0} (refuse : Refusal → X) (x : X) {o j : Judged} (e : o ≡
 
 -- the judge accepts, and the question's own faults decide
 module _ {X : Type 0} (refuse : Refusal → X) (x : X) {j k : Judged} where
-  pub own-refused : {o p : Judged} {r : Refusal} → o ≡ j → o ≡ Accepted → p ≡ k → p ≡ Refused r → refuse r ≡ answered refuse j (answered refuse k x)
+  pub own-refused : {o p : Judged} {r : Refusal} → o ≡ j → o ≡ Accepted → p ≡ k → p ≡ Refused r →
+      refuse r ≡ answered refuse j (answered refuse k x)
   own-refused e q f h = answered-so refuse (answered refuse k x) e q (refused-so refuse x f h)
 
   pub both-accept : {y : X} → j ≡ Accepted → k ≡ Accepted → y ≡ x → y ≡ answered refuse j (answered refuse k x)
@@ -46,7 +47,8 @@ pub accepted-so : {o j : Judged} → o ≡ j → o ≡ Accepted → j ≡ Accept
 accepted-so e q = sym e ∙ q
 
 -- one answer after another: the judge's refusal, else the question's own
-pub answered-then : {X : Type 0} (refuse : Refusal → X) (j k : Judged) (x : X) → answered refuse j (answered refuse k x) ≡ answered refuse (andThen j k) x
+pub answered-then : {X : Type 0} (refuse : Refusal → X) (j k : Judged) (x : X) →
+    answered refuse j (answered refuse k x) ≡ answered refuse (andThen j k) x
 unfolding answered andThen
 answered-then refuse Accepted k x = refl
 answered-then refuse (Refused r) k x = refl

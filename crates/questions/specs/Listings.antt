@@ -24,13 +24,15 @@ use Rattle.questions.specs.declared.Listed.the-variants as listed
 unfoldable pub lacksRoom : Bool → (n places : ℕ) → Bool
 lacksRoom all n places = all && ltb (places / 3) n
 
--- what is left of a lent list d where the hits l are poured from one of them on: as far as there is room, or, where all are asked for, all or none
+-- what is left of a lent list d where the hits l are poured from one of them on: as far as there is room, or, where all are asked for, all
+-- or none
 pub record PouredIf (l : List Hit) (from : ℕ) (all : Bool) (d d′ : List ℕ) (r : ℕ) : Type 0 where
   pub count : r ≡ length l
   pub long : length d′ ≡ length d
   pub held : d′ ≡ cond (lacksRoom all (length l) (length d)) d (poured d from 0 l)
 
-module _ (l : List Hit) (from : ℕ) (all : Bool) (d : List ℕ) {n : ℕ} (count : n ≡ length l) {b : Bool} (test : b ≡ lacksRoom all n (length d)) where
+module _ (l : List Hit) (from : ℕ) (all : Bool) (d : List ℕ) {n : ℕ} (count : n ≡ length l) {b : Bool}
+    (test : b ≡ lacksRoom all n (length d)) where
   test-is : {t : Bool} → b ≡ t → lacksRoom all (length l) (length d) ≡ t
   test-is e = ap (λ (k : ℕ). lacksRoom all k (length d)) (sym count) ∙ sym test ∙ e
 
@@ -64,7 +66,9 @@ module _ (v : View) (d : List ℕ) where
       l = listingIn v
 
       by : (b : Bool) → ltb (length d / 3) (length l) ≡ b → d₁ ≡ heldIn v d
-      by true t = p .held ∙ ap (λ (b : Bool). cond b d (poured d 0 0 l)) t ∙ sym (ap (λ (j : Judged). answered (λ _. d) j (allIn l d)) (short (ltb-true _ _ t)))
+      by true t =
+          p .held ∙ ap (λ (b : Bool). cond b d (poured d 0 0 l)) t
+          ∙ sym (ap (λ (j : Judged). answered (λ _. d) j (allIn l d)) (short (ltb-true _ _ t)))
       by false t =
           let h : length l ≤ length d / 3 = ltb-false _ _ t in
           p .held ∙ ap (λ (b : Bool). cond b d (poured d 0 0 l)) t ∙ poured-all l d (omega arith)
@@ -100,7 +104,8 @@ module _ (s d : List ℕ) {o : Judged} (e : o ≡ judged s) where
       }
 
   module _ (q : o ≡ Accepted) {d₁ : List ℕ} {n : ℕ} (p : PouredIf l 0 true d d₁ n) where
-    told : {j : Judged} {r : Listed} → j ≡ listFault (viewOf s) d → r ≡ answered listed.Refused j (listed.Count (length l)) → IsListed s d d₁ r
+    told : {j : Judged} {r : Listed} → j ≡ listFault (viewOf s) d → r ≡ answered listed.Refused j (listed.Count (length l)) →
+        IsListed s d d₁ r
     unfolding answered listedIn
     told f a =
         record {

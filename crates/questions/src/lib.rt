@@ -52,8 +52,8 @@ pub enum Listed {
     Count(usize),
 }
 
-// Room for the longest listing: a face's plane parts two sides of a triangle at most, and each edge is in two faces or more, so that no more
-// than as many edges as the solid has faces pierce a face of the other.
+// Room for the longest listing: a face's plane parts two sides of a triangle at most, and each edge is in two faces or more, so that no
+// more than as many edges as the solid has faces pierce a face of the other.
 pub const MOST_PAIRS: usize = 2 * Scene::MOST_FACES * Scene::MOST_FACES;
 
 // Bit j of a word is set exactly when the other solid encloses the solid's vertex j + 1.

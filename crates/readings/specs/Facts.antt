@@ -14,7 +14,13 @@ use Rattle.questions.specs.declared.Surveyed.{Surveyed}
 use Rattle.questions.specs.declared.Surveyed.the-variants as surveyed
 
 unfoldable pub factsIn : View → Facts
-factsIn v = record { verdict = verdictIn v; counts = countsIn v; «a_inside» = insideWord (seen v) (solid v 1); «b_inside» = insideWord (seen v) (solid v 2) }
+factsIn v =
+    record {
+      verdict = verdictIn v;
+      counts = countsIn v;
+      «a_inside» = insideWord (seen v) (solid v 1);
+      «b_inside» = insideWord (seen v) (solid v 2);
+    }
 
 -- d is what the lent list held, d′ what it holds afterwards: the listing in front, or what it held where there is no room
 pub record Gathered (v : View) (d d′ : List ℕ) (r : Facts) : Type 0 where
@@ -39,6 +45,7 @@ module _ (s d : List ℕ) {o : Judged} (e : o ≡ judged s) where
   unfolding answered
   survey-told q g =
       record {
-        answer = ap surveyed.Facts (g .facts) ∙ ap (λ (j : Judged). answered surveyed.Refused j (surveyed.Facts (factsIn (viewOf s)))) (sym q ∙ e);
+        answer = ap surveyed.Facts (g .facts)
+            ∙ ap (λ (j : Judged). answered surveyed.Refused j (surveyed.Facts (factsIn (viewOf s)))) (sym q ∙ e);
         held = g .held ∙ ap (λ (j : Judged). answered (λ _. d) j (heldIn (viewOf s) d)) (sym q ∙ e);
       }

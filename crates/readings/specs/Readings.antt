@@ -51,7 +51,8 @@ module _ (s : List ℕ) (ok : judged s ≡ Accepted) {ends-a masks-a ends-b mask
 
   listed-so : pairsOf t (solid v 1 .other) (solid v 2 .other) ends-a masks-a ends-b masks-b ≡ listingIn v
   unfolding listingIn
-  listed-so = surveyed-pairs (seen v) (solid v 1) (solid v 2) t ends-a masks-a ends-b masks-b (sound s ok 1) (sound s ok 2) (x .of-a) (x .of-b)
+  listed-so =
+      surveyed-pairs (seen v) (solid v 1) (solid v 2) t ends-a masks-a ends-b masks-b (sound s ok 1) (sound s ok 2) (x .of-a) (x .of-b)
 
   pairs-are : {n : ℕ} → Pairs n → n ≡ length (listingIn v)
   pairs-are h = h _ _ _ _ ∙ ap length listed-so
@@ -60,7 +61,8 @@ module _ (s : List ℕ) (ok : judged s ≡ Accepted) {ends-a masks-a ends-b mask
     counts-so : {n : ℕ} → n ≡ length (listingIn v) → _≡_ {A = Counts} (record { pairs = n; «a_in_b» = p; «b_in_a» = q }) (countsIn v)
     unfolding insideIn
     counts-so e =
-        counts-are v e (ones-a ∙ inside-ones (seen v) (solid v 1) (x .of-a .inside)) (ones-b ∙ inside-ones (seen v) (solid v 2) (x .of-b .inside))
+        counts-are v e (ones-a ∙ inside-ones (seen v) (solid v 1) (x .of-a .inside))
+        (ones-b ∙ inside-ones (seen v) (solid v 2) (x .of-b .inside))
 
     pub counts-read : {n : ℕ} → Pairs n → _≡_ {A = Counts} (record { pairs = n; «a_in_b» = p; «b_in_a» = q }) (countsIn v)
     counts-read h = counts-so (pairs-are h)
@@ -107,9 +109,12 @@ module _ (s : List ℕ) (ok : judged s ≡ Accepted) {t : Sought} (h : Settles (
   pub cross-told : {u w f : ℕ} → t .first ≡ Pair u w f → Cross u w f ≡ verdictIn (viewOf s)
   cross-told = cross-is (viewOf s) (h .first)
 
-  module _ (none : t .first ≡ Nothing) {a : Solid} (is-a : a ≡ solid (viewOf s) 1) {p : ℕ} (lowest-a : p ≡ lowestOfWord (t .a) (a .low) (a .verts)) where
+  module _ (none : t .first ≡ Nothing) {a : Solid} (is-a : a ≡ solid (viewOf s) 1) {p : ℕ}
+      (lowest-a : p ≡ lowestOfWord (t .a) (a .low) (a .verts)) where
     lowest-in-a : p ≡ lowestInside (seen (viewOf s)) (solid (viewOf s) 1)
-    lowest-in-a = (rw is-a at lowest-a) ∙ inside-lowest (seen (viewOf s)) (solid (viewOf s) 1) (h .a-inside none) (omega (arith, sound s ok 1 .vertices .0))
+    lowest-in-a =
+        (rw is-a at lowest-a)
+        ∙ inside-lowest (seen (viewOf s)) (solid (viewOf s) 1) (h .a-inside none) (omega (arith, sound s ok 1 .vertices .0))
 
     verts-a : a .verts ≡ viewOf s .vertsA
     unfolding solid
@@ -118,9 +123,12 @@ module _ (s : List ℕ) (ok : judged s ≡ Accepted) {t : Sought} (h : Settles (
     pub a-in-b-told : p ≤ a .verts → AInB p ≡ verdictIn (viewOf s)
     a-in-b-told l = none-cross (viewOf s) (h .first) none (a-in-b (viewOf s) lowest-in-a verts-a l)
 
-    module _ (more : a .verts < p) {b : Solid} (is-b : b ≡ solid (viewOf s) 2) {q : ℕ} (lowest-b : q ≡ lowestOfWord (t .b) (b .low) (b .verts)) where
+    module _ (more : a .verts < p) {b : Solid} (is-b : b ≡ solid (viewOf s) 2) {q : ℕ}
+        (lowest-b : q ≡ lowestOfWord (t .b) (b .low) (b .verts)) where
       lowest-in-b : q ≡ lowestInside (seen (viewOf s)) (solid (viewOf s) 2)
-      lowest-in-b = (rw is-b at lowest-b) ∙ inside-lowest (seen (viewOf s)) (solid (viewOf s) 2) (h .b-inside none) (omega (arith, sound s ok 2 .vertices .0))
+      lowest-in-b =
+          (rw is-b at lowest-b)
+          ∙ inside-lowest (seen (viewOf s)) (solid (viewOf s) 2) (h .b-inside none) (omega (arith, sound s ok 2 .vertices .0))
 
       verts-b : b .low + b .verts ≡ verts (viewOf s)
       unfolding solid

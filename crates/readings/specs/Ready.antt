@@ -22,7 +22,7 @@ use Rattle.scene.specs.declared.Solid.{Solid}
 use Rattle.judge.specs.Judge.{judged}
 use Rattle.judge.specs.declared.Judged.the-variants.{Accepted}
 use Rattle.rules.specs.Given.{counts, weighted, rows-within, faces-within, face-of-a, face-of-b}
-use Rattle.orient.specs.Signs.{Upto, Four, ne-sym}
+use Rattle.orient.specs.Signs.{Upto, ne-sym}
 use Rattle.orient.specs.Terms.{termsAt, positiveAt}
 use Rattle.orient.specs.Weighted.{Weighted, Asked}
 use Rattle.orient.specs.Sizes.{NumbersWithin}
@@ -112,9 +112,11 @@ module _ (s : List ℕ) (ok : judged s ≡ Accepted) where
   placed = either-solid v Placed placed-a placed-b
 
   -- points that are none of its vertices, and its faces
-  module _ {o : Solid} (p : Placed o) {u w : ℕ} (pu : Upto (points v) u) (pw : Upto (points v) w) (d : u ≢ w) (ou : NotOf o u) (ow : NotOf o w) where
+  module _ {o : Solid} (p : Placed o) {u w : ℕ} (pu : Upto (points v) u) (pw : Upto (points v) w) (d : u ≢ w) (ou : NotOf o u)
+      (ow : NotOf o w) where
     beside-solid : BesideAll (points v) u w (v .face) (o .first) (o .count)
-    beside-solid i b = beside (let l = p .vertices .1 in omega arith) pu pw d ou ow _ (p .corners (o .first + 1 + i) (omega arith) (omega arith))
+    beside-solid i b =
+        beside (let l = p .vertices .1 in omega arith) pu pw d ou ow _ (p .corners (o .first + 1 + i) (omega arith) (omega arith))
 
   pub outside-beside : {u w k n : ℕ} {o : Solid} {corners : ℕ → Face} → Outside v u w k → n ≡ points v → corners ≡ v .face → o ≡ solid v k →
       BesideAll n u w corners (o .first) (o .count)
@@ -149,7 +151,8 @@ module _ (s : List ℕ) (ok : judged s ≡ Accepted) where
   in-scene h = omega arith
 
   -- where piercing is not refused
-  pub pierces-fit : {rows : ℕ → Row} {n u w : ℕ} (f : ℕ) {g : Face} → piercesFault v u w f ≡ Accepted → rows ≡ v .row → n ≡ points v → g ≡ v .face f →
+  pub pierces-fit : {rows : ℕ → Row} {n u w : ℕ} (f : ℕ) {g : Face} → piercesFault v u w f ≡ Accepted → rows ≡ v .row →
+      n ≡ points v → g ≡ v .face f →
       (AllWithin limits rows × (6 ≤ n) × (n ≤ mostPoints limits) × (u ≤ mostPoints limits) × (w ≤ mostPoints limits) × FaceWithin limits g)
       × (Weighted n rows × Beside n u w g)
   pierces-fit {n} {u} {w} f {g} h r is-n is-g =
@@ -199,7 +202,8 @@ pub record Decoded (s : List ℕ) (n : ℕ) (rows : List ℤ) (corners : List �
   pub are-rows : rowIn rows ≡ viewOf s .row
   pub are-faces : faceIn corners ≡ viewOf s .face
 
-pub decoded : (s : List ℕ) {n : ℕ} (rows : List ℤ) (corners : List ℕ) → n ≡ points (viewOf s) → rowIn rows ≡ viewOf s .row → faceIn corners ≡ viewOf s .face →
+pub decoded : (s : List ℕ) {n : ℕ} (rows : List ℤ) (corners : List ℕ) → n ≡ points (viewOf s) → rowIn rows ≡ viewOf s .row →
+    faceIn corners ≡ viewOf s .face →
     Decoded s n rows corners
 decoded s rows corners e r f = record { are-points = e; are-rows = r; are-faces = f }
 
@@ -211,7 +215,8 @@ module _ {s : List ℕ} {n : ℕ} {rows : List ℤ} {corners : List ℕ} (d : De
     pub found : {A : Type 0} (f : Seen → Solid → A) {r : A} → r ≡ f (seenIn n rows corners) o → r ≡ f (seen (viewOf s)) (solid (viewOf s) k)
     found f p = p ∙ ap₂ f seen-is is-o
 
-    pub mask-found : (u w : ℕ) {r : ℕ} → r ≡ maskAgainst n (rowIn rows) (faceIn corners) u w (o .first) (o .count) → r ≡ maskIn (viewOf s) u w k
+    pub mask-found : (u w : ℕ) {r : ℕ} → r ≡ maskAgainst n (rowIn rows) (faceIn corners) u w (o .first) (o .count) →
+        r ≡ maskIn (viewOf s) u w k
     unfolding maskIn
     mask-found u w p = p ∙ ap₂ (λ (x : Seen) (o : Solid). maskAgainst (x .points) (x .row) (x .face) u w (o .first) (o .count)) seen-is is-o
 
@@ -228,6 +233,7 @@ module _ (s : List ℕ) {rows : ℕ → Row} (are-rows : rows ≡ viewOf s .row)
 pub mask-said : {w m n : ℕ} → w ≡ m → n ≡ ones w → faces-are w n ≡ faces-are m (ones m)
 mask-said e h = ap₂ faces-are e (h ∙ ap ones e)
 
-pub enclosed-found : (v : View) (i : ℕ) {n k w : ℕ} {t : Bool} → n ≡ points v → k ≡ otherSolid v i → w ≡ maskIn v i n k → t ≡ isOdd w → t ≡ isEnclosed v i
+pub enclosed-found : (v : View) (i : ℕ) {n k w : ℕ} {t : Bool} → n ≡ points v → k ≡ otherSolid v i → w ≡ maskIn v i n k → t ≡ isOdd w →
+    t ≡ isEnclosed v i
 unfolding isEnclosed
 enclosed-found v i is-n is-k e p = p ∙ ap isOdd e ∙ ap₂ (λ (n k : ℕ). isOdd (maskIn v i n k)) is-n is-k

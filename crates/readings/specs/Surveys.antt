@@ -1,5 +1,5 @@
--- An accepted scene, decoded into arrays, gives all that its survey asks for: each solid is closed and apart from the other. What is surveyed is then the
--- scene's own. Assumes nothing.
+-- An accepted scene, decoded into arrays, gives all that its survey asks for: each solid is closed and apart from the other. What is
+-- surveyed is then the scene's own. Assumes nothing.
 use mathlib.Core.Path.{_≡_, ap, _∙_}
 use mathlib.Core.List.{List}
 use Prim.Native.Nat.{ℕ, _+_}
@@ -87,8 +87,10 @@ pub survey-is : {s : List ℕ} {n : ℕ} {rows : List ℤ} {corners : List ℕ} 
 survey-is d ea eb p q = record { of-a = rw (seen-is d, ea) at p; of-b = rw (seen-is d, eb) at q }
 
 -- of one solid alone
-pub inside-is : {s : List ℕ} {n : ℕ} {rows : List ℤ} {corners : List ℕ} (d : Decoded s n rows corners) {o : Solid} (k : ℕ) → o ≡ solid (viewOf s) k →
-    {ends masks : List ℕ} {p : Part} → Surveyed (seenIn n rows corners) o ends masks p → {c : ℕ} → c ≡ ones (p .inside) → c ≡ insideIn (viewOf s) k
+pub inside-is : {s : List ℕ} {n : ℕ} {rows : List ℤ} {corners : List ℕ} (d : Decoded s n rows corners) {o : Solid} (k : ℕ) →
+    o ≡ solid (viewOf s) k →
+    {ends masks : List ℕ} {p : Part} → Surveyed (seenIn n rows corners) o ends masks p → {c : ℕ} → c ≡ ones (p .inside) →
+    c ≡ insideIn (viewOf s) k
 unfolding insideIn
 inside-is d k e t h = found d k e insideCount (h ∙ inside-ones _ _ (t .inside))
 

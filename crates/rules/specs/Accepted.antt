@@ -7,7 +7,8 @@ use Prim.Native.Nat.{ℕ, _+_, _≤_, _<_}
 use native.Mathlib.Omega.{arith}
 use Rattle.scene.specs.Limits.{Limits}
 use Rattle.scene.specs.Records.{verts, faces, lastRecord}
-use Rattle.judge.specs.Judge.{judgedAt, opens, countsOk, headerFault, recordFault, recordsFault, unusedFault, unusedsFault, edgeFault, edgesFault}
+use Rattle.judge.specs.Judge.{judgedAt, opens, countsOk, headerFault, recordFault, recordsFault}
+use Rattle.judge.specs.Judge.{unusedFault, unusedsFault, edgeFault, edgesFault}
 use Rattle.judge.specs.declared.Judged.the-variants.{Accepted}
 use Rattle.rules.specs.Rules.{Opens, CountsOk, HeaderOk, RecordOk, RecordsOk, Used, AllUsed, SidesOk, FileOk}
 use Rattle.judge.specs.Tests.{accepts, rule-iff, first-iff}
@@ -37,7 +38,8 @@ module _ (s : List ℕ) where
 
   edges-iff : (edgesFault s ≡ Accepted) ↔ ((i : ℕ) → i < faces s → SidesOk s i)
   unfolding edgesFault
-  edges-iff = Iff·trans (first-iff (edgeFault s) 0 (faces s)) (λ h i b. face-iff i .0 (h i (omega arith) b), λ h i a b. face-iff i .1 (h i b))
+  edges-iff =
+      Iff·trans (first-iff (edgeFault s) 0 (faces s)) (λ h i b. face-iff i .0 (h i (omega arith) b), λ h i a b. face-iff i .1 (h i b))
 
 module _ (l : Limits) (s : List ℕ) where
   pub counts-iff : (countsOk l s ≡ true) ↔ CountsOk l s

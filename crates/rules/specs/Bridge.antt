@@ -39,7 +39,8 @@ module _ (l : Limits) (s : List ℕ) where
               (run-each (FaceOf 0 (vertsA s)) (faceAt s) 0 (facesA s)
               (λ i a b. ok .records (faceRecord s i) (omega arith) (omega arith) .corners .of-a i (omega arith) refl));
           used = rw (size-a s) (λ i b. ok .used i (omega arith) (omega arith) .of-a (omega arith));
-          edges = run-each (Sides (EdgeOk (tablesOf s .a .faces))) (faceAt s) 0 (facesA s) (λ i a b. ok .sides i (omega arith) .of-a (omega arith));
+          edges = run-each (Sides (EdgeOk (tablesOf s .a .faces))) (faceAt s) 0 (facesA s)
+              (λ i a b. ok .sides i (omega arith) .of-a (omega arith));
         }
 
     b-ok : TableOk l (tablesOf s .b)
@@ -54,7 +55,8 @@ module _ (l : Limits) (s : List ℕ) where
               (run-each (FaceOf 0 (vertsB s)) (faceAt s) (facesA s) (facesB s)
               (λ i a b. ok .records (faceRecord s i) (omega arith) (omega arith) .corners .of-b i a b refl));
           used = rw (size-b s) (λ i b. ok .used (vertsA s + i) (omega arith) (omega arith) .of-b i (omega arith) refl);
-          edges = run-each (Sides (EdgeOk (tablesOf s .b .faces))) (faceAt s) (facesA s) (facesB s) (λ i a b. ok .sides i (omega arith) .of-b a);
+          edges = run-each (Sides (EdgeOk (tablesOf s .b .faces))) (faceAt s) (facesA s) (facesB s)
+              (λ i a b. ok .sides i (omega arith) .of-b a);
         }
 
     marked : Marked s
@@ -91,7 +93,8 @@ module _ (l : Limits) (s : List ℕ) where
           somewhere = λ e. ok .somewhere;
           corners =
               record {
-                of-a = λ i b e. each-run (FaceOf 0 (vertsA s)) (faceAt s) 0 (facesA s) (rw (size-a s) at (ok .a .corners)) i (omega arith) (omega arith);
+                of-a = λ i b e. each-run (FaceOf 0 (vertsA s)) (faceAt s) 0 (facesA s) (rw (size-a s) at (ok .a .corners)) i
+                    (omega arith) (omega arith);
                 of-b = λ i a b e. each-run (FaceOf 0 (vertsB s)) (faceAt s) (facesA s) (facesB s) (rw (size-b s) at (ok .b .corners)) i a b;
               };
         }
@@ -118,7 +121,8 @@ module _ (l : Limits) (s : List ℕ) where
           sides =
               λ i b.
               record {
-                of-a = λ c. each-run (Sides (EdgeOk (tablesOf s .a .faces))) (faceAt s) 0 (facesA s) (ok .a .edges) i (omega arith) (omega arith);
+                of-a = λ c. each-run (Sides (EdgeOk (tablesOf s .a .faces))) (faceAt s) 0 (facesA s) (ok .a .edges) i
+                    (omega arith) (omega arith);
                 of-b = λ c. each-run (Sides (EdgeOk (tablesOf s .b .faces))) (faceAt s) (facesA s) (facesB s) (ok .b .edges) i c b;
               };
         }

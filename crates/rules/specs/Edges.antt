@@ -32,7 +32,8 @@ module _ (s : List ℕ) where
     unfolding edgeOk isEdge
     edge-iff v w =
         Iff·trans (eqb-iff (countOf (isEdge s v w) a e % 2) 0)
-        (rw (count-run (faceAt s) (hasBoth v w) (isEdge s v w) a e n long (λ i. refl)) (even-iff (Both v w) (hasBoth v w) (both-iff v w) fs))
+        (rw (count-run (faceAt s) (hasBoth v w) (isEdge s v w) a e n long (λ i. refl))
+        (even-iff (Both v w) (hasBoth v w) (both-iff v w) fs))
 
     sides-iff : (i : ℕ) → (sidesOk s a e i ≡ true) ↔ Sides (EdgeOk fs) (faceAt s i)
     unfolding sidesOk
@@ -56,7 +57,10 @@ module _ (s : List ℕ) where
       go (yes c) =
           rw (used-of-b s p c)
           (Iff·trans (some-iff (facesA s) (faces s) (facesB s) (omega arith) (p - vertsA s)) (
-            λ x. record { of-a = λ d. absurd (omega arith); of-b = λ v d e. subst (λ (v : ℕ). Some (Corner v) (tablesOf s .b .faces)) (omega arith) x },
+            λ x. record {
+              of-a = λ d. absurd (omega arith);
+              of-b = λ v d e. subst (λ (v : ℕ). Some (Corner v) (tablesOf s .b .faces)) (omega arith) x;
+            },
             λ u. u .of-b (p - vertsA s) (omega arith) (omega arith),
           ))
 

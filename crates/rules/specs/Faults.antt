@@ -20,7 +20,8 @@ use Rattle.rules.specs.Numbers.{turnOf, Gives, gives, gives-none, rule-n
 -- ---- one record
 
 -- a test that passes, before what is at fault at a place (X)
-passed : {P Q X : Type 0} {b : Bool} → (b ≡ true) ↔ P → (r : Refusal) {q : Refusal} (k : Judged) → turnOf r < turnOf q → (k ≡ Refused q) ↔ (X × Q) →
+passed : {P Q X : Type 0} {b : Bool} → (b ≡ true) ↔ P → (r : Refusal) {q : Refusal} (k : Judged) → turnOf r < turnOf q →
+    (k ≡ Refused q) ↔ (X × Q) →
     (rule b r k ≡ Refused q) ↔ (X × (P × Q))
 passed e r k l f = Iff·trans (rule-next e r k l f) (λ h. (h .1 .0, (h .0, h .1 .1)), λ h. (h .1 .0, (h .0, h .1 .1)))
 
@@ -51,7 +52,8 @@ module _ (l : Limits) (s : List ℕ) (k : ℕ) (from : 1 ≤ k) (to : k ≤ last
     record-nowhere =
         rw (t .fault)
         (passed (t .mark-iff) (Mark k) _ (omega arith) (passed (t .coordinates-iff) (Coordinate k) _ (omega arith)
-        (passed (t .weight-iff) (Weight k) _ (omega arith) (rule-at (t .somewhere-iff) Nowhere (λ i. refl) k p _ 8 (search gives depth 8)))))
+        (passed (t .weight-iff) (Weight k) _ (omega arith)
+        (rule-at (t .somewhere-iff) Nowhere (λ i. refl) k p _ 8 (search gives depth 8)))))
 
     pub record-corner : (recordFault l s k ≡ Refused (Corner p)) ↔
         ((k ≡ p) × (MarkOk s k × (CoordinatesOk l s k × (WeightOk l s k × (SomewhereOk s k × ¬ CornersOk s k)))))

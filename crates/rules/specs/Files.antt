@@ -89,7 +89,8 @@ point-bytes least fit m h r ok =
 face-bytes : (v : ℕ) → v < 256 → (f : Face) → FaceOf 0 v f → Each Byte (faceBytes f)
 face-bytes v l f ok = omega arith
 
-all-bytes : {A : Type 0} (P : A → Type 0) (f : A → List ℕ) → ((x : A) → P x → Each Byte (f x)) → (xs : List A) → Each P xs → Each Byte (flatMap f xs)
+all-bytes : {A : Type 0} (P : A → Type 0) (f : A → List ℕ) → ((x : A) → P x → Each Byte (f x)) → (xs : List A) → Each P xs →
+    Each Byte (flatMap f xs)
 unfolding flatMap
 all-bytes P f g [] h = tt
 all-bytes P f g (x ∷ xs) h = each-append Byte (f x) (flatMap f xs) (g x (h .0)) (all-bytes P f g xs (h .1))
@@ -99,7 +100,8 @@ module _ {l : Limits} (fit : Fit l) where
   rows-bytes k h = all-bytes (RowOk 1 l) (pointBytes markVX) (point-bytes 1 fit markVX (omega arith)) (k .rows) (h .rows)
 
   faces-bytes : (k : Table) → TableOk l k → Each Byte (flatMap faceBytes (k .faces))
-  faces-bytes k h = all-bytes (FaceOf 0 (size k)) faceBytes (face-bytes (size k) (omega (arith, fit .vertices, h .vertices .1))) (k .faces) (h .corners)
+  faces-bytes k h =
+      all-bytes (FaceOf 0 (size k)) faceBytes (face-bytes (size k) (omega (arith, fit .vertices, h .vertices .1))) (k .faces) (h .corners)
 
   module _ (t : Tables) (ok : TablesOk l t) where
     header-bytes : Each Byte (header t)

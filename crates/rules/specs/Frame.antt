@@ -1,5 +1,5 @@
--- A row reads only its record, and a face only its record and the header's counts: where the bytes of those are the same, so is the row or the face.
--- Assumes nothing.
+-- A row reads only its record, and a face only its record and the header's counts: where the bytes of those are the same, so is the row or
+-- the face. Assumes nothing.
 use mathlib.Core.Path.{_≡_, ap, ap₂, _∙_}
 use mathlib.Core.List.{List}
 use Prim.Native.Nat.{ℕ, _+_, _*_, _≤_, _<_}

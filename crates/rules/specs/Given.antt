@@ -1,4 +1,5 @@
--- What acceptance gives to the floors above: the rows, the faces and the edges of an accepted scene, by the scene's own numbers. Assumes nothing.
+-- What acceptance gives to the floors above: the rows, the faces and the edges of an accepted scene, by the scene's own numbers.
+-- Assumes nothing.
 use mathlib.Core.Path.{_≡_, refl, sym, ap, _∙_, subst}
 use mathlib.Core.Logic.{_≢_, _↔_, inl, inr}
 use mathlib.Core.List.{List, map}
@@ -60,7 +61,9 @@ module _ (m : ℕ) where
 
 module _ (s : List ℕ) where
   pub faces-a : run (face (tablesOf s)) 1 (facesA s) ≡ tablesOf s .a .faces
-  faces-a = run-from (face (tablesOf s)) (faceAt s) 1 0 (facesA s) (λ i b. face-a s (1 + i) (omega arith) (omega arith) ∙ ap (faceAt s) (omega arith))
+  faces-a =
+      run-from (face (tablesOf s)) (faceAt s) 1 0 (facesA s)
+      (λ i b. face-a s (1 + i) (omega arith) (omega arith) ∙ ap (faceAt s) (omega arith))
 
   pub faces-b : run (face (tablesOf s)) (facesA s + 1) (facesB s) ≡ map (raise (vertsA s)) (tablesOf s .b .faces)
   faces-b =
@@ -115,7 +118,9 @@ module _ (l : Limits) (s : List ℕ) (ok : judgedAt l s ≡ Accepted) where
 
   -- every point but the last, the far point, has a weight that is not 0
   pub weighted : (i : ℕ) → 1 ≤ i → i < points (tablesOf s) → row (tablesOf s) i .w ≢ pos 0
-  weighted i a b = subst (λ (r : Row). r .w ≢ pos 0) (sym (row-is s i a (omega (arith, points-are s)))) (vertex-weighted i a (omega (arith, points-are s)))
+  weighted i a b =
+      subst (λ (r : Row). r .w ≢ pos 0) (sym (row-is s i a (omega (arith, points-are s))))
+      (vertex-weighted i a (omega (arith, points-are s)))
 
   -- ---- faces
 
@@ -125,14 +130,16 @@ module _ (l : Limits) (s : List ℕ) (ok : judgedAt l s ≡ Accepted) where
   pub each-of-b : Each (FaceOf (vertsA s) (verts s)) (run (face (tablesOf s)) (facesA s + 1) (facesB s))
   each-of-b =
       rw (faces-b s)
-      (each-mapped (FaceOf 0 (vertsB s)) (FaceOf (vertsA s) (verts s)) (raise (vertsA s)) (face-raised (vertsA s) (vertsB s)) (tablesOf s .b .faces)
+      (each-mapped (FaceOf 0 (vertsB s)) (FaceOf (vertsA s) (verts s)) (raise (vertsA s)) (face-raised (vertsA s) (vertsB s))
+      (tablesOf s .b .faces)
       (rw (size-b s) at (tables-ok .b .corners)))
 
   pub face-of-a : (k : ℕ) → 1 ≤ k → k ≤ facesA s → FaceOf 0 (vertsA s) (face (tablesOf s) k)
   face-of-a k a b = each-run (FaceOf 0 (vertsA s)) (face (tablesOf s)) 1 (facesA s) each-of-a k a (omega arith)
 
   pub face-of-b : (k : ℕ) → facesA s < k → k ≤ faces s → FaceOf (vertsA s) (verts s) (face (tablesOf s) k)
-  face-of-b k a b = each-run (FaceOf (vertsA s) (verts s)) (face (tablesOf s)) (facesA s + 1) (facesB s) each-of-b k (omega arith) (omega arith)
+  face-of-b k a b =
+      each-run (FaceOf (vertsA s) (verts s)) (face (tablesOf s)) (facesA s + 1) (facesB s) each-of-b k (omega arith) (omega arith)
 
   pub faces-within : FacesWithin l (face (tablesOf s))
   faces-within k = go (decLt 0 k) (decLt (facesA s) k) (decLt (faces s) k) (counts .vertices-a) (counts .vertices-b)

@@ -1,4 +1,5 @@
--- The table of refusals 1 to 9 and 14: what gives each of them, at which place, where nothing earlier in the order of checking is at fault. Assumes nothing.
+-- The table of refusals 1 to 9 and 14: what gives each of them, at which place, where nothing earlier in the order of checking is at fault.
+-- Assumes nothing.
 use mathlib.Core.Path.{_≡_}
 use mathlib.Core.List.{List}
 use Prim.Native.Nat.{ℕ, _≤_, _<_}

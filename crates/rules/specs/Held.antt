@@ -80,7 +80,8 @@ module _ {A : Type 0} (f : A → List ℕ) (c : ℕ) (long : (x : A) → length 
   length-all (x ∷ xs) = length-append (f x) (flatMap f xs) ∙ omega (arith, long x, length-all xs)
 
   module _ (s : List ℕ) (place : ℕ → ℕ) (step : (i : ℕ) → place (suc i) ≡ place i + c) where
-    pub all-held : (g : ℕ → A) (k n : ℕ) → ((i : ℕ) → k ≤ i → i < k + n → Held s (place i) (f (g i))) → Held s (place k) (flatMap f (run g k n))
+    pub all-held : (g : ℕ → A) (k n : ℕ) → ((i : ℕ) → k ≤ i → i < k + n → Held s (place i) (f (g i))) →
+        Held s (place k) (flatMap f (run g k n))
     unfolding flatMap
     all-held g k zero h = record { from = tt }
     all-held g k (suc n) h =

@@ -82,11 +82,13 @@ module _ {P : Type 0} {b : Bool} (e : (b ≡ true) ↔ P) (r : Refusal) {q : Ref
       go false e = (λ p. absurd (let n = ap turnOf (same p) in omega arith), λ h. absurd (false≢true (e .1 (h .0))))
 
 -- the one refusal r of a rule
-pub rule-alone : {P : Type 0} {b : Bool} → (b ≡ true) ↔ P → (r : Refusal) (k : Judged) (high : ℕ) → Gives (suc (turnOf r)) high k → (rule b r k ≡ Refused r) ↔ ¬ P
+pub rule-alone : {P : Type 0} {b : Bool} → (b ≡ true) ↔ P → (r : Refusal) (k : Judged) (high : ℕ) → Gives (suc (turnOf r)) high k →
+    (rule b r k ≡ Refused r) ↔ ¬ P
 rule-alone e r k high g = Iff·trans (rule-here e r k high g) (λ h. h .1, λ n. (refl, n))
 
 -- the refusal K of a rule, at the place i
-pub rule-at : {P : Type 0} {b : Bool} → (b ≡ true) ↔ P → (K : ℕ → Refusal) → ((i : ℕ) → placeOf (K i) ≡ i) → (i p : ℕ) (k : Judged) (high : ℕ) →
+pub rule-at : {P : Type 0} {b : Bool} → (b ≡ true) ↔ P → (K : ℕ → Refusal) → ((i : ℕ) → placeOf (K i) ≡ i) →
+    (i p : ℕ) (k : Judged) (high : ℕ) →
     Gives (suc (turnOf (K p))) high k → (rule b (K i) k ≡ Refused (K p)) ↔ ((i ≡ p) × ¬ P)
 rule-at e K place i p k high g =
     Iff·trans (rule-here e (K i) k high g) (λ h. (sym (place i) ∙ ap placeOf (h .0) ∙ place p, h .1), λ h. (ap K (h .0), h .1))

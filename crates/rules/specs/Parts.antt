@@ -33,23 +33,29 @@ module _ (l : Limits) (s : List ℕ) where
   edges-give = gives-first 10 10 (edgeFault s) 0 (faces s) (λ i a b. search gives)
 
   after-records : Gives 9 10 (andThen (unusedsFault s) (edgesFault s))
-  after-records = gives-then 9 10 _ _ (gives-wider 9 10 (omega arith) (omega arith) unused-give) (gives-wider 9 10 (omega arith) (omega arith) edges-give)
+  after-records =
+      gives-then 9 10 _ _ (gives-wider 9 10 (omega arith) (omega arith) unused-give)
+      (gives-wider 9 10 (omega arith) (omega arith) edges-give)
 
   after-header : Gives 4 10 (andThen (recordsFault l s) (andThen (unusedsFault s) (edgesFault s)))
   after-header =
-      gives-then 4 10 _ _ (gives-wider 4 10 (omega arith) (omega arith) records-give) (gives-wider 4 10 (omega arith) (omega arith) after-records)
+      gives-then 4 10 _ _ (gives-wider 4 10 (omega arith) (omega arith) records-give)
+      (gives-wider 4 10 (omega arith) (omega arith) after-records)
 
   -- a scene is refused at the turns 1 to 10 only
   pub judge-gives : Gives 1 10 (judgedAt l s)
   unfolding judgedAt
-  judge-gives = gives-then 1 10 _ _ (gives-wider 1 10 (omega arith) (omega arith) header-gives) (gives-wider 1 10 (omega arith) (omega arith) after-header)
+  judge-gives =
+      gives-then 1 10 _ _ (gives-wider 1 10 (omega arith) (omega arith) header-gives)
+      (gives-wider 1 10 (omega arith) (omega arith) after-header)
 
   module _ (r : Refusal) where
     pub by-header : turnOf r ≤ 3 → (judgedAt l s ≡ Refused r) ↔ (headerFault l s ≡ Refused r)
     unfolding judgedAt
     by-header h = then-here _ _ r 10 (gives-wider (suc (turnOf r)) 10 (omega arith) (omega arith) after-header)
 
-    pub by-records : 4 ≤ turnOf r → turnOf r ≤ 8 → (judgedAt l s ≡ Refused r) ↔ (HeaderOk l s × First (recordFault l s) 1 (lastRecord s + 1) r)
+    pub by-records : 4 ≤ turnOf r → turnOf r ≤ 8 →
+        (judgedAt l s ≡ Refused r) ↔ (HeaderOk l s × First (recordFault l s) 1 (lastRecord s + 1) r)
     unfolding judgedAt recordsFault
     by-records a b =
         then-next _ _ r 1 3 header-gives (omega arith) (header-iff l s)

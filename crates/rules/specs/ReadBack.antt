@@ -19,7 +19,8 @@ use Rattle.scene.specs.Written.{signed-unsigned}
 use Rattle.rules.specs.Write.{pointBytes, faceBytes, header, bytesOf}
 use Rattle.rules.specs.Held.{Held, left, right, byte-of, itself, length-all, all-read}
 
-read-two : {s l : List ℕ} {k : ℕ} (n i : ℕ) → Held s k l → i + 1 < length l → getD l i 0 ≡ n % 256 → getD l (i + 1) 0 ≡ n / 256 → twoAt s (k + i) ≡ n
+read-two : {s l : List ℕ} {k : ℕ} (n i : ℕ) → Held s k l → i + 1 < length l → getD l i 0 ≡ n % 256 → getD l (i + 1) 0 ≡ n / 256 →
+    twoAt s (k + i) ≡ n
 unfolding twoAt
 read-two {s} {l} {k} n i h b low high =
     let x = byte-of h (k + i) i refl (omega arith) in
@@ -35,7 +36,8 @@ module _ (s : List ℕ) where
   unfolding coordinateAt
   read-coordinate k i z h b small low high = ap (signed 32768) (read-two (unsigned 32768 z) i h b low high) ∙ signed-unsigned 32768 z small
 
-  read-point : {l : Limits} (least : ℕ) → Fit l → (m j : ℕ) (r : Row) → RowOk least l r → Held s (pointStart j) (pointBytes m r) → rowAt s j ≡ r
+  read-point : {l : Limits} (least : ℕ) → Fit l → (m j : ℕ) (r : Row) → RowOk least l r →
+      Held s (pointStart j) (pointBytes m r) → rowAt s j ≡ r
   unfolding weightAt
   read-point least fit m j r ok h =
       let k = pointStart j in
@@ -82,7 +84,9 @@ module _ (t : Tables) where
       (omega (arith, length-all (pointBytes markVX) 9 (λ r. refl) (t .a .rows))) vertices-stand
 
   faces-stand : Held s (faceStart s 0) rest
-  faces-stand = right (flatMap (pointBytes markVX) (t .b .rows)) rest (omega (arith, length-all (pointBytes markVX) 9 (λ r. refl) (t .b .rows))) b-stands
+  faces-stand =
+      right (flatMap (pointBytes markVX) (t .b .rows)) rest
+      (omega (arith, length-all (pointBytes markVX) 9 (λ r. refl) (t .b .rows))) b-stands
 
   faces-b-stand : Held s (faceStart s (length (t .a .faces))) (flatMap faceBytes (t .b .faces) ++ two markEN)
   faces-b-stand =
@@ -90,7 +94,8 @@ module _ (t : Tables) where
       (omega (arith, length-all faceBytes 5 (λ f. refl) (t .a .faces))) faces-stand
 
   pub end-stands : Held s (endStart s) (two markEN)
-  end-stands = right (flatMap faceBytes (t .b .faces)) (two markEN) (omega (arith, length-all faceBytes 5 (λ f. refl) (t .b .faces))) faces-b-stand
+  end-stands =
+      right (flatMap faceBytes (t .b .faces)) (two markEN) (omega (arith, length-all faceBytes 5 (λ f. refl) (t .b .faces))) faces-b-stand
 
   pub a-rows : Held s (pointStart 1) (flatMap (pointBytes markVX) (t .a .rows))
   a-rows = left (flatMap (pointBytes markVX) (t .a .rows)) (flatMap (pointBytes markVX) (t .b .rows) ++ rest) vertices-stand
@@ -104,12 +109,17 @@ module _ (t : Tables) where
   pub b-faces : Held s (faceStart s (length (t .a .faces))) (flatMap faceBytes (t .b .faces))
   b-faces = left (flatMap faceBytes (t .b .faces)) (two markEN) faces-b-stand
 
-  read-faces : (P : Face → Type 0) (k : ℕ) (fs : List Face) → Each P fs → Held s (faceStart s k) (flatMap faceBytes fs) → run (faceAt s) k (length fs) ≡ fs
-  read-faces P k fs ok h = all-read faceBytes 5 (λ f. refl) s (faceStart s) (λ i. omega arith) P (faceAt s) (λ i f u. read-face s i f) fs k ok h
+  read-faces : (P : Face → Type 0) (k : ℕ) (fs : List Face) → Each P fs → Held s (faceStart s k) (flatMap faceBytes fs) →
+      run (faceAt s) k (length fs) ≡ fs
+  read-faces P k fs ok h =
+      all-read faceBytes 5 (λ f. refl) s (faceStart s) (λ i. omega arith) P (faceAt s) (λ i f u. read-face s i f) fs k ok h
 
   module _ {l : Limits} (fit : Fit l) where
-    read-rows : (k : ℕ) (rs : List Row) → Each (RowOk 1 l) rs → Held s (pointStart k) (flatMap (pointBytes markVX) rs) → run (rowAt s) k (length rs) ≡ rs
-    read-rows k rs ok h = all-read (pointBytes markVX) 9 (λ r. refl) s pointStart (λ i. omega arith) (RowOk 1 l) (rowAt s) (read-point s 1 fit markVX) rs k ok h
+    read-rows : (k : ℕ) (rs : List Row) → Each (RowOk 1 l) rs → Held s (pointStart k) (flatMap (pointBytes markVX) rs) →
+        run (rowAt s) k (length rs) ≡ rs
+    read-rows k rs ok h =
+        all-read (pointBytes markVX) 9 (λ r. refl) s pointStart (λ i. omega arith) (RowOk 1 l) (rowAt s)
+        (read-point s 1 fit markVX) rs k ok h
 
     pub read-back : TablesOk l t → tablesOf (bytesOf t) ≡ t
     read-back ok =

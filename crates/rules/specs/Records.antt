@@ -1,4 +1,5 @@
--- The judge's five tests of a record decide the five rules of that record, and the record is refused by the first that fails. Assumes nothing.
+-- The judge's five tests of a record decide the five rules of that record, and the record is refused by the first that fails.
+-- Assumes nothing.
 use mathlib.Core.Path.{_≡_, refl, sym, ap, _∙_, subst}
 use mathlib.Core.Logic.{_↔_, Iff·trans}
 use mathlib.Core.Bool.{Bool, true, false, _&&_}
@@ -12,7 +13,8 @@ use borrow.Author.Tests.{not-true}
 use Rattle.laws.specs.Decides.{decides, eqb-iff, always, fails-iff}
 use Rattle.scene.specs.Limits.{Limits, leastWeight}
 use Rattle.scene.specs.Bytes.{twoAt}
-use Rattle.scene.specs.Records.{vertsA, vertsB, facesA, verts, faces, faceRecord, lastRecord, pointStart, faceStart, endStart, markVX, markFC, markEN}
+use Rattle.scene.specs.Records.{vertsA, vertsB, facesA, verts, faces, faceRecord, lastRecord, pointStart, faceStart, endStart, markVX}
+use Rattle.scene.specs.Records.{markFC, markEN}
 use Rattle.scene.specs.Tables.{rowAt, faceAt}
 use Rattle.scene.specs.Faces.{FaceOf}
 use Rattle.scene.specs.declared.Refusal.{Refusal}
@@ -28,7 +30,8 @@ use Rattle.judge.specs.Tests.{accepts, within-iff}
 -- the rules of record k in the order of checking, by their tests
 abbrev pub inOrder : (k : ℕ) (mark coordinates weight somewhere corners : Bool) → Judged
 inOrder k mark coordinates weight somewhere corners =
-    rule mark (Mark k) (rule coordinates (Coordinate k) (rule weight (Weight k) (rule somewhere (Nowhere k) (rule corners (Corner k) Accepted))))
+    rule mark (Mark k)
+    (rule coordinates (Coordinate k) (rule weight (Weight k) (rule somewhere (Nowhere k) (rule corners (Corner k) Accepted))))
 
 pub record Tested (l : Limits) (s : List ℕ) (k : ℕ) : Type 0 where
   pub mark : Bool
@@ -110,13 +113,15 @@ module _ (l : Limits) (s : List ℕ) where
   zeros-iff : (nowhere s ≡ true) ↔ Zeros (rowAt s 0)
   unfolding nowhere
   zeros-iff = (
-    λ p. let c = simp decides at p in record { x = size-zero _ (c .0); y = size-zero _ (c .1 .0); z = size-zero _ (c .1 .1 .0); w = size-zero _ (c .1 .1 .1) },
+    λ p. let c = simp decides at p in
+        record { x = size-zero _ (c .0); y = size-zero _ (c .1 .0); z = size-zero _ (c .1 .1 .0); w = size-zero _ (c .1 .1 .1) },
     λ h. simp decides (ap natAbs (h .x), (ap natAbs (h .y), (ap natAbs (h .z), ap natAbs (h .w)))),
   )
 
   point-somewhere : (j : ℕ) → (somewhereOk s j ≡ true) ↔ SomewhereOk s (j + 1)
   unfolding somewhereOk
-  point-somewhere zero = (λ e q. fails-iff (nowhere s) zeros-iff .0 (not-true (nowhere s) e), λ n. rw (fails-iff (nowhere s) zeros-iff .1 (n refl)))
+  point-somewhere zero =
+      (λ e q. fails-iff (nowhere s) zeros-iff .0 (not-true (nowhere s) e), λ n. rw (fails-iff (nowhere s) zeros-iff .1 (n refl)))
   point-somewhere (suc j) = always (λ e. absurd (omega arith))
 
   point-tested : (j : ℕ) → j ≤ verts s → Tested l s (j + 1)

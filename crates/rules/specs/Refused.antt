@@ -57,8 +57,16 @@ module _ (l : Limits) (s : List ℕ) where
         λ h.
             let a = h .0 in
             let before : (j : ℕ) → 1 ≤ j → j < p → recordFault l s j ≡ Accepted =
-            λ j b c. record-iff l s j b (omega (arith, a .to)) .1 (a .earlier j b c) in
-            (a .header, record { at = p; from = a .from; to = omega (arith, a .to); here = here p (a .from) (a .to) p .1 (refl, h .1); before = before }),
+            λ j b c. record-iff l s j b (omega (arith, a .to)) .1 (a .earlier j b c) in (
+              a .header,
+              record {
+                at = p;
+                from = a .from;
+                to = omega (arith, a .to);
+                here = here p (a .from) (a .to) p .1 (refl, h .1);
+                before = before;
+              },
+            ),
       )
 
   -- ---- refusal 8
@@ -109,9 +117,11 @@ module _ (l : Limits) (s : List ℕ) where
   refused Length = refused-3
   refused (Mark k) = at-record Mark (λ k. ¬ MarkOk s k) (λ p. omega arith) (record-mark l s) k
   refused (Coordinate k) = at-record Coordinate (λ k. MarkOk s k × ¬ CoordinatesOk l s k) (λ p. omega arith) (record-coordinate l s) k
-  refused (Weight k) = at-record Weight (λ k. MarkOk s k × (CoordinatesOk l s k × ¬ WeightOk l s k)) (λ p. omega arith) (record-weight l s) k
+  refused (Weight k) =
+      at-record Weight (λ k. MarkOk s k × (CoordinatesOk l s k × ¬ WeightOk l s k)) (λ p. omega arith) (record-weight l s) k
   refused (Nowhere k) =
-      at-record Nowhere (λ k. MarkOk s k × (CoordinatesOk l s k × (WeightOk l s k × ¬ SomewhereOk s k))) (λ p. omega arith) (record-nowhere l s) k
+      at-record Nowhere (λ k. MarkOk s k × (CoordinatesOk l s k × (WeightOk l s k × ¬ SomewhereOk s k))) (λ p. omega arith)
+      (record-nowhere l s) k
   refused (Corner k) =
       at-record Corner (λ k. MarkOk s k × (CoordinatesOk l s k × (WeightOk l s k × (SomewhereOk s k × ¬ CornersOk s k)))) (λ p. omega arith)
       (record-corner l s) k

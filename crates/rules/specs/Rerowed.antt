@@ -27,7 +27,8 @@ pub record Rerowed (s t : List ℕ) : Type 0 where
   pub behind : (k n : ℕ) → 15 + verts s * 9 ≤ k → Same t s k n
 
 -- a solid with the same faces and as many vertices
-table-frame : (k′ k : Table) → k′ .faces ≡ k .faces → size k′ ≡ size k → Each (RowOk 1 limits) (k′ .rows) → TableOk limits k → TableOk limits k′
+table-frame : (k′ k : Table) → k′ .faces ≡ k .faces → size k′ ≡ size k → Each (RowOk 1 limits) (k′ .rows) → TableOk limits k →
+    TableOk limits k′
 table-frame k′ k f z rows ok =
     record {
       vertices = rw z (ok .vertices);
@@ -75,7 +76,8 @@ module _ (s t : List ℕ) (h : Rerowed s t) where
         far = two-frame t s (pointStart 0) (h .mark 0 (omega arith)) ∙ m .far;
         vertex = λ i l u. two-frame t s (pointStart i) (h .mark i (omega arith)) ∙ m .vertex i l (omega arith);
         face = λ i u.
-            ap (twoAt t) (omega arith) ∙ two-frame t s (faceStart s i) (h .behind (faceStart s i) 2 (omega arith)) ∙ m .face i (omega arith);
+            ap (twoAt t) (omega arith) ∙ two-frame t s (faceStart s i) (h .behind (faceStart s i) 2 (omega arith))
+            ∙ m .face i (omega arith);
         end = ap (twoAt t) (omega arith) ∙ two-frame t s (endStart s) (h .behind (endStart s) 2 (omega arith)) ∙ m .end;
       }
 

@@ -7,7 +7,8 @@ use lib.ListN.{length, length-append}
 use Rattle.laws.specs.Lists.{run, length-run}
 use Rattle.scene.specs.Limits.{Limits}
 use Rattle.scene.specs.Bytes.{byteAt, twoAt, coordinateAt, weightAt}
-use Rattle.scene.specs.Records.{vertsA, vertsB, verts, facesA, facesB, faces, pointStart, faceStart, endStart, markSC, markFP, markVX, markFC, markEN}
+use Rattle.scene.specs.Records.{vertsA, vertsB, verts, facesA, facesB, faces, pointStart, faceStart, endStart}
+use Rattle.scene.specs.Records.{markSC, markFP, markVX, markFC, markEN}
 use Rattle.scene.specs.Tables.{Tables, size, rowAt, faceAt, cornerAt, tablesOf}
 use Rattle.scene.specs.Read.{size-a, size-b}
 use Rattle.judge.specs.Judge.{judgedAt}
@@ -92,7 +93,8 @@ module _ (s : List ℕ) (bytes : Bytes s) where
         (join (faces-held (facesA s) (facesB s) (omega arith)) (omega (arith, faces-length (facesA s) (facesB s)))
         (two-held (endStart s) markEN (m .end)))))))
 
-pub file-length : (t : Tables) → length (bytesOf t) ≡ 17 + (size (t .a) + size (t .b)) * 9 + (length (t .a .faces) + length (t .b .faces)) * 5
+pub file-length : (t : Tables) →
+    length (bytesOf t) ≡ 17 + (size (t .a) + size (t .b)) * 9 + (length (t .a .faces) + length (t .b .faces)) * 5
 file-length t =
     let va = flatMap (pointBytes markVX) (t .a .rows) in
     let vb = flatMap (pointBytes markVX) (t .b .rows) in

@@ -11,7 +11,8 @@ returns c =
     c .before .before .before .before .before .before .before .before .before .before .before .before .before .before .before
     .before .before .before .before .before .before .before in
     gathered (now (s .args .s)) (s .pre)
-    (c .before .before .before .before .before .before .before .before .before .before .before .before .before .before .before .survey-of .ensures)
+    (c .before .before .before .before .before .before .before .before .before .before .before .before .before .before .before
+    .survey-of .ensures)
     (search needs) (search needs) _ (search needs) (search needs)
 
 pub gather-spec : {M : Type 1} → statement M

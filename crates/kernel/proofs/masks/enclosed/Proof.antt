@@ -15,4 +15,5 @@ enclosed-spec =
     (tie.spec (λ c κs. search needs) (λ c. search needs) (λ c. search (refused-so Refused)) (λ c. search needs) (λ c κs. search needs)
     (λ c. search needs) (λ c. search (own-refused Refused)) (λ c. search needs) (λ c κs. search needs) (λ c κs. search needs)
     (λ c κs. search (far-outside, enclosed-vertex, accepted-so)) (λ c κs. search needs)
-    (λ c. search (both-accept Refused, accepted-so, yes-so, enclosed-found)) (λ c. search (both-accept Refused, accepted-so, no-so, enclosed-found)))
+    (λ c. search (both-accept Refused, accepted-so, yes-so, enclosed-found))
+    (λ c. search (both-accept Refused, accepted-so, no-so, enclosed-found)))
