@@ -1,7 +1,7 @@
--- Demand 1. "Every question takes the scene's bytes, so a scene refusal (1 to 9, and 14) always comes before the question's own (10 to 12)", "11 comes before
--- 12", and "Each number carries its place and nothing else": for each question, the refusals that it can give and for each of them exactly when, nothing
--- earlier in the order being at fault. The statement is `Answers`; its proof is `AnswersProof.answers`. In numbers and
--- places it is `Numbers`. Assumes nothing.
+-- Demand 1. "Every question takes the scene's bytes, so a scene refusal (1 to 9, and 14) always comes before the question's own (10 to
+-- 12)", "11 comes before 12", and "Each number carries its place and nothing else": for each question, the refusals that it can give and
+-- for each of them exactly when, nothing earlier in the order being at fault. The statement is `Answers`; its proof is
+-- `AnswersProof.answers`. In numbers and places it is `Numbers`. Assumes nothing.
 use mathlib.Core.Path.{_≡_}
 use mathlib.Core.Logic.{_⊎_, _↔_}
 use mathlib.Core.List.{List, []}
@@ -16,7 +16,8 @@ use Rattle.rules.specs.Rules.{Between, FileOk}
 use Rattle.rules.specs.Grounds.{Grounds}
 use Rattle.record.specs.Shown.{refusal, shown}
 use Rattle.scene.specs.View.{viewOf}
-use Rattle.questions.specs.Answers.{signOf, piercesOf, maskedOf, refused, enclosedOf, countedOf, verdictOf, IsListed, IsPart, listingIn, insideOf}
+use Rattle.questions.specs.Answers.{signOf, piercesOf, maskedOf, refused, enclosedOf, countedOf, verdictOf}
+use Rattle.questions.specs.Answers.{IsListed, IsPart, listingIn, insideOf}
 use Rattle.questions.specs.declared.Signed.the-variants as sign
 use Rattle.questions.specs.declared.Answer.the-variants as answer
 use Rattle.questions.specs.declared.Counted.the-variants as counted
@@ -24,7 +25,8 @@ use Rattle.questions.specs.declared.Enclosing.the-variants as enclosing
 use Rattle.questions.specs.declared.Verdict.the-variants as verdict
 use Rattle.questions.specs.declared.Listed.{Listed}
 use Rattle.questions.specs.declared.Listed.the-variants as listed
-use Rattle.demands.specs.Words.{Vertex, RecordNumber, FourPoints, TwoAlike, EdgeAndFace, AlikeOrCorner, EdgeAndSolid, AlikeOrVertex, SolidNumber}
+use Rattle.demands.specs.Words.{Vertex, RecordNumber, FourPoints, TwoAlike, EdgeAndFace, AlikeOrCorner}
+use Rattle.demands.specs.Words.{EdgeAndSolid, AlikeOrVertex, SolidNumber}
 
 abbrev pub Never : Type 0
 Never = ⊥
@@ -44,8 +46,8 @@ abbrev pub OfScene : ℕ → Type 0
 OfScene n = Between 1 9 n ⊎ (n ≡ 14)
 
 -- a question with numbers that the scene has (Has) or lacks, with points that must differ and are the same (Alike) or not, and with a lent
--- list that may be too short for n pairs (Short n): 1 to 9 and 14 exactly where the scene is refused so; 13 never; and, of a scene that keeps
--- the rules, 10 where the list is too short, 11 where the scene lacks a number, and 12 where it has them all and points are the same
+-- list that may be too short for n pairs (Short n): 1 to 9 and 14 exactly where the scene is refused so; 13 never; and, of a scene that
+-- keeps the rules, 10 where the list is too short, 11 where the scene lacks a number, and 12 where it has them all and points are the same
 pub record Refusals (s : List ℕ) (Refuses : Refusal → Type 0) (Short : ℕ → Type 0) (Has Alike : Type 0) : Type 0 where
   pub scene : (r : Refusal) → OfScene (numberOf r) → Refuses r ↔ Grounds limits s r
   pub room : (n : ℕ) → Refuses (Room n) ↔ (FileOk limits s × Short n)

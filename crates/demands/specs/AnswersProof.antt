@@ -8,6 +8,7 @@ use native.Mathlib.Omega.{arith}
 use lib.Dec.{leb}
 use lib.ListN.{length}
 use Rattle.laws.specs.Decides.{leb-iff}
+use Rattle.laws.specs.Never.{nonsense}
 use Rattle.scene.specs.Limits.{limits, within}
 use Rattle.scene.specs.Records.{vertsA, verts, lastRecord}
 use Rattle.scene.specs.Tables.{tablesOf, row, face}
@@ -30,7 +31,8 @@ use Rattle.listing.specs.declared.find.Found.{Found}
 use Rattle.listing.specs.declared.find.Found.the-variants.{Nothing, Pair}
 use Rattle.scene.specs.View.{viewOf, solidA, solidB, solid}
 use Rattle.questions.specs.Laws.{answered-then}
-use Rattle.questions.specs.Answers.{answered, seen, refused, yesNo, isVertex, isSolid, signIn, signFault, signOf, piercesIn, piercesFault, piercesOf}
+use Rattle.questions.specs.Answers.{answered, seen, refused, yesNo, isVertex, isSolid, signIn, signFault}
+use Rattle.questions.specs.Answers.{signOf, piercesIn, piercesFault, piercesOf}
 use Rattle.questions.specs.Answers.{maskedIn, maskFault, maskedOf, enclosedIn, enclosedFault, isEnclosed, enclosedOf, countedOf}
 use Rattle.questions.specs.Answers.{insideFault, enclosingIn, insideOf, crossOr, enclosureIn, verdictIn, verdictOf}
 use Rattle.questions.specs.Answers.{listFault, listingIn, listedIn, heldIn, IsListed, IsPart}
@@ -41,9 +43,10 @@ use Rattle.questions.specs.declared.Enclosing.the-variants as enclosing
 use Rattle.questions.specs.declared.Verdict.the-variants as verdict
 use Rattle.questions.specs.declared.Listed.{Listed}
 use Rattle.questions.specs.declared.Listed.the-variants as listed
-use Rattle.demands.specs.Words.{Vertex, RecordNumber, FourPoints, TwoAlike, EdgeAndFace, AlikeOrCorner, EdgeAndSolid, AlikeOrVertex, SolidNumber}
+use Rattle.demands.specs.Words.{Vertex, RecordNumber, FourPoints, TwoAlike, EdgeAndFace, AlikeOrCorner}
+use Rattle.demands.specs.Words.{EdgeAndSolid, AlikeOrVertex, SolidNumber}
 use Rattle.demands.specs.Answers.{Refusals, Never, Always, NoList, TooShort, Answers}
-use Rattle.demands.specs.AnswersTests.{scene-turn, asked, plain, told, nonsense, answered-iff, twice-iff}
+use Rattle.demands.specs.AnswersTests.{scene-turn, asked, plain, told, answered-iff, twice-iff}
 use Rattle.demands.specs.AnswersTests.{points-iff, edge-iff, mask-iff, alike-points, alike-corner, alike-vertex}
 
 -- ---- an answer is no refusal
@@ -58,7 +61,8 @@ no-verdict s =
     go _ _ (firstOf (listingIn (viewOf s))) (leb (lowestInside (seen (viewOf s)) (solidA (viewOf s))) (vertsA s))
     (leb (lowestInside (seen (viewOf s)) (solidB (viewOf s))) (verts s))
   where
-    go : (p q : ℕ) (f : Found) (a b : Bool) (r : Refusal) → ¬ (crossOr f (cond a (verdict.AInB p) (cond b (verdict.BInA q) verdict.Apart)) ≡ verdict.Refused r)
+    go : (p q : ℕ) (f : Found) (a b : Bool) (r : Refusal) →
+        ¬ (crossOr f (cond a (verdict.AInB p) (cond b (verdict.BInA q) verdict.Apart)) ≡ verdict.Refused r)
     go p q (Pair u v f) a b r e = nonsense (cc)
     go p q Nothing true b r e = nonsense (cc)
     go p q Nothing false true r e = nonsense (cc)
@@ -91,7 +95,8 @@ module _ (s : List ℕ) where
 
   of-enclosed : (i : ℕ) → Refusals s (λ r. enclosedOf s i ≡ answer.Refused r) NoList (Vertex s i) Never
   unfolding enclosedOf enclosedIn enclosedFault isVertex rule
-  of-enclosed i = told s (twice-iff answer.Refused (λ q r e. cc) _ (no-refusal (isEnclosed (viewOf s) i)) (judged s) (enclosedFault (viewOf s) i))
+  of-enclosed i =
+      told s (twice-iff answer.Refused (λ q r e. cc) _ (no-refusal (isEnclosed (viewOf s) i)) (judged s) (enclosedFault (viewOf s) i))
       (asked s (within 1 (verts s) i) true (within-iff 1 (verts s) i) (λ h. no-alike))
 
   of-record : (k : ℕ) → Refusals s (λ r. refusal s k ≡ Refused r) NoList (RecordNumber s k) Never
@@ -167,7 +172,9 @@ module _ (s : List ℕ) where
 
   module _ (from : ℕ) (d d′ : List ℕ) (x : Listed) (h : IsPart s from d d′ x) where
     part-at : (r : Refusal) → (x ≡ listed.Refused r) ↔ (judged s ≡ Refused r)
-    part-at r = rw (h .answer) (answered-iff listed.Refused (λ q r e. cc) (listed.Count (length (listingIn (viewOf s)))) (λ r e. nonsense (cc)) (judged s) r)
+    part-at r =
+        rw (h .answer)
+        (answered-iff listed.Refused (λ q r e. cc) (listed.Count (length (listingIn (viewOf s)))) (λ r e. nonsense (cc)) (judged s) r)
 
     of-part : Refusals s (λ r. x ≡ listed.Refused r) NoList Always Never
     of-part = told s part-at (plain s)

@@ -1,14 +1,13 @@
--- A question's rules: the scene's come first, so that the turn of a refusal tells which of them gave it; and what the tests of each question decide.
--- Assumes nothing.
-use mathlib.Core.Path.{_≡_, refl, sym, ap, _∙_}
-use mathlib.Core.Logic.{_⊎_, inl, inr, ⊎-elim, _↔_, Iff·rfl, Iff·symm, Iff·trans, Iff·and}
-use mathlib.Core.Bool.{Bool, true, false, not, _&&_, true≢false}
+-- A question's rules: the scene's come first, so that the turn of a refusal tells which of them gave it; and what the tests of each
+-- question decide. Assumes nothing.
+use mathlib.Core.Path.{_≡_, refl, sym, ap}
+use mathlib.Core.Logic.{_⊎_, ⊎-elim, _↔_, Iff·rfl, Iff·symm, Iff·trans, Iff·and}
+use mathlib.Core.Bool.{Bool, true, false, not}
 use mathlib.Core.List.{List}
 use Prim.Native.Nat.{ℕ, suc, _≤_, _<_}
 use native.Mathlib.Omega.{arith}
 use lib.Dec.{eqb}
-use borrow.Author.Tests.{not-false}
-use Rattle.laws.specs.Decides.{eqb-iff, and-iff, fails-iff}
+use Rattle.laws.specs.Decides.{eqb-iff, and-iff, fails-iff, passes-iff, either-fails, not-fails}
 use Rattle.scene.specs.Limits.{limits}
 use Rattle.scene.specs.View.{viewOf}
 use Rattle.scene.specs.Tables.{tablesOf, face}
@@ -52,17 +51,6 @@ scene-turn (Buffer p) h = absurd (⊎-elim (λ k. omega arith) (λ k. omega arit
 
 -- ---- a test that fails
 
-either-fails : {P Q : Type 0} (a b : Bool) → (a ≡ false) ↔ P → (b ≡ false) ↔ Q → ((a && b) ≡ false) ↔ (P ⊎ Q)
-either-fails false b p q = (λ _. inl (p .0 refl), λ _. refl)
-either-fails {P} {Q} true b p q = (λ e. inr (q .0 e), back)
-  where
-    back : P ⊎ Q → b ≡ false
-    back (inl x) = absurd (true≢false (p .1 x))
-    back (inr y) = q .1 y
-
-not-fails : {P : Type 0} (b : Bool) → (b ≡ true) ↔ P → (not b ≡ false) ↔ P
-not-fails b h = (λ e. h .0 (not-false b e), λ x. ap not (h .1 x))
-
 same-fails : (a b : ℕ) → (other a b ≡ false) ↔ (a ≡ b)
 same-fails a b = not-fails (eqb a b) (eqb-iff a b)
 
@@ -92,7 +80,8 @@ module _ (s : List ℕ) where
           room = λ n. (λ e. absurd (neither (Room n) (omega arith) (λ h. omega arith) e), λ h. absurd (h .1));
           buffer = λ n. neither (Buffer n) (omega arith) (λ h. omega arith);
           lacking =
-              then-next (judged s) own Lacking 1 10 (judge-gives limits s) (omega arith) (accepted limits s) (rule-alone has Lacking alone 13 (search gives));
+              then-next (judged s) own Lacking 1 10 (judge-gives limits s) (omega arith) (accepted limits s)
+              (rule-alone has Lacking alone 13 (search gives));
           same =
               Iff·trans (then-next (judged s) own Same 1 10 (judge-gives limits s) (omega arith) (accepted limits s)
               (rule-next has Lacking alone (omega arith)
@@ -105,13 +94,9 @@ module _ (s : List ℕ) where
     asked-ok =
         Iff·trans (then-iff (judged s) own)
         (Iff·trans (Iff·and (accepted limits s) (Iff·trans (rule-iff p Lacking alone) (Iff·and has (rule-iff q Same Accepted)))) (
-          λ h. (h .0, h .1 .0, λ x. true≢false (sym (h .1 .1 .0) ∙ alike (h .1 .0) .1 x)),
-          λ h. (h .0, (h .1, (passes q (alike (h .1)) (h .2), refl))),
+          λ h. (h .0, h .1 .0, passes-iff q (alike (h .1 .0)) .0 (h .1 .1 .0)),
+          λ h. (h .0, (h .1, (passes-iff q (alike (h .1)) .1 (h .2), refl))),
         ))
-      where
-        passes : (q : Bool) → (q ≡ false) ↔ Alike → ¬ Alike → q ≡ true
-        passes true e n = refl
-        passes false e n = absurd (n (e .0 refl))
 
   -- no rules of its own
   pub plain : Refusals s (λ r. judged s ≡ Refused r) NoList Always Never
@@ -136,11 +121,9 @@ module _ (s : List ℕ) where
         same = Iff·trans (e Same) (t .same);
       }
 
-pub nonsense : {X : Type 0} → _≡_ {A = ℕ} 0 1 → X
-nonsense e = absurd (omega arith)
-
 -- an answer is a refusal exactly when something is at fault
-pub answered-iff : {X : Type 0} (refuse : Refusal → X) → ((q r : Refusal) → refuse q ≡ refuse r → q ≡ r) → (x : X) → ((r : Refusal) → ¬ (x ≡ refuse r)) →
+pub answered-iff : {X : Type 0} (refuse : Refusal → X) → ((q r : Refusal) → refuse q ≡ refuse r → q ≡ r) → (x : X) →
+    ((r : Refusal) → ¬ (x ≡ refuse r)) →
     (j : Judged) (r : Refusal) → (answered refuse j x ≡ refuse r) ↔ (j ≡ Refused r)
 unfolding answered
 answered-iff refuse one x not-refused Accepted r = (λ e. absurd (not-refused r e), λ e. absurd (never e))
@@ -154,7 +137,8 @@ answered-ok refuse v n Accepted x = (λ e. (refl, e), λ h. h .1)
 answered-ok refuse v n (Refused r) x = (λ e. absurd (n r e), λ h. absurd (never (sym (h .0))))
 
 -- the same of the judge's refusal, else the question's own
-pub twice-iff : {X : Type 0} (refuse : Refusal → X) → ((q r : Refusal) → refuse q ≡ refuse r → q ≡ r) → (x : X) → ((r : Refusal) → ¬ (x ≡ refuse r)) →
+pub twice-iff : {X : Type 0} (refuse : Refusal → X) → ((q r : Refusal) → refuse q ≡ refuse r → q ≡ r) → (x : X) →
+    ((r : Refusal) → ¬ (x ≡ refuse r)) →
     (j k : Judged) (r : Refusal) → (answered refuse j (answered refuse k x) ≡ refuse r) ↔ (andThen j k ≡ Refused r)
 twice-iff refuse one x n j k r = rw (answered-then refuse j k x) (answered-iff refuse one x n (andThen j k) r)
 
@@ -174,15 +158,18 @@ module _ (s : List ℕ) where
 
   pub edge-iff : (u v f : ℕ) → (edgeAndFace (viewOf s) u v f ≡ true) ↔ EdgeAndFace s u v f
   unfolding edgeAndFace isPoint isFace
-  edge-iff u v f = (λ e. let h = simp (and-iff, within-iff) at e in (h .0, h .1 .0, h .1 .1), λ h. simp (and-iff, within-iff) (h .0, (h .1, h .2)))
+  edge-iff u v f =
+      (λ e. let h = simp (and-iff, within-iff) at e in (h .0, h .1 .0, h .1 .1), λ h. simp (and-iff, within-iff) (h .0, (h .1, h .2)))
 
   pub mask-iff : (u v k : ℕ) → (edgeAndSolid (viewOf s) u v k ≡ true) ↔ EdgeAndSolid s u v k
   unfolding edgeAndSolid isPoint isSolid
-  mask-iff u v k = (λ e. let h = simp (and-iff, within-iff) at e in (h .0, h .1 .0, h .1 .1), λ h. simp (and-iff, within-iff) (h .0, (h .1, h .2)))
+  mask-iff u v k =
+      (λ e. let h = simp (and-iff, within-iff) at e in (h .0, h .1 .0, h .1 .1), λ h. simp (and-iff, within-iff) (h .0, (h .1, h .2)))
 
   vertex-iff : (k i : ℕ) → SolidNumber k → (isVertexOf (viewOf s) k i ≡ true) ↔ VertexOf s k i
   unfolding isVertexOf
-  vertex-iff k i h = Iff·trans (within-iff _ _ i) (λ x. vertex-of s k h i .0 (omega arith), λ x. let y = vertex-of s k h i .1 x in omega arith)
+  vertex-iff k i h =
+      Iff·trans (within-iff _ _ i) (λ x. vertex-of s k h i .0 (omega arith), λ x. let y = vertex-of s k h i .1 x in omega arith)
 
   pub alike-points : (a b c d : ℕ) → (differ a b c d ≡ false) ↔ TwoAlike a b c d
   unfolding differ

@@ -1,5 +1,5 @@
--- The judge of document 01 as it was before the requests: counts up to 32 and 64, no weight 0 and no refusal 14, an edge in exactly two faces.
--- Assumes nothing.
+-- The judge of document 01 as it was before the requests: counts up to 32 and 64, no weight 0 and no refusal 14, an edge in exactly two
+-- faces. Assumes nothing.
 use mathlib.Core.Bool.{Bool, cond, _&&_}
 use mathlib.Core.List.{List}
 use Prim.Native.Nat.{ℕ, _+_, _-_}
@@ -35,7 +35,8 @@ module _ (s : List ℕ) where
 
   abbrev pub sidesInTwo : (a e i : ℕ) → Bool
   sidesInTwo a e i =
-      inTwo a e (cornerAt s i 0) (cornerAt s i 1) && (inTwo a e (cornerAt s i 1) (cornerAt s i 2) && inTwo a e (cornerAt s i 2) (cornerAt s i 0))
+      inTwo a e (cornerAt s i 0) (cornerAt s i 1)
+      && (inTwo a e (cornerAt s i 1) (cornerAt s i 2) && inTwo a e (cornerAt s i 2) (cornerAt s i 0))
 
   abbrev pub edgeFaultBefore : ℕ → Judged
   edgeFaultBefore i =

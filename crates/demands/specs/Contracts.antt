@@ -1,6 +1,7 @@
--- The demands speak of the code. For each public function of the judge, of a record shown and of the questions: what its contract states, of the very relation
--- between arguments, answer and lent places that the function is proved to meet, is the definition that `Answers`, `Exact`, `Parity` and `Once`
--- are about. A contract that says less does not give it. The arguments are in the function's own order; κs are its lifetimes. Assumes nothing.
+-- The demands speak of the code. For each public function of the judge, of a record shown and of the questions: what its contract states,
+-- of the very relation between arguments, answer and lent places that the function is proved to meet, is the definition that `Answers`,
+-- `Exact`, `Parity` and `Once` are about. A contract that says less does not give it. The arguments are in the function's own order; κs are
+-- its lifetimes. Assumes nothing.
 use mathlib.Core.Path.{_≡_, refl, ap, _∙_}
 use mathlib.Core.Bool.{true}
 use mathlib.Core.List.{List}
@@ -83,7 +84,8 @@ verdict-is κs a r e x = x
 pub listing-is : (κs a r e : _) → listing.Post κs a r e → IsListed (now (a .1 .0)) (now (a .1 .1 .0)) (now (e .1 .1 .0)) r
 listing-is κs a r e x = x
 
-pub listing-part-is : (κs a r e : _) → listing-part.Post κs a r e → IsPart (now (a .1 .0)) (a .1 .1 .0) (now (a .1 .1 .1 .0)) (now (e .1 .1 .1 .0)) r
+pub listing-part-is : (κs a r e : _) → listing-part.Post κs a r e →
+    IsPart (now (a .1 .0)) (a .1 .1 .0) (now (a .1 .1 .1 .0)) (now (e .1 .1 .1 .0)) r
 listing-part-is κs a r e x = x
 
 -- everything at once, of an accepted scene: what each question alone answers and leaves

@@ -1,6 +1,7 @@
--- P6, two engines. For bytes that the judge accepts and an edge and a face of five different points, ties included: the plain engine's five signs
--- answer as the formula does, and the formula answers alike for every helper. The contract of `plain::pierces` is the five signs; the contracts of all
--- that is asked of either engine (piercing, masks, enclosed vertices, counts, listing and verdict) are equations with one definition. Assumes nothing.
+-- P6, two engines. For bytes that the judge accepts and an edge and a face of five different points, ties included: the plain engine's five
+-- signs answer as the formula does, and the formula answers alike for every helper. The contract of `plain::pierces` is the five signs; the
+-- contracts of all that is asked of either engine (piercing, masks, enclosed vertices, counts, listing and verdict) are equations with one
+-- definition. Assumes nothing.
 use mathlib.Core.Path.{_≡_}
 use mathlib.Core.Bool.{Bool}
 use mathlib.Core.List.{List}

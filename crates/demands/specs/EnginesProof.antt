@@ -30,4 +30,5 @@ same-engines s ok u v f d = five-pierce (verts s + 1) (row (tablesOf s)) (scene-
 pub any-helper-alike : AnyHelper
 unfolding pierces
 any-helper-alike s ok u v h f d =
-    any-helper (verts s + 1) (signIn s) (signs s ok) u v h (f .p) (f .q) (f .r) d ∙ sym (by-helper (verts s + 1) (signIn s) (signs s ok) u v f h d)
+    any-helper (verts s + 1) (signIn s) (signs s ok) u v h (f .p) (f .q) (f .r) d
+    ∙ sym (by-helper (verts s + 1) (signIn s) (signs s ok) u v f h d)

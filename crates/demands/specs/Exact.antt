@@ -1,6 +1,6 @@
--- Demand 2: "acceptance, verdict, list and counts equal the definition". Accepted exactly when the written rules hold; the sign, piercing, the mask, enclosure,
--- the verdict, the listing and the counts exactly as document 01 says them, over all edges, faces and vertices of both solids. The statement is `Exact`, at the
--- end; its proof is `ExactProof.exact`. Assumes nothing.
+-- Demand 2: "acceptance, verdict, list and counts equal the definition". Accepted exactly when the written rules hold; the sign, piercing,
+-- the mask, enclosure, the verdict, the listing and the counts exactly as document 01 says them, over all edges, faces and vertices of both
+-- solids. The statement is `Exact`, at the end; its proof is `ExactProof.exact`. Assumes nothing.
 use mathlib.Core.Path.{_≡_}
 use mathlib.Core.Logic.{_⊎_, _↔_}
 use mathlib.Core.Bool.{Bool, true, cond}
@@ -8,8 +8,9 @@ use mathlib.Core.List.{List, [], _∷_, _++_}
 use Prim.Native.Nat.{ℕ, _+_, _-_, _*_, _^_, _%_, _≤_, _<_}
 use lib.Dec.{leb}
 use lib.ListN.{length, drop}
-use Rattle.laws.specs.Lists.{Each, Some, Number, run}
+use Rattle.laws.specs.Lists.{Some, Number, run}
 use Rattle.laws.specs.Mask.{testBit}
+use Rattle.laws.specs.Rising.{Less, Rising}
 use Rattle.scene.specs.Limits.{limits}
 use Rattle.scene.specs.Records.{vertsA, vertsB, facesA, facesB}
 use Rattle.scene.specs.Tables.{tablesOf, row}
@@ -24,7 +25,8 @@ use Rattle.listing.specs.Hits.{Hit}
 use Rattle.listing.specs.Pour.{three, flat, partIn}
 use Rattle.scene.specs.View.{viewOf}
 use Rattle.table.specs.Table.{Entry}
-use Rattle.questions.specs.Answers.{signOf, piercesOf, verdictOf, countedOf, maskedOf, faces-are, enclosedOf, IsListed, listingIn, insideOf, IsPart}
+use Rattle.questions.specs.Answers.{signOf, piercesOf, verdictOf, countedOf, maskedOf, faces-are, enclosedOf}
+use Rattle.questions.specs.Answers.{IsListed, listingIn, insideOf, IsPart}
 use Rattle.questions.specs.Answers.{maskIn}
 use Rattle.questions.specs.declared.Signed.the-variants as sign
 use Rattle.questions.specs.declared.Answer.the-variants as answer
@@ -37,13 +39,6 @@ use Rattle.questions.specs.declared.Listed.the-variants as listed
 use Rattle.demands.specs.Words.{VertexOfA, VertexOfB, Vertex, farPoint, FaceOfA, FaceOfB, Edge, Pierces, Enclosed}
 use Rattle.demands.specs.Words.{FourPoints, TwoAlike, EdgeAndFace, AlikeOrCorner, EdgeAndSolid, AlikeOrVertex}
 
--- ---- an order of numbers in a row: by the first in which they differ
-
-abbrev pub Less : List ℕ → List ℕ → Type 0
-Less [] m = ⊥
-Less (a ∷ l) [] = ⊥
-Less (a ∷ l) (b ∷ m) = (a < b) ⊎ ((a ≡ b) × Less l m)
-
 -- n numbers from a on; an odd number of the list are so
 abbrev pub numbered : (a n : ℕ) → List ℕ
 numbered = run (λ i. i)
@@ -51,14 +46,9 @@ numbered = run (λ i. i)
 abbrev pub Odd : (ℕ → Type 0) → List ℕ → Type 0
 Odd P l = (n : ℕ) × Number P l n × (n % 2 ≡ 1)
 
--- each of the list comes before all that stand behind it
-abbrev pub Rising : {A : Type 0} → (A → A → Type 0) → List A → Type 0
-Rising R [] = Unit {0}
-Rising R (x ∷ xs) = Each (R x) xs × Rising R xs
-
 module _ (s : List ℕ) where
-  -- ---- the listing: "every pierced pair once", "Edges of A with faces of B first, then edges of B with faces of A; by lower point, then higher point,
-  -- then face"
+  -- ---- the listing: "every pierced pair once", "Edges of A with faces of B first, then edges of B with faces of A; by lower point, then
+  -- higher point, then face"
 
   -- an edge of the solid with the faces Own, and a face of the other that it pierces
   abbrev pub Crossing : (Own Other : ℕ → Type 0) → Hit → Type 0
@@ -90,8 +80,8 @@ module _ (s : List ℕ) where
     pub count : (n : ℕ) → (x ≡ listed.Count n) ↔ (FileOk limits s × (n ≡ length (listingIn (viewOf s))))
     pub held : (n : ℕ) → x ≡ listed.Count n → d′ ≡ partIn (listingIn (viewOf s)) from d
 
-  -- ---- "The verdict: the first pierced pair in listing order; if none, the lowest vertex of A enclosed by B; if none, the lowest vertex of B enclosed by A;
-  -- else apart"
+  -- ---- "The verdict: the first pierced pair in listing order; if none, the lowest vertex of A enclosed by B; if none, the lowest vertex
+  -- of B enclosed by A; else apart"
 
   pub record FirstPair (h : Hit) : Type 0 where
     pub pierced : PiercedPair h
@@ -111,7 +101,8 @@ module _ (s : List ℕ) where
   pub record VerdictIs : Type 0 where
     pub cross : (u v f : ℕ) → (verdictOf s ≡ verdict.Cross u v f) ↔ (FileOk limits s × FirstPair (record { low = u; high = v; face = f }))
     pub a-in-b : (p : ℕ) → (verdictOf s ≡ verdict.AInB p) ↔ (FileOk limits s × NonePierced × LowestEnclosed (VertexOfA s) p)
-    pub b-in-a : (p : ℕ) → (verdictOf s ≡ verdict.BInA p) ↔ (FileOk limits s × NonePierced × NoneEnclosed (VertexOfA s) × LowestEnclosed (VertexOfB s) p)
+    pub b-in-a : (p : ℕ) →
+        (verdictOf s ≡ verdict.BInA p) ↔ (FileOk limits s × NonePierced × NoneEnclosed (VertexOfA s) × LowestEnclosed (VertexOfB s) p)
     pub apart : (verdictOf s ≡ verdict.Apart) ↔ (FileOk limits s × NonePierced × NoneEnclosed (VertexOfA s) × NoneEnclosed (VertexOfB s))
 
   -- ---- "bit k-1 is set exactly when the solid's k-th face is pierced, with the number of its ones", now "two words of 64 bits"
@@ -123,7 +114,8 @@ module _ (s : List ℕ) where
     pub count : Number (Pierces s u v) (numbered (behind + 1) n) ones
 
   pub record MasksAre (u v mask ones : ℕ) : Type 0 where
-    pub of-a : (maskedOf s u v 1 ≡ faces-are mask ones) ↔ (FileOk limits s × EdgeAndSolid s u v 1 × ¬ AlikeOrVertex s u v 1 × MaskIs u v 0 (facesA s) mask ones)
+    pub of-a : (maskedOf s u v 1 ≡ faces-are mask ones)
+        ↔ (FileOk limits s × EdgeAndSolid s u v 1 × ¬ AlikeOrVertex s u v 1 × MaskIs u v 0 (facesA s) mask ones)
     pub of-b : (maskedOf s u v 2 ≡ faces-are mask ones)
         ↔ (FileOk limits s × EdgeAndSolid s u v 2 × ¬ AlikeOrVertex s u v 2 × MaskIs u v (facesA s) (facesB s) mask ones)
 
@@ -174,7 +166,8 @@ pub record Exact (s : List ℕ) : Type 0 where
   pub accepted : (judged s ≡ Accepted) ↔ FileOk limits s
   -- and exactly when it is the file of tables that keep the rules
   pub files : Bytes s → (judged s ≡ Accepted) ↔ FileOf limits s
-  pub sign : (a b c d : ℕ) (t : Terms) (positive : Bool) → (signOf s a b c d ≡ sign.Sign t positive) ↔ (FileOk limits s × SignIs s a b c d t positive)
+  pub sign : (a b c d : ℕ) (t : Terms) (positive : Bool) →
+      (signOf s a b c d ≡ sign.Sign t positive) ↔ (FileOk limits s × SignIs s a b c d t positive)
   pub pierces : (u v f : ℕ) → PiercesIs s u v f
   pub masks : (u v mask ones : ℕ) → MasksAre s u v mask ones
   pub enclosed : EnclosedIs s

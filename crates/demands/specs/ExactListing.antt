@@ -2,36 +2,18 @@
 use mathlib.Core.Path.{_≡_, refl}
 use mathlib.Core.Logic.{inl, inr}
 use mathlib.Core.Bool.{_&&_}
-use mathlib.Core.List.{List, [], _∷_}
 use Prim.Native.Nat.{ℕ, _+_}
 use native.Mathlib.Omega.{arith}
 use lib.Dec.{ltb}
 use Rattle.laws.specs.Lists.{Each, each-map}
+use Rattle.laws.specs.Runs.{each-upTo, each-only, rising-only, rising-upTo}
+use Rattle.laws.specs.Rising.{Less, Rising}
 use Rattle.scene.specs.Faces.{Vertex}
 use Rattle.edges.specs.Edges.{joined}
 use Rattle.scene.specs.declared.Solid.{Solid}
 use Rattle.pierce.specs.Formula.{pierced}
 use Rattle.listing.specs.Hits.{Seen, Hit, faceHits, edgeHits, pairHits, pairsAt, vertexHits, solidHits}
-use Rattle.listing.specs.Laws.{each-upTo, each-only}
 use Rattle.listing.specs.Pour.{three}
-use Rattle.demands.specs.Exact.{Less, Rising}
-use Rattle.demands.specs.ExactRuns.{rising-only, rising-upTo}
-
--- ---- the order
-
-pub less-never : (l : List ℕ) → Less l l → ⊥
-less-never [] h = h
-less-never (a ∷ l) (inl h) = omega arith
-less-never (a ∷ l) (inr h) = less-never l (h .1)
-
-pub less-back : (l m : List ℕ) → Less l m → Less m l → ⊥
-less-back [] [] h k = h
-less-back [] (b ∷ m) h k = h
-less-back (a ∷ l) [] h k = h
-less-back (a ∷ l) (b ∷ m) (inl h) (inl k) = omega arith
-less-back (a ∷ l) (b ∷ m) (inl h) (inr k) = omega (arith, k .0)
-less-back (a ∷ l) (b ∷ m) (inr h) (inl k) = omega (arith, h .0)
-less-back (a ∷ l) (b ∷ m) (inr h) (inr k) = less-back l m (h .1) (k .1)
 
 -- ---- the hits of one solid's edges
 
@@ -48,7 +30,8 @@ module _ (v : Seen) (k : Solid) where
 
   face-each : (u w i : ℕ) → Each (At u w (k .other + 1 + i)) (faceHits v k u w i)
   unfolding faceHits
-  face-each u w i = each-only (At u w (k .other + 1 + i)) (pierced (v .points) (v .row) u w (v .face (k .other + 1 + i))) _ ((refl, refl, refl), tt)
+  face-each u w i =
+      each-only (At u w (k .other + 1 + i)) (pierced (v .points) (v .row) u w (v .face (k .other + 1 + i))) _ ((refl, refl, refl), tt)
 
   face-rises : (u w i : ℕ) → Rising Lower (faceHits v k u w i)
   unfolding faceHits
@@ -56,17 +39,20 @@ module _ (v : Seen) (k : Solid) where
 
   edge-each : (u w : ℕ) → Each (Of u w) (edgeHits v k u w)
   unfolding edgeHits
-  edge-each u w = each-upTo (Of u w) (faceHits v k u w) (k .others) (λ i l. each-map (λ x h. (h .0, h .1)) (faceHits v k u w i) (face-each u w i))
+  edge-each u w =
+      each-upTo (Of u w) (faceHits v k u w) (k .others) (λ i l. each-map (λ x h. (h .0, h .1)) (faceHits v k u w i) (face-each u w i))
 
   edge-rises : (u w : ℕ) → Rising Lower (edgeHits v k u w)
   unfolding edgeHits
   edge-rises u w =
       rising-upTo Lower (faceHits v k u w) (λ i. At u w (k .other + 1 + i)) (face-each u w)
-      (λ i j x y l p q. inr (omega (arith, p .0, q .0), inr (omega (arith, p .1, q .1), inl (omega (arith, p .2, q .2))))) (face-rises u w) (k .others)
+      (λ i j x y l p q. inr (omega (arith, p .0, q .0), inr (omega (arith, p .1, q .1), inl (omega (arith, p .2, q .2)))))
+      (face-rises u w) (k .others)
 
   pair-each : (u m : ℕ) → Each (Of u (k .low + 1 + m)) (pairsAt v k u m)
   unfolding pairHits
-  pair-each u m = each-only (Of u (k .low + 1 + m)) (ltb u (k .low + 1 + m) && joined (v .face) k u (k .low + 1 + m)) _ (edge-each u (k .low + 1 + m))
+  pair-each u m =
+      each-only (Of u (k .low + 1 + m)) (ltb u (k .low + 1 + m) && joined (v .face) k u (k .low + 1 + m)) _ (edge-each u (k .low + 1 + m))
 
   pair-rises : (u m : ℕ) → Rising Lower (pairsAt v k u m)
   unfolding pairHits

@@ -1,18 +1,18 @@
 -- Demand 2, proved. Assumes nothing.
-use mathlib.Core.Path.{_≡_, refl, sym, ap, ap₂, _∙_, subst}
+use mathlib.Core.Path.{_≡_, refl, sym, ap, _∙_, subst}
 use mathlib.Core.Logic.{_↔_, Iff·rfl, Iff·trans, Iff·and}
 use mathlib.Core.Bool.{Bool, true, false, false≢true}
-use mathlib.Core.List.{List, [], _∷_}
-use Prim.Native.Nat.{ℕ, _+_, _*_, _≤_, _<_}
+use mathlib.Core.List.{List}
+use Prim.Native.Nat.{ℕ, _+_, _*_, _≤_}
 use native.Mathlib.Omega.{arith}
 use lib.Count.{ones}
 use lib.ListN.{length}
 use Rattle.laws.specs.Decides.{leb-iff}
-use Rattle.laws.specs.Even.{count}
-use Rattle.laws.specs.Range.{countOf, more}
-use Rattle.laws.specs.Lists.{Each, Number, run-each, count-run, number-iff, number-once}
+use Rattle.laws.specs.Range.{countOf, count-same}
+use Rattle.laws.specs.Lists.{Number, count-run, number-iff, number-once}
+use Rattle.laws.specs.Never.{nonsense}
 use Rattle.scene.specs.Limits.{limits, within}
-use Rattle.scene.specs.Records.{vertsA, vertsB, facesA, facesB, verts}
+use Rattle.scene.specs.Records.{facesA, facesB, verts}
 use Rattle.scene.specs.Tables.{tablesOf, row, face}
 use Rattle.scene.specs.declared.Refusal.{Refusal}
 use Rattle.judge.specs.Judge.{judged, andThen, rule}
@@ -28,7 +28,8 @@ use Rattle.orient.specs.declared.Terms.{Terms}
 use Rattle.pierce.specs.Formula.{pierced}
 use Rattle.listing.specs.Hits.{isInside, insideCount}
 use Rattle.listing.specs.Pour.{allIn}
-use Rattle.scene.specs.View.{viewOf, solidA, solidB, solid}
+use Rattle.scene.specs.View.{viewOf, solid}
+use Rattle.scene.specs.declared.Solid.{Solid}
 use Rattle.questions.specs.Laws.{answered-then}
 use Rattle.questions.specs.Answers.{answered, enclosedIn, maskedIn, piercesIn, signIn, signFault, signOf, yesNo, piercesFault, piercesOf}
 use Rattle.questions.specs.Answers.{maskIn, maskFault, maskedOf, refused, faces-are, isEnclosed, enclosedFault, enclosedOf, countsIn}
@@ -45,16 +46,14 @@ use Rattle.questions.specs.declared.Verdict.the-variants as verdict
 use Rattle.questions.specs.declared.Listed.{Listed}
 use Rattle.questions.specs.declared.Listed.the-variants as listed
 use Rattle.demands.specs.Words.{Vertex, Enclosed, EdgeAndFace, AlikeOrCorner, EdgeAndSolid, AlikeOrVertex}
-use Rattle.demands.specs.Exact.{VerdictIs, ListedIs, numbered, MaskIs, MasksAre, EnclosedIs, CountsAre, SignIs, PiercesIs, Exact, PartIs, InsideIs}
-use Rattle.demands.specs.AnswersTests.{asked-ok, nonsense, answered-ok, twice-ok, points-iff, edge-iff}
+use Rattle.demands.specs.Exact.{VerdictIs, ListedIs, numbered, MaskIs, MasksAre, EnclosedIs, CountsAre, SignIs, PiercesIs, Exact}
+use Rattle.demands.specs.Exact.{PartIs, InsideIs}
+use Rattle.demands.specs.AnswersTests.{asked-ok, answered-ok, twice-ok, points-iff, edge-iff}
 use Rattle.demands.specs.AnswersTests.{mask-iff, alike-points, alike-corner, alike-vertex}
-use Rattle.demands.specs.ExactMask.{mask, mask-is, mask-once, enclosed-a, enclosed-b}
+use Rattle.demands.specs.ExactMask.{mask, mask-is, mask-once, enclosed-in}
 use Rattle.demands.specs.ExactPairs.{listing-is}
-use Rattle.demands.specs.ExactVerdict.{inside-a, inside-b, Says, verdict-iff}
-
-count-same : {A : Type 0} (g h : A → Bool) (xs : List A) → Each (λ x. g x ≡ h x) xs → count g xs ≡ count h xs
-count-same g h [] e = refl
-count-same g h (x ∷ xs) e = ap₂ more (e .0) (count-same g h xs (e .1))
+use Rattle.demands.specs.ExactVerdict.{Says, verdict-iff}
+use Rattle.demands.specs.Solids.{Worded, a-worded, b-worded}
 
 module _ (s : List ℕ) where
   accepted : (judged s ≡ Accepted) ↔ FileOk limits s
@@ -75,8 +74,10 @@ module _ (s : List ℕ) where
       record {
         cross = λ u v f. said (verdict.Cross u v f) (λ r e. nonsense (cc));
         a-in-b = λ p. Iff·trans (said (verdict.AInB p) (λ r e. nonsense (cc))) (λ h. (h .0, h .1 .0, h .1 .1), λ h. (h .0, (h .1, h .2)));
-        b-in-a = λ p. Iff·trans (said (verdict.BInA p) (λ r e. nonsense (cc))) (λ h. (h .0, h .1 .0, h .1 .1, h .1 .2), λ h. (h .0, (h .1, h .2, h .3)));
-        apart = Iff·trans (said verdict.Apart (λ r e. nonsense (cc))) (λ h. (h .0, h .1 .0, h .1 .1, h .1 .2), λ h. (h .0, (h .1, h .2, h .3)));
+        b-in-a = λ p. Iff·trans (said (verdict.BInA p) (λ r e. nonsense (cc)))
+            (λ h. (h .0, h .1 .0, h .1 .1, h .1 .2), λ h. (h .0, (h .1, h .2, h .3)));
+        apart = Iff·trans (said verdict.Apart (λ r e. nonsense (cc)))
+            (λ h. (h .0, h .1 .0, h .1 .1, h .1 .2), λ h. (h .0, (h .1, h .2, h .3)));
       }
 
   -- ---- the lent list
@@ -89,7 +90,8 @@ module _ (s : List ℕ) where
     unfolding listedIn
     fits n =
         rw (h .answer)
-        (twice-ok listed.Refused (listed.Count n) (λ r e. nonsense (cc)) (judged s) (listFault (viewOf s) d) (listed.Count (length (listingIn (viewOf s)))))
+        (twice-ok listed.Refused (listed.Count n) (λ r e. nonsense (cc)) (judged s) (listFault (viewOf s) d)
+        (listed.Count (length (listingIn (viewOf s)))))
 
     fault-none : (fault ≡ Accepted) ↔ (FileOk limits s × (3 * length (listingIn (viewOf s)) ≤ length d))
     unfolding listFault
@@ -113,7 +115,9 @@ module _ (s : List ℕ) where
 
   module _ (from : ℕ) (d d′ : List ℕ) (x : Listed) (h : IsPart s from d d′ x) where
     part-told : (n : ℕ) → (x ≡ listed.Count n) ↔ ((judged s ≡ Accepted) × (listed.Count (length (listingIn (viewOf s))) ≡ listed.Count n))
-    part-told n = rw (h .answer) (answered-ok listed.Refused (listed.Count n) (λ r e. nonsense (cc)) (judged s) (listed.Count (length (listingIn (viewOf s)))))
+    part-told n =
+        rw (h .answer)
+        (answered-ok listed.Refused (listed.Count n) (λ r e. nonsense (cc)) (judged s) (listed.Count (length (listingIn (viewOf s)))))
 
     part-is : PartIs s from d d′ x
     unfolding answered
@@ -139,7 +143,8 @@ module _ (s : List ℕ) where
         λ g.
             let a : mask s u v behind n ≡ m = cc in
             let b : ones (mask s u v behind n) ≡ o = cc in
-            subst (MaskIs s u v behind n m) b (subst (λ (m : ℕ). MaskIs s u v behind n m (ones (mask s u v behind n))) a (mask-is s u v behind n)),
+            subst (MaskIs s u v behind n m) b
+            (subst (λ (m : ℕ). MaskIs s u v behind n m (ones (mask s u v behind n))) a (mask-is s u v behind n)),
         λ h.
             let p = mask-once s u v behind n m o h in
             let a : maskIn (viewOf s) u v k ≡ m = e ∙ sym (p .0) in
@@ -176,7 +181,8 @@ module _ (s : List ℕ) where
 
   pierces-is : (u v f : ℕ) → PiercesIs s u v f
   unfolding piercesOf piercesIn piercesFault
-  pierces-is u v f = record { yes = by answer.Yes (λ r e. nonsense (cc)) (yes-iff test); no = by answer.No (λ r e. nonsense (cc)) (no-iff test) }
+  pierces-is u v f =
+      record { yes = by answer.Yes (λ r e. nonsense (cc)) (yes-iff test); no = by answer.No (λ r e. nonsense (cc)) (no-iff test) }
     where
       test : Bool
       test = pierced (verts s + 1) (row (tablesOf s)) u v (face (tablesOf s) f)
@@ -192,8 +198,8 @@ module _ (s : List ℕ) where
   unfolding enclosedOf enclosedIn enclosedFault isVertex
   enclosed-is =
       record {
-        of-a = λ i. enclosed-a s i;
-        of-b = λ i. enclosed-b s i;
+        of-a = enclosed-in s (a-worded s);
+        of-b = enclosed-in s (b-worded s);
         yes = λ i. by i answer.Yes (λ r e. nonsense (cc)) (yes-iff (isEnclosed (viewOf s) i));
         no = λ i. by i answer.No (λ r e. nonsense (cc)) (no-iff (isEnclosed (viewOf s) i));
       }
@@ -208,51 +214,41 @@ module _ (s : List ℕ) where
 
   -- ---- counts
 
-  inside-number : (p : ℕ → Bool) (a n : ℕ) → ((i : ℕ) → a ≤ i → i < a + n → p i ≡ isEnclosed (viewOf s) i) →
-      Number (Enclosed s) (numbered a n) (countOf p a (a + n))
-  inside-number p a n h =
-      number-iff (Enclosed s) (isEnclosed (viewOf s)) (λ i. Iff·rfl) (numbered a n) (countOf p a (a + n)) .0
-      (sym (count-run (λ i. i) p p a (a + n) n (omega arith) (λ i. refl)
-      ∙ count-same p (isEnclosed (viewOf s)) (numbered a n) (run-each (λ i. p i ≡ isEnclosed (viewOf s) i) (λ i. i) a n h)))
-
-  number-a : Number (Enclosed s) (numbered 1 (vertsA s)) (insideCount (seen (viewOf s)) (solidA (viewOf s)))
+  number-in : {k : Solid} {n : ℕ} {Of Own Other : ℕ → Type 0} → Worded s k n Of Own Other →
+      Number (Enclosed s) (numbered (k .low + 1) (k .verts)) (insideCount (seen (viewOf s)) k)
   unfolding insideCount
-  number-a = inside-number (isInside (seen (viewOf s)) (solidA (viewOf s))) 1 (vertsA s) (λ i a b. inside-a s i (omega arith))
-
-  number-b : Number (Enclosed s) (numbered (vertsA s + 1) (vertsB s)) (insideCount (seen (viewOf s)) (solidB (viewOf s)))
-  unfolding insideCount
-  number-b = inside-number (isInside (seen (viewOf s)) (solidB (viewOf s))) (vertsA s + 1) (vertsB s) (λ i a b. inside-b s i (omega arith))
+  number-in {k} w =
+      let e = isEnclosed (viewOf s) in
+      let a : ℕ = k .low + 1 in
+      number-iff (Enclosed s) e (λ i. Iff·rfl) (numbered a (k .verts)) (countOf (isInside (seen (viewOf s)) k) a (a + k .verts)) .0
+      (sym (count-same (isInside (seen (viewOf s)) k) e a (a + k .verts)
+      (λ i l m. w .inside i (w .vertices i .0 (omega arith, omega arith)))
+      ∙ count-run (λ i. i) e e a (a + k .verts) (k .verts) (omega arith) (λ i. refl)))
 
   counts-are : (c : Counts) → (countedOf s ≡ counted.Counts c) ↔ (FileOk limits s × CountsAre s c)
   unfolding countedOf countsIn insideIn solid
   counts-are c =
-      Iff·trans (answered-ok counted.Refused (counted.Counts c) (λ r e. nonsense (cc)) (judged s) (counted.Counts (countsIn (viewOf s)))) (Iff·and accepted (
-        λ e. let d : countsIn (viewOf s) ≡ c = cc in subst (CountsAre s) d (record { pairs = refl; a-in-b = number-a; b-in-a = number-b }),
+      Iff·trans (answered-ok counted.Refused (counted.Counts c) (λ r e. nonsense (cc)) (judged s) (counted.Counts (countsIn (viewOf s))))
+      (Iff·and accepted (
+        λ e. let d : countsIn (viewOf s) ≡ c = cc in
+            subst (CountsAre s) d (record { pairs = refl; a-in-b = number-in (a-worded s); b-in-a = number-in (b-worded s) }),
         λ h.
             let p = h .pairs in
-            let a = number-once (h .a-in-b) number-a in
-            let b = number-once (h .b-in-a) number-b in
+            let a = number-once (h .a-in-b) (number-in (a-worded s)) in
+            let b = number-once (h .b-in-a) (number-in (b-worded s)) in
             let same : countsIn (viewOf s) ≡ c = λ i. record { pairs = sym p i; «a_in_b» = sym a i; «b_in_a» = sym b i } in
             ap counted.Counts same,
       ))
 
   inside-is : (n : ℕ) → InsideIs s n
   unfolding insideOf enclosingIn insideFault isSolid within rule answered insideIn solid
-  inside-is n =
-      record {
-        of-a = Iff·trans (answered-ok enclosing.Refused (enclosing.Count n) (λ r e. nonsense (cc)) (judged s) _)
-            (Iff·and accepted (
-              λ e. let d : _ ≡ n =
-                  cc in subst (Number (Enclosed s) (numbered 1 (vertsA s))) d number-a,
-              λ h. ap enclosing.Count (number-once number-a h),
-            ));
-        of-b = Iff·trans (answered-ok enclosing.Refused (enclosing.Count n) (λ r e. nonsense (cc)) (judged s) _)
-            (Iff·and accepted (
-              λ e. let d : _ ≡ n =
-                  cc in subst (Number (Enclosed s) (numbered (vertsA s + 1) (vertsB s))) d number-b,
-              λ h. ap enclosing.Count (number-once number-b h),
-            ));
-      }
+  inside-is n = record { of-a = by (number-in (a-worded s)); of-b = by (number-in (b-worded s)) }
+    where
+      by : {l : List ℕ} {m : ℕ} → Number (Enclosed s) l m →
+          (answered enclosing.Refused (judged s) (enclosing.Count m) ≡ enclosing.Count n) ↔ (FileOk limits s × Number (Enclosed s) l n)
+      by {l} h =
+          Iff·trans (answered-ok enclosing.Refused (enclosing.Count n) (λ r e. nonsense (cc)) (judged s) _)
+          (Iff·and accepted (λ e. subst (Number (Enclosed s) l) (cc) h, λ k. ap enclosing.Count (number-once h k)))
 
 -- ---- the demand
 

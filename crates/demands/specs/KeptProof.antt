@@ -10,18 +10,19 @@ use native.Mathlib.Omega.{arith}
 use Rattle.laws.specs.Decides.{fails-iff}
 use Rattle.scene.specs.Limits.{limits, limitsBefore}
 use Rattle.scene.specs.Records.{verts}
-use Rattle.scene.specs.Tables.{rowAt, tablesOf, row}
+use Rattle.scene.specs.Tables.{rowAt, faceAt, tablesOf, row}
 use Rattle.scene.specs.Read.{row-is, far-is}
 use Rattle.scene.specs.declared.Row.{Row}
 use Rattle.orient.specs.Terms.{powers, isPlus, factor, numbered, terms, orientation, pointAt, positiveAt, termsAt}
 use Rattle.laws.specs.Sign.{sign, _or_}
 use Rattle.orient.specs.Laws.{factor-weight}
 use Rattle.demands.specs.Words.{Point, FourPoints}
-use Rattle.scene.specs.Faces.{Both, EdgeOk}
+use Rattle.scene.specs.Faces.{Both, Sides, EdgeOk}
 use Rattle.scene.specs.declared.Face.{Face}
 use Rattle.scene.specs.declared.Refusal.{Refusal}
 use Rattle.scene.specs.declared.Refusal.the-variants.{Counts}
-use Rattle.judge.specs.Judge.{rule, andThen, countsOk, headerFault, coordinateOk, weightOk, pointFault, recordFault, recordsFault, judgedAt, judged}
+use Rattle.judge.specs.Judge.{rule, andThen, countsOk, headerFault, coordinateOk, weightOk, pointFault}
+use Rattle.judge.specs.Judge.{recordFault, recordsFault, judgedAt, judged}
 use Rattle.judge.specs.declared.Judged.{Judged}
 use Rattle.judge.specs.declared.Judged.the-variants.{Accepted, Refused}
 use Rattle.rules.specs.Rules.{CountsOk, FileOk}
@@ -64,8 +65,8 @@ still : (s : List ℕ) → FileOk limits s → Still s
 still s h = let e = accepted limits s .1 h in record { accepted = e; answers = answers-of s e }
 
 -- two is even
-two-even : (fs : List Face) (v w : ℕ) → Number (Both v w) fs 2 → EdgeOk fs v w
-two-even fs v w h = (2, h, refl)
+two-even : (fs : List Face) (f : Face) → Sides (λ v w. Number (Both v w) fs 2) f → Sides (EdgeOk fs) f
+two-even fs f h = ((2, h .0, refl), (2, h .1, refl), (2, h .2, refl))
 
 pub shared-edges : SharedEdges
 shared-edges s h =
@@ -77,10 +78,7 @@ shared-edges s h =
       sides =
           λ i b.
           let o = h .sides i b in
-          record {
-            of-a = λ c. let t = o .of-a c in (two-even _ _ _ (t .0), two-even _ _ _ (t .1), two-even _ _ _ (t .2));
-            of-b = λ c. let t = o .of-b c in (two-even _ _ _ (t .0), two-even _ _ _ (t .1), two-even _ _ _ (t .2));
-          };
+          record { of-a = λ c. two-even _ (faceAt s i) (o .of-a c); of-b = λ c. two-even _ (faceAt s i) (o .of-b c) };
     })
 
 -- ---- larger models: the limits of counts are all that moved

@@ -24,7 +24,6 @@ pub mod AnswersTests
 pub mod AnswersProof
 pub mod NumbersProof
 pub mod NumbersGiven
-pub mod ExactRuns
 pub mod ExactListing
 pub mod ExactPairs
 pub mod ExactVerdict

@@ -1,5 +1,5 @@
--- The marked examples S1 to S8 and E1 to E5 as one table. Each is a question about an accepted scene: A is points 1 to 3, B is points 4 to 6, each
--- has two faces on the same three corners, and the far point is 7. Assumes nothing.
+-- The marked examples S1 to S8 and E1 to E5 as one table. Each is a question about an accepted scene: A is points 1 to 3, B is points 4 to
+-- 6, each has two faces on the same three corners, and the far point is 7. Assumes nothing.
 use mathlib.Core.Path.{_≡_}
 use mathlib.Core.Bool.{Bool, true, false}
 use mathlib.Core.List.{List, [], _∷_}
@@ -76,7 +76,8 @@ pub record Marked : Type 0 where
       (at (pos 1) (pos 1) (pos 0))) 1 2 3 4 (pos 0 ∷ minus 30 ∷ []) false
   pub s6 : SignIs (fourOf (at (pos 0) (pos 0) (pos 0)) (at (pos 1) (pos 0) (pos 0)) (at (pos 0) (pos 1) (pos 0))
       (at (pos 9) (pos 0) (pos 0))) 1 2 3 4 (pos 0 ∷ pos 0 ∷ minus 354 ∷ []) false
-  pub s7 : SignIs (fourOf five five five (weighted (minus 5) (minus 5) (minus 5) (minus 1))) 1 2 3 4 (pos 0 ∷ pos 0 ∷ pos 0 ∷ pos 12 ∷ []) true
+  pub s7 : SignIs (fourOf five five five (weighted (minus 5) (minus 5) (minus 5) (minus 1))) 1 2 3 4
+      (pos 0 ∷ pos 0 ∷ pos 0 ∷ pos 12 ∷ []) true
   pub s8 : SignIs (fourOf (at (pos 0) (pos 0) (pos 0)) (weighted (pos 2) (pos 0) (pos 0) (pos 2)) (at (pos 0) (pos 1) (pos 0))
       (at (pos 1) (pos 1) (pos 0))) 1 2 3 4 (pos 0 ∷ minus 60 ∷ []) false
   pub e1 : PiercedIs (edgeOf (at (pos 1) (pos 1) (minus 3)) (at (pos 1) (pos 1) (pos 1))) Yes

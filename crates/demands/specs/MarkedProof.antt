@@ -8,7 +8,8 @@ use Rattle.demands.specs.Computing.{judging, piercing}
 use Rattle.demands.specs.Marked.{Marked}
 
 pub marked : Marked
-unfolding judging piercing termsAt isCorner answered isPoint isFace differ arePoints signFault signOf signIn clear edgeAndFace piercesFault piercesOf piercesIn
+unfolding judging piercing termsAt isCorner answered isPoint isFace differ arePoints signFault signOf signIn clear edgeAndFace piercesFault
+    piercesOf piercesIn
 marked =
     record {
       s1 = record { accepted = refl; leads = refl; sign = refl };

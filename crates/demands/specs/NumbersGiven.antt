@@ -1,5 +1,5 @@
--- Demand 1, each refusal number given: bytes for 1 to 9 and 14, and for 10, 11 and 12 a scene that keeps the rules, in which an edge of B pierces a face of A.
--- Assumes nothing.
+-- Demand 1, each refusal number given: bytes for 1 to 9 and 14, and for 10, 11 and 12 a scene that keeps the rules, in which an edge of B
+-- pierces a face of A. Assumes nothing.
 use mathlib.Core.Path.{_≡_, refl, sym, subst}
 use mathlib.Core.Logic.{inl, inr}
 use mathlib.Core.List.{List, [], _∷_, _++_}
@@ -8,6 +8,7 @@ use native.Mathlib.Omega.{arith}
 use lib.ListN.{length, set}
 use Rattle.laws.specs.Range.{firstOf, over, anyOf, countOf, lowestOf}
 use Rattle.laws.specs.Lists.{Each, Some, each-append}
+use Rattle.laws.specs.Members.{some-length}
 use Rattle.scene.specs.Limits.{limits, within}
 use Rattle.scene.specs.Bytes.{twoAt, coordinateAt, weightAt}
 use Rattle.scene.specs.Refusal.{numberOf}
@@ -15,7 +16,8 @@ use Rattle.scene.specs.Tables.{cornerAt, row, face}
 use Rattle.scene.specs.Faces.{isCorner, hasBoth}
 use Rattle.scene.specs.declared.Refusal.{Refusal}
 use Rattle.scene.specs.declared.Refusal.the-variants.{Opening, Counts, Length, Mark, Coordinate, Weight, Corner, Unused, Edge, Nowhere}
-use Rattle.judge.specs.Judge.{rule, andThen, opens, countsOk, headerFault, coordinateOk, weightOk, nowhere, somewhereOk, pointFault, areCorners}
+use Rattle.judge.specs.Judge.{rule, andThen, opens, countsOk, headerFault, coordinateOk, weightOk}
+use Rattle.judge.specs.Judge.{nowhere, somewhereOk, pointFault, areCorners}
 use Rattle.judge.specs.Judge.{vertsAt, cornersOk, faceFault, endFault, recordFault, recordsFault, isCornerOf, isEdge, isUsed, unusedFault}
 use Rattle.judge.specs.Judge.{unusedsFault, edgeOk, sidesOk, closedAt, edgeFault, edgesFault, judgedAt, judged}
 use Rattle.judge.specs.declared.Judged.the-variants.{Accepted, Refused}
@@ -39,8 +41,8 @@ use Rattle.demands.specs.ExactPairs.{members}
 abbrev Given : (List ℕ → Refusal → Type 0) → ℕ → Type 0
 Given Refuses n = (r : Refusal) × (numberOf r ≡ n) × (s : List ℕ) × Refuses s r
 
--- ---- the bytes of two scenes. In `base` both solids have two faces on the same three corners, and B's edge from 4 to 5 pierces A's faces; in `four` A has
--- a fourth vertex, which is in no face
+-- ---- the bytes of two scenes. In `base` both solids have two faces on the same three corners, and B's edge from 4 to 5 pierces A's faces;
+-- in `four` A has a fourth vertex, which is in no face
 
 abbrev pub base : List ℕ
 base =
@@ -76,20 +78,24 @@ four =
     69 ∷ 78 ∷ []
 
 base-accepted : judged base ≡ Accepted
-unfolding judgedAt andThen rule headerFault opens countsOk within recordsFault firstOf over recordFault pointFault coordinateOk weightOk nowhere somewhereOk faceFault cornersOk areCorners vertsAt endFault unusedsFault unusedFault isUsed isCornerOf isCorner anyOf edgesFault edgeFault closedAt sidesOk edgeOk isEdge hasBoth countOf cornerAt twoAt coordinateAt weightAt
+unfolding judgedAt andThen rule headerFault opens countsOk within recordsFault firstOf over recordFault pointFault coordinateOk weightOk
+    nowhere somewhereOk faceFault cornersOk areCorners vertsAt endFault unusedsFault unusedFault isUsed isCornerOf isCorner anyOf edgesFault
+    edgeFault closedAt sidesOk edgeOk isEdge hasBoth countOf cornerAt twoAt coordinateAt weightAt
 base-accepted = refl
 
 pub keeps : FileOk limits base
 keeps = accepted limits base .0 base-accepted
 
--- ---- 1 to 9 and 14: no bytes; two vertices; a byte too many; no mark; coordinate 4,096; weight 17; corner 0; the fourth vertex, in no face and in one;
--- and a far point of four zeros
+-- ---- 1 to 9 and 14: no bytes; two vertices; a byte too many; no mark; coordinate 4,096; weight 17; corner 0; the fourth vertex, in no
+-- face and in one; and a far point of four zeros
 
 abbrev ByScene : List ℕ → Refusal → Type 0
 ByScene s r = judged s ≡ Refused r
 
 ten : Each (Given ByScene) ofScene
-unfolding judgedAt andThen rule headerFault opens countsOk within recordsFault firstOf over recordFault pointFault coordinateOk weightOk nowhere somewhereOk faceFault cornersOk areCorners vertsAt endFault unusedsFault unusedFault isUsed isCornerOf isCorner anyOf edgesFault edgeFault closedAt sidesOk edgeOk isEdge hasBoth countOf cornerAt twoAt coordinateAt weightAt
+unfolding judgedAt andThen rule headerFault opens countsOk within recordsFault firstOf over recordFault pointFault coordinateOk weightOk
+    nowhere somewhereOk faceFault cornersOk areCorners vertsAt endFault unusedsFault unusedFault isUsed isCornerOf isCorner anyOf edgesFault
+    edgeFault closedAt sidesOk edgeOk isEdge hasBoth countOf cornerAt twoAt coordinateAt weightAt
 ten = (
   (Opening, refl, [], refl),
   (
@@ -120,8 +126,8 @@ ten = (
 )
 
 -- so each question gives them
-to-each : (Q : List ℕ → Refusal → Type 0) → ((r : Refusal) (s : List ℕ) → OfScene (numberOf r) → Grounds limits s r → Q s r) → (l : List ℕ) → Each OfScene l →
-    Each (Given ByScene) l → Each (Given Q) l
+to-each : (Q : List ℕ → Refusal → Type 0) → ((r : Refusal) (s : List ℕ) → OfScene (numberOf r) → Grounds limits s r → Q s r) →
+    (l : List ℕ) → Each OfScene l → Each (Given ByScene) l → Each (Given Q) l
 to-each Q h [] b e = tt
 to-each Q h (n ∷ l) b e =
     let g = e .0 in
@@ -152,7 +158,8 @@ small = (
   ),
 )
 
-all-of-scene : (Q : List ℕ → Refusal → Type 0) → ((r : Refusal) (s : List ℕ) → OfScene (numberOf r) → Grounds limits s r → Q s r) → Each (Given Q) ofScene
+all-of-scene : (Q : List ℕ → Refusal → Type 0) → ((r : Refusal) (s : List ℕ) → OfScene (numberOf r) → Grounds limits s r → Q s r) →
+    Each (Given Q) ofScene
 all-of-scene Q h = to-each Q h ofScene small ten
 
 -- ---- 10: the listing of `base` is not empty
@@ -166,12 +173,9 @@ unfolding face cornerAt
 on-5 = inr (inl refl)
 
 through : Pierces base 4 5 1
-unfolding pierces formula sidesCount counts helper canHelp lowestOf over positiveAt orientation terms row face cornerAt twoAt coordinateAt weightAt
+unfolding pierces formula sidesCount counts helper canHelp lowestOf over positiveAt orientation terms row face cornerAt twoAt coordinateAt
+    weightAt
 through = refl
-
-some-length : {A : Type 0} (P : A → Type 0) (l : List A) → Some P l → 0 < length l
-some-length P [] h = absurd h
-some-length P (x ∷ l) h = omega arith
 
 pub not-empty : 0 < length (listingIn (viewOf base))
 not-empty =
@@ -199,6 +203,7 @@ is-part s = record { answer = refl; held = refl }
 
 -- ---- a question: what a refused scene gives it, what gives each number of its own, and that there is no other
 
-pub gives : {Q : List ℕ → Refusal → Type 0} (own : List ℕ) → ((r : Refusal) (s : List ℕ) → OfScene (numberOf r) → Grounds limits s r → Q s r) →
+pub gives : {Q : List ℕ → Refusal → Type 0} (own : List ℕ) →
+    ((r : Refusal) (s : List ℕ) → OfScene (numberOf r) → Grounds limits s r → Q s r) →
     Each (Given Q) own → ((s : List ℕ) (r : Refusal) → Q s r → Some (λ n. numberOf r ≡ n) (ofScene ++ own)) → Gives own Q
 gives {Q} own h e n = record { no-other = n; each = each-append (Given Q) ofScene own (all-of-scene Q h) e }

@@ -1,7 +1,7 @@
--- No second answer. For each function that another crate can call, and of the very relation that its contract names: what is asked has no second answer,
--- nor second contents of a lent place. Bytes that are shown are said by what they hold, an array is as long as its type says, and the words of a
--- mask are below 2 ^ 64 as theirs says. The tables lent to a survey are determined up to the edges that it counts. `limits_agree` answers
--- nothing. Assumes nothing.
+-- No second answer. For each function that another crate can call, and of the very relation that its contract names: what is asked has no
+-- second answer, nor second contents of a lent place. Bytes that are shown are said by what they hold, an array is as long as its type
+-- says, and the words of a mask are below 2 ^ 64 as theirs says. The tables lent to a survey are determined up to the edges that it counts.
+-- `limits_agree` answers nothing. Assumes nothing.
 use mathlib.Core.Path.{_≡_}
 use mathlib.Core.Bool.{Bool}
 use mathlib.Core.List.{List}
@@ -37,7 +37,8 @@ use Rattle.plain.specs.Five.{fiveSigns}
 use Rattle.survey.specs.declared.Part.{Part}
 use Rattle.seek.specs.declared.Sought.{Sought}
 use Rattle.questions.specs.declared.Enclosing.{Enclosing}
-use Rattle.questions.specs.Answers.{isPoint, signOf, piercesOf, saidMask, maskedOf, enclosedOf, countedOf, verdictOf, IsListed, IsPart, insideOf}
+use Rattle.questions.specs.Answers.{isPoint, signOf, piercesOf, saidMask, maskedOf, enclosedOf, countedOf}
+use Rattle.questions.specs.Answers.{verdictOf, IsListed, IsPart, insideOf}
 use Rattle.questions.specs.Answers.{verdictIn, listingIn}
 use Rattle.readings.specs.Facts.{IsSurvey}
 use Rattle.questions.specs.Listings.{PouredIf}
@@ -121,7 +122,8 @@ pub record EdgesOnce : Type 0 where
 pub record PierceOnce : Type 0 where
   pub mask : (corners : List ℕ) (n u v first count : ℕ) →
       OnceOfWords Words (λ (rows : List ℤ) (r : Mask). valueOf r ≡ maskAgainst n (rowIn rows) (faceIn corners) u v first count)
-  pub is-enclosed : (corners : List ℕ) (n u first count : ℕ) → Once (λ (rows : List ℤ) (r : Bool). r ≡ enclosed n (rowIn rows) (faceIn corners) u first count)
+  pub is-enclosed : (corners : List ℕ) (n u first count : ℕ) →
+      Once (λ (rows : List ℤ) (r : Bool). r ≡ enclosed n (rowIn rows) (faceIn corners) u first count)
   pub pierces : (n u v : ℕ) (f : Face) → Once (λ (rows : List ℤ) (r : Bool). r ≡ pierced n (rowIn rows) u v f)
   pub plain-pierces : (u v : ℕ) (f : Face) → Once (λ (rows : List ℤ) (r : Bool). r ≡ fiveSigns (rowIn rows) u v f)
   pub ones-of : Once (λ (m : Mask) (r : ℕ). r ≡ ones (valueOf m))

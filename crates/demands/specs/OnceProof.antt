@@ -1,14 +1,16 @@
 -- No second answer: an equation with a definition has none, a mask is its number, the arrays of a scene are read at every place, and those
 -- of edges at every place up to their count. Assumes nothing.
-use mathlib.Core.Path.{_≡_, refl, sym, ap, _∙_}
-use mathlib.Core.List.{List, [], _∷_}
-use Prim.Native.Nat.{ℕ, zero, suc, _+_, _*_, _/_, _%_, _^_, _<_}
+use mathlib.Core.Path.{_≡_, sym, ap, _∙_}
+use mathlib.Core.List.{List}
+use Prim.Native.Nat.{ℕ, zero, suc, _+_, _*_, _/_, _%_, _<_}
 use native.Mathlib.Omega.{arith}
 use lib.IntN.{ℤ, pos}
 use lib.ListN.{length, getD}
 use lib.Pow.{low, high}
 use lib.Seq.{ext-getD}
 use Rattle.laws.specs.Unique.{once}
+use Rattle.laws.specs.Parts.{parts-once}
+use Rattle.laws.specs.Runs.{run-once}
 use Rattle.scene.specs.Arrays.{rowIn, faceIn}
 use Rattle.scene.specs.View.{View, solid}
 use Rattle.scene.specs.declared.Row.{Row}
@@ -16,8 +18,7 @@ use Rattle.scene.specs.declared.Face.{Face}
 use Rattle.face_masks.specs.Faces.{valueOf}
 use Rattle.face_masks.specs.declared.Mask.{Mask}
 use Rattle.scene.specs.declared.Solid.{Solid}
-use Rattle.listing.specs.Hits.{Seen, upTo}
-use Rattle.listing.specs.Laws.{upTo-first}
+use Rattle.listing.specs.Hits.{Seen}
 use Rattle.listing.specs.declared.find.Found.{Found}
 use Rattle.table.specs.Table.{Entry, entryIn, entriesIn}
 use Rattle.spread.specs.Walk.{insideWord}
@@ -33,22 +34,18 @@ use Rattle.demands.specs.Once.{Table, WordsHeld, Alike, SurveysOnce, NoS
 
 -- ---- a mask is its number
 
-same-parts : (n a b c d : ℕ) → a < 2 ^ n → c < 2 ^ n → a + 2 ^ n * b ≡ c + 2 ^ n * d → (a ≡ c) × (b ≡ d)
-same-parts n a b c d p q e =
-    let f : b * 2 ^ n + a ≡ d * 2 ^ n + c = omega (arith, e) in
-    (sym (low b n p) ∙ ap (λ (x : ℕ). x % 2 ^ n) f ∙ low d n q, sym (high b n p) ∙ ap (λ (x : ℕ). x / 2 ^ n) f ∙ high d n q)
-
 same-mask : (m o : Mask) → Words m → Words o → valueOf m ≡ valueOf o → m ≡ o
 unfolding valueOf
 same-mask m o p q e =
-    let h = same-parts 64 (m .low) (m .high) (o .low) (o .high) (p .0) (q .0) e in
+    let h = parts-once 64 (m .low) (m .high) (o .low) (o .high) (p .0) (q .0) e in
     λ i. record { low = h .0 i; high = h .1 i }
 
 same-said : (a b : Masked) → WordsSaid a → WordsSaid b → saidMask a ≡ saidMask b → a ≡ b
 same-said (Refused q) (Refused r) x y e = cc
 same-said (Refused q) (Faces o n) x y e = cc
 same-said (Faces m k) (Refused r) x y e = cc
-same-said (Faces m k) (Faces o n) x y e = let d : valueOf m ≡ valueOf o = cc in let f : k ≡ n = cc in let g : m ≡ o = same-mask m o x y d in cc
+same-said (Faces m k) (Faces o n) x y e =
+    let d : valueOf m ≡ valueOf o = cc in let f : k ≡ n = cc in let g : m ≡ o = same-mask m o x y d in cc
 
 -- ---- the arrays of a scene
 
@@ -85,29 +82,12 @@ same-sought v b c p q =
     word : ℕ → Found → ℕ
     word k x = unlessPair x (insideWord (seen v) (solid v k))
 
--- equal runs of single entries have as many of them, and the same in each place
-same-run : {A : Type 0} (f g : ℕ → A) (n m : ℕ) → upTo (λ j. f j ∷ []) n ≡ upTo (λ j. g j ∷ []) m → (n ≡ m) × ((j : ℕ) → j < n → f j ≡ g j)
-unfolding upTo
-same-run f g zero zero e = (refl, λ j h. absurd (omega arith))
-same-run f g zero (suc m) e = let h = ap length (e ∙ upTo-first (λ j. g j ∷ []) m) in absurd (omega (arith, h))
-same-run f g (suc n) zero e = let h = ap length (sym e ∙ upTo-first (λ j. f j ∷ []) n) in absurd (omega (arith, h))
-same-run f g (suc n) (suc m) e =
-    let h : f 0 ∷ upTo (λ j. f (suc j) ∷ []) n ≡ g 0 ∷ upTo (λ j. g (suc j) ∷ []) m =
-    sym (upTo-first (λ j. f j ∷ []) n) ∙ e ∙ upTo-first (λ j. g j ∷ []) m in
-    let first : f 0 ≡ g 0 = cc in
-    let rest = same-run (λ j. f (suc j)) (λ j. g (suc j)) n m (cc) in
-    (ap suc (rest .0), at first (rest .1))
-  where
-    at : f 0 ≡ g 0 → ((j : ℕ) → j < n → f (suc j) ≡ g (suc j)) → (j : ℕ) → j < suc n → f j ≡ g j
-    at first rest zero b = first
-    at first rest (suc j) b = rest j (omega arith)
-
 module _ {s : Seen} {k : Solid} (x y : Table) (in-x : WordsHeld x) (in-y : WordsHeld y)
     (p : Surveyed s k (x .ends) (x .masks) (x .part)) (q : Surveyed s k (y .ends) (y .masks) (y .part)) where
   run : (x .part .edges ≡ y .part .edges) ×
       ((j : ℕ) → j < x .part .edges → entryIn (x .ends) (x .masks) j ≡ entryIn (y .ends) (y .masks) j)
   unfolding entriesIn
-  run = same-run (entryIn (x .ends) (x .masks)) (entryIn (y .ends) (y .masks)) (x .part .edges) (y .part .edges) (p .edges ∙ sym (q .edges))
+  run = run-once (entryIn (x .ends) (x .masks)) (entryIn (y .ends) (y .masks)) (x .part .edges) (y .part .edges) (p .edges ∙ sym (q .edges))
 
   -- by the two places of each edge
   both : (l m : List ℕ) →
@@ -126,7 +106,7 @@ module _ {s : Seen} {k : Solid} (x y : Table) (in-x : WordsHeld x) (in-y : Words
       record {
         part = λ i. record { edges = run .0 i; inside = (p .inside ∙ sym (q .inside)) i };
         ends = both (x .ends) (y .ends) (λ j h. (ap (λ (e : Entry). e .low) (run .1 j h), ap (λ (e : Entry). e .high) (run .1 j h)));
-        masks = both (x .masks) (y .masks) (λ j h. same-parts 64 _ _ _ _ (in-x (2 * j)) (in-y (2 * j)) (ap mask (run .1 j h)));
+        masks = both (x .masks) (y .masks) (λ j h. parts-once 64 _ _ _ _ (in-x (2 * j)) (in-y (2 * j)) (ap mask (run .1 j h)));
       }
 
 -- ---- by crate

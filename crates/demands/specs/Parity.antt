@@ -1,7 +1,7 @@
--- Demand 3, parity. For bytes that the judge accepts, solid 1 or 2, and three different numbers from 1 to a+b+1 none of which is a vertex of that
--- solid: the ones of the three masks add up to an even number. And the route: the oddness from u to v is that from u to w plus that from v to w.
--- The same is said of the numbers of pierced faces. It holds with any limits; with this kernel's, the masks are those of the public question.
--- Assumes nothing.
+-- Demand 3, parity. For bytes that the judge accepts, solid 1 or 2, and three different numbers from 1 to a+b+1 none of which is a vertex
+-- of that solid: the ones of the three masks add up to an even number. And the route: the oddness from u to v is that from u to w plus that
+-- from v to w. The same is said of the numbers of pierced faces. It holds with any limits; with this kernel's, the masks are those of the
+-- public question. Assumes nothing.
 use mathlib.Core.Path.{_≡_}
 use mathlib.Core.Logic.{_≢_}
 use mathlib.Core.List.{List, [], _∷_}
@@ -29,7 +29,8 @@ Always l X = (s : List ℕ) → judgedAt l s ≡ Accepted → (k : ℕ) → Soli
 
 -- demand 3
 abbrev pub Parity : Limits → Type 0
-Parity l = Always l (λ s k u v w. (ones (maskIn (viewOf s) u v k) + ones (maskIn (viewOf s) v w k) + ones (maskIn (viewOf s) w u k)) % 2 ≡ 0)
+Parity l =
+    Always l (λ s k u v w. (ones (maskIn (viewOf s) u v k) + ones (maskIn (viewOf s) v w k) + ones (maskIn (viewOf s) w u k)) % 2 ≡ 0)
 
 -- the same by the numbers of pierced faces: of solid k's faces the sides pierce x, y and z
 abbrev pub facesOf : List ℕ → ℕ → List ℕ

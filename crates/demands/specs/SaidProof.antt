@@ -23,7 +23,8 @@ use Rattle.questions.specs.declared.Listed.{Listed}
 use Rattle.questions.specs.declared.Listed.the-variants as listed
 use Rattle.questions.specs.declared.Verdict.{Verdict}
 use Rattle.questions.specs.declared.Verdict.the-variants as verdict
-use Rattle.demands.specs.Said.{Said, judgedSays, signSays, answerSays, facesSay, countsSay, insideSays, listedSays, verdictSays, Tells, AllTell}
+use Rattle.demands.specs.Said.{Said, judgedSays, signSays, answerSays, facesSay, countsSay, insideSays, listedSays, verdictSays}
+use Rattle.demands.specs.Said.{Tells, AllTell}
 
 -- the i-th value, from 0
 abbrev value : Said → ℕ → ℤ
@@ -40,8 +41,8 @@ found-again find h x y e = sym (h x) ∙ ap find e ∙ h y
 abbrev refusalOf : (n p : ℕ) → Refusal
 refusalOf n p =
     getD (
-    refuse.Opening ∷ refuse.Counts ∷ refuse.Length ∷ refuse.Mark p ∷ refuse.Coordinate p ∷ refuse.Weight p ∷ refuse.Corner p ∷ refuse.Unused p ∷
-    refuse.Edge p ∷ refuse.Room p ∷ refuse.Lacking ∷ refuse.Same ∷ refuse.Buffer p ∷ refuse.Nowhere p ∷ []
+    refuse.Opening ∷ refuse.Counts ∷ refuse.Length ∷ refuse.Mark p ∷ refuse.Coordinate p ∷ refuse.Weight p ∷ refuse.Corner p ∷
+    refuse.Unused p ∷ refuse.Edge p ∷ refuse.Room p ∷ refuse.Lacking ∷ refuse.Same ∷ refuse.Buffer p ∷ refuse.Nowhere p ∷ []
     ) (n - 1) refuse.Opening
 
 refusal-found : (r : Refusal) → refusalOf (numberOf r) (placeOf r) ≡ r
@@ -127,8 +128,8 @@ listed-found (listed.Refused r) = ap listed.Refused (refusal-found r)
 
 abbrev verdictIn : Said → Verdict
 verdictIn x =
-    getD (verdict.Cross (whole x 0) (whole x 1) (whole x 2) ∷ verdict.AInB (whole x 0) ∷ verdict.BInA (whole x 0) ∷ verdict.Apart ∷ []) (x .number)
-    (verdict.Refused (refusalIn x))
+    getD (verdict.Cross (whole x 0) (whole x 1) (whole x 2) ∷ verdict.AInB (whole x 0) ∷ verdict.BInA (whole x 0) ∷ verdict.Apart ∷ [])
+    (x .number) (verdict.Refused (refusalIn x))
 
 verdict-found : (v : Verdict) → verdictIn (verdictSays v) ≡ v
 verdict-found (verdict.Cross u w f) = refl

@@ -8,6 +8,7 @@ use lib.Dec.{ltb, leb}
 use borrow.Author.Tests.{ltb-true}
 use Rattle.laws.specs.Range.{count-same, lowest-same}
 use Rattle.laws.specs.Mask.{mask-same}
+use Rattle.laws.specs.Runs.{upTo-same}
 use Rattle.scene.specs.View.{View, verts, points, solid}
 use Rattle.scene.specs.declared.Row.{Row}
 use Rattle.scene.specs.declared.Face.{Face}
@@ -20,9 +21,9 @@ use Rattle.pierce.specs.Helper.{helper-found}
 use Rattle.pierce.specs.Beside.{Beside, BesideAll}
 use Rattle.face_masks.specs.Faces.{isOdd}
 use Rattle.pierce.specs.Against.{maskAgainst}
-use Rattle.listing.specs.Hits.{Seen, Hit, faceHits, edgeHits, pairHits, pairsAt, vertexHits, solidHits, isInside, insideCount, lowestInside, Own, Sound}
+use Rattle.listing.specs.Hits.{Seen, Hit, faceHits, edgeHits, pairHits, pairsAt, vertexHits, solidHits, isInside, insideCount, lowestInside}
+use Rattle.listing.specs.Hits.{Own, Sound}
 use Rattle.listing.specs.First.{firstOf}
-use Rattle.listing.specs.Laws.{upTo-same}
 use Rattle.questions.specs.Answers.{seen, maskIn, listingIn, insideIn, crossOr, enclosureIn, verdictIn}
 use Rattle.questions.specs.declared.Verdict.{Verdict}
 use Rattle.questions.specs.declared.Verdict.the-variants.{AInB, BInA, Apart}
@@ -97,7 +98,8 @@ module _ (s : Seen) (k : Solid) (ok : Sound s k) (row′ : ℕ → Row) (same : 
   inside-same : (u : ℕ) → k .low + 1 ≤ u → u < k .low + 1 + k .verts → isInside s k u ≡ isInside t k u
   unfolding isInside
   inside-same u l m =
-      ap isOdd (masks-same (s .points) (s .row) row′ same (ok .points .0) (s .face) u (s .points) (k .other) (k .others) (ok .outward u (omega arith)))
+      ap isOdd (masks-same (s .points) (s .row) row′ same (ok .points .0) (s .face) u (s .points) (k .other) (k .others)
+      (ok .outward u (omega arith)))
 
   pub counts-same : insideCount s k ≡ insideCount t k
   unfolding insideCount
@@ -113,7 +115,8 @@ abbrev pub withRows : View → (ℕ → Row) → View
 withRows v row′ = record { vertsA = v .vertsA; facesA = v .facesA; vertsB = v .vertsB; facesB = v .facesB; row = row′; face = v .face }
 
 module _ (v : View) (ok : (k : ℕ) → Sound (seen v) (solid v k)) (row′ : ℕ → Row) (same : SameSigns (points v) (v .row) row′) where
-  pub mask-same-rows : (u w k : ℕ) → BesideAll (points v) u w (v .face) (solid v k .first) (solid v k .count) → maskIn v u w k ≡ maskIn (withRows v row′) u w k
+  pub mask-same-rows : (u w k : ℕ) → BesideAll (points v) u w (v .face) (solid v k .first) (solid v k .count) →
+      maskIn v u w k ≡ maskIn (withRows v row′) u w k
   unfolding maskIn solid
   mask-same-rows u w k h = masks-same (points v) (v .row) row′ same (ok 1 .points .0) (v .face) u w (solid v k .first) (solid v k .count) h
 

@@ -1,6 +1,6 @@
--- The shift is real. For every accepted scene and every whole N above 3.5 × 10^18 the rows (N·x + k·i, N·y + k·i², N·z + k·i³, w), k the factor of
--- the shift, have no zero determinant of four different points, and with the sign of that determinant they give the same signs, masks, enclosed
--- vertices, listing and verdict as the scene does. Assumes nothing.
+-- The shift is real. For every accepted scene and every whole N above 3.5 × 10^18 the rows (N·x + k·i, N·y + k·i², N·z + k·i³, w), k the
+-- factor of the shift, have no zero determinant of four different points, and with the sign of that determinant they give the same signs,
+-- masks, enclosed vertices, listing and verdict as the scene does. Assumes nothing.
 use mathlib.Core.Path.{_≡_}
 use mathlib.Core.Logic.{_≢_}
 use mathlib.Core.List.{List}
@@ -42,12 +42,13 @@ shiftedDet N v a b c d =
     let r = shiftedRow N (v .row) in
     det4 (r a) (r b) (r c) (r d)
 
--- no determinant of four different points is zero; its sign is that of the scene (signs), and the one that the shifted rows are seen with (seen);
--- so are the masks, the numbers of enclosed vertices, the listing and the verdict
+-- no determinant of four different points is zero; its sign is that of the scene (signs), and the one that the shifted rows are seen with
+-- (seen); so are the masks, the numbers of enclosed vertices, the listing and the verdict
 pub record SameShifted (s : List ℕ) (v : View) (N : ℕ) : Type 0 where
   pub nonzero : (a b c d : ℕ) → Four (Upto (points v)) a b c d → shiftedDet N v a b c d ≢ pos 0
   pub signs : (a b c d : ℕ) → Four (Upto (points v)) a b c d → isPlus (sign (shiftedDet N v a b c d)) ≡ positiveAt (v .row) a b c d
-  pub seen : (a b c d : ℕ) → Four (Upto (points v)) a b c d → isPlus (sign (shiftedDet N v a b c d)) ≡ positiveAt (shiftedView N v .row) a b c d
+  pub seen : (a b c d : ℕ) → Four (Upto (points v)) a b c d →
+      isPlus (sign (shiftedDet N v a b c d)) ≡ positiveAt (shiftedView N v .row) a b c d
   pub masks : (u w k : ℕ) → SolidNumber k → Upto (points v) u → Upto (points v) w → u ≢ w → ¬ VertexOf s k u → ¬ VertexOf s k w →
       maskIn (shiftedView N v) u w k ≡ maskIn v u w k
   pub inside : (k : ℕ) → insideIn (shiftedView N v) k ≡ insideIn v k

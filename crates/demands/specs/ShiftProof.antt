@@ -1,13 +1,13 @@
--- The shift is real: above the size of every term, the whole determinant has the sign of the terms, and the answers depend on the signs alone.
--- Assumes nothing.
+-- The shift is real: above the size of every term, the whole determinant has the sign of the terms, and the answers depend on the signs
+-- alone. Assumes nothing.
 use mathlib.Core.Path.{_≡_, refl, sym, ap, _∙_}
 use mathlib.Core.Logic.{_≢_}
 use mathlib.Core.List.{List}
 use Prim.Native.Nat.{ℕ, zero, suc, _≤_, _<_}
 use native.Mathlib.Nat.{le-trans}
 use native.Mathlib.Omega.{arith}
-use lib.IntN.{ℤ, pos, negsuc}
-use Rattle.laws.specs.Sign.{Sign, sign, _or_}
+use lib.IntN.{ℤ, pos}
+use Rattle.laws.specs.Sign.{sign, _or_, or-settled}
 use Rattle.scene.specs.Limits.{limits}
 use Rattle.scene.specs.View.{View, viewOf, points}
 use Rattle.scene.specs.declared.Row.{Row}
@@ -28,12 +28,6 @@ use Rattle.demands.specs.Words.{SolidNumber, VertexOf}
 use Rattle.demands.specs.Shift.{shiftedRow, shiftedView, shiftedDet, Shift}
 use Rattle.demands.specs.Same.{mask-same-rows, inside-same-rows, listing-same-rows, verdict-same-rows}
 
--- a number that is not zero gives the sign alone
-settles : (z : ℤ) (t : Sign) → z ≢ pos 0 → isPlus (sign z) ≡ isPlus (sign z or t)
-settles (pos zero) t d = absurd (d refl)
-settles (pos (suc n)) t d = refl
-settles (negsuc n) t d = refl
-
 module _ (s : List ℕ) (ok : judged s ≡ Accepted) where
   abbrev v : View
   v = viewOf s
@@ -46,13 +40,19 @@ module _ (s : List ℕ) (ok : judged s ≡ Accepted) where
 
   -- ---- signs
 
-  terms-upto : (m a b c d : ℕ) → mostFormed ≤ m → Four (Upto n) a b c d → TermsUpto m (pointAt rows a) (pointAt rows b) (pointAt rows c) (pointAt rows d)
+  terms-upto : (m a b c d : ℕ) → mostFormed ≤ m → Four (Upto n) a b c d →
+      TermsUpto m (pointAt rows a) (pointAt rows b) (pointAt rows c) (pointAt rows d)
   terms-upto m a b c d h f =
       let most = rows-fit s ok in
       let t =
       terms-formed
-      (points-within limits rows a b c d
-      (rows-within limits s ok, le-trans (f .a-in .1) most, le-trans (f .b-in .1) most, le-trans (f .c-in .1) most, le-trans (f .d-in .1) most)) in
+      (points-within limits rows a b c d (
+        rows-within limits s ok,
+        le-trans (f .a-in .1) most,
+        le-trans (f .b-in .1) most,
+        le-trans (f .c-in .1) most,
+        le-trans (f .d-in .1) most,
+      )) in
       record { c1 = le-trans (t .1 .size) h; c2 = le-trans (t .2 .size) h; c3 = le-trans (t .3 .size) h }
 
   sign-at : (N : ℕ) → mostFormed < N → (a b c d : ℕ) → Four (Upto n) a b c d →
@@ -78,7 +78,7 @@ module _ (s : List ℕ) (ok : judged s ≡ Accepted) where
       unfolding positiveAt orientation partOf
       seen =
           let t = tied (pointAt rows′ a) (pointAt rows′ b) (pointAt rows′ c) (pointAt rows′ d) in
-          settles (shiftedDet N v a b c d) t nonzero
+          sym (ap isPlus (or-settled (shiftedDet N v a b c d) t nonzero))
           ∙ ap (λ (z : ℤ). isPlus (sign z or t)) (sym (c0-parts (pointAt rows′ a) (pointAt rows′ b) (pointAt rows′ c) (pointAt rows′ d)))
 
       same : positiveAt rows a b c d ≡ positiveAt rows′ a b c d
@@ -89,7 +89,13 @@ module _ (s : List ℕ) (ok : judged s ≡ Accepted) where
     masks u w k h pu pw d ou ow =
         sym (mask-same-rows v (sound s ok) rows′ same u w k
         (outside-beside s ok
-        (record { u-point = pu; w-point = pw; differ = d; u-out = λ x. ou (vertex-of s k h u .0 x); w-out = λ x. ow (vertex-of s k h w .0 x) }) refl refl refl))
+        (record {
+          u-point = pu;
+          w-point = pw;
+          differ = d;
+          u-out = λ x. ou (vertex-of s k h u .0 x);
+          w-out = λ x. ow (vertex-of s k h w .0 x);
+        }) refl refl refl))
 
 pub shift : Shift
 shift s ok N h =

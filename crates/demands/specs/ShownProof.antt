@@ -43,7 +43,8 @@ module _ (s : List ℕ) (ok : judged s ≡ Accepted) where
       (at-face s (2 + verts s + i) (λ z. omega (arith, z)) (omega arith) (omega arith) (ap (λ (j : ℕ). part s (faceStart s j) 5) (sym e)))
 
   end-part : shown s (lastRecord s) ≡ part s (endStart s) 2
-  end-part = by-part (lastRecord s) (endStart s) 2 (omega arith) (at-end s (lastRecord s) (λ z. omega (arith, z)) (omega arith) (omega arith) refl)
+  end-part =
+      by-part (lastRecord s) (endStart s) 2 (omega arith) (at-end s (lastRecord s) (λ z. omega (arith, z)) (omega arith) (omega arith) refl)
 
   -- ---- end to end
 
@@ -92,7 +93,8 @@ records s ok =
     record {
       file = file s ok;
       header = is s ok 0 6 (omega arith) (omega (arith, l)) (header-part s ok) (r .header .opens .1);
-      far-point = is s ok 6 9 (omega arith) (omega (arith, l)) (point-part s ok 0 (omega arith)) (r .records 1 (omega arith) (omega arith) .mark .far refl);
+      far-point = is s ok 6 9 (omega arith) (omega (arith, l)) (point-part s ok 0 (omega arith))
+          (r .records 1 (omega arith) (omega arith) .mark .far refl);
       vertices =
           λ k a b.
           let j : ℕ = k - 1 in
@@ -105,5 +107,6 @@ records s ok =
           let e : k ≡ 2 + verts s + i = omega arith in
           rw e (is s ok (faceStart s i) 5 (omega arith) (omega (arith, l)) (face-part s ok i (omega arith))
           (r .records (2 + verts s + i) (omega arith) (omega arith) .mark .face i (omega arith) refl));
-      end = is s ok (endStart s) 2 (omega arith) (omega (arith, l)) (end-part s ok) (r .records (lastRecord s) (omega arith) (omega arith) .mark .end refl);
+      end = is s ok (endStart s) 2 (omega arith) (omega (arith, l)) (end-part s ok)
+          (r .records (lastRecord s) (omega arith) (omega arith) .mark .end refl);
     }

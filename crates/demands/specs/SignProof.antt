@@ -5,6 +5,7 @@ use mathlib.Core.Bool.{true, false, true≢false}
 use Prim.Native.Nat.{zero, suc}
 use lib.IntN.{ℤ, pos, negsuc}
 use Rattle.laws.specs.Decides.{eqb-iff}
+use Rattle.laws.specs.Never.{nonsense}
 use Rattle.laws.specs.Sign.{Sign, sign, _or_, plus, minus}
 use Rattle.scene.specs.View.{viewOf, points}
 use Rattle.orient.specs.Laws.{psi, c3-psi}
@@ -12,7 +13,6 @@ use Rattle.orient.specs.Signs.{Upto, Four}
 use Rattle.orient.specs.Terms.{isPlus, orientation, terms, pointAt, positiveAt, termsAt}
 use Rattle.orient.specs.Weighted.{c3-nonzero, slide-tells}
 use Rattle.readings.specs.Ready.{scene-weighted}
-use Rattle.demands.specs.AnswersTests.{nonsense}
 use Rattle.demands.specs.Sign as said
 use Rattle.demands.specs.Sign.{Positive, Negative}
 

@@ -3,26 +3,28 @@ use mathlib.Core.Path.{_≡_, refl, sym, _∙_, subst}
 use mathlib.Core.Logic.{inl, inr, ⊎-elim, _↔_, Iff·trans}
 use mathlib.Core.Bool.{Bool, _&&_}
 use mathlib.Core.List.{List, [], _∷_}
-use Prim.Native.Nat.{ℕ, _+_, _-_, _≤_, _<_}
+use Prim.Native.Nat.{ℕ, _+_, _-_, _<_}
 use native.Mathlib.Omega.{arith}
 use lib.Dec.{ltb}
 use borrow.Author.Tests.{ltb-true, lt-ltb}
 use Rattle.laws.specs.Decides.{and-iff}
 use Rattle.laws.specs.Lists.{Each, Some, each-map}
+use Rattle.laws.specs.Runs.{only, each-upTo, each-only, some-upTo, some-only, rising-only, rising-upTo}
+use Rattle.laws.specs.Rising.{Rising}
 use Rattle.scene.specs.declared.Solid.{Solid}
-use Rattle.scene.specs.View.{viewOf, solid, solidA, solidB}
+use Rattle.scene.specs.View.{viewOf, solid}
 use Rattle.judge.specs.Judge.{judged}
 use Rattle.judge.specs.declared.Judged.the-variants.{Accepted}
 use Rattle.edges.specs.Edges.{joined, Corners}
-use Rattle.listing.specs.Hits.{Seen, only, edgeMask}
-use Rattle.listing.specs.Laws.{each-upTo, each-only}
+use Rattle.listing.specs.Hits.{Seen, edgeMask}
 use Rattle.table.specs.Table.{Entry}
 use Rattle.table.specs.Edges.{entry, vertexEdges, solidEdges}
 use Rattle.questions.specs.Answers.{seen, maskIn}
+use Rattle.readings.specs.Ready.{sound-a, sound-b}
 use Rattle.demands.specs.Words.{FaceOfA, FaceOfB, Edge}
-use Rattle.demands.specs.Exact.{Rising, Earlier, EdgesAre}
-use Rattle.demands.specs.ExactRuns.{some-upTo, some-only, rising-only, rising-upTo}
-use Rattle.demands.specs.ExactPairs.{corner-vertex, Joined, joined-iff, corners-a, corners-b}
+use Rattle.demands.specs.Exact.{Earlier, EdgesAre}
+use Rattle.demands.specs.ExactPairs.{Joined, joined-iff, joined-own, edge-in}
+use Rattle.demands.specs.Solids.{Worded, a-worded, b-worded}
 
 -- ---- of one solid
 
@@ -58,25 +60,22 @@ module _ (v : Seen) (k : Solid) where
     from-entry : Corners (v .face) k → IsEntry e → Some Is (solidEdges v k)
     unfolding solidEdges vertexEdges
     from-entry own p =
-        let f = p .on .0 in
-        let ok = own f (omega (arith, p .on .1)) (omega (arith, p .on .1)) in
-        let low = corner-vertex (v .face f) ok (p .on .2 .0) in
-        let high = corner-vertex (v .face f) ok (p .on .2 .1) in
+        let ends = joined-own v k own (p .on) in
         let i : ℕ = e .low - (k .low + 1) in
         let m : ℕ = e .high - (k .low + 1) in
         let u : ℕ = k .low + 1 + i in
         let w : ℕ = k .low + 1 + m in
-        let eu : e .low ≡ u = omega (arith, low) in
-        let ew : e .high ≡ w = omega (arith, high) in
+        let eu : e .low ≡ u = omega (arith, ends .0) in
+        let ew : e .high ≡ w = omega (arith, ends .1) in
         let em : e .mask ≡ edgeMask v k u w = p .masked ∙ (λ t. edgeMask v k (eu t) (ew t)) in
         let same : e ≡ entry v k u w = λ t. record { low = eu t; high = ew t; mask = em t } in
         let q : IsEntry (entry v k u w) = subst IsEntry same p in
         some-upTo Is (λ i. vertexEdges v k (k .low + 1 + i)) (k .verts) .1 (
           i,
-          omega (arith, low),
+          omega (arith, ends .0),
           some-upTo Is (edgeAt u) (k .verts) .1 (
             m,
-            omega (arith, high),
+            omega (arith, ends .1),
             some-only Is (isEdge u w) (entry v k u w ∷ []) .1 (
               and-iff (ltb u w) (joined (v .face) k u w) .1 (lt-ltb u w (q .lower-first), joined-iff v k u w .1 (q .on)),
               inl (sym same),
@@ -109,42 +108,30 @@ module _ (v : Seen) (k : Solid) where
       rising-upTo Earlier (λ i. vertexEdges v k (k .low + 1 + i)) (λ i x. x .low ≡ k .low + 1 + i) (λ i. vertex-each (k .low + 1 + i))
       (λ i j x y l p q. inl (omega (arith, p, q))) (λ i. vertex-rises (k .low + 1 + i)) (k .verts)
 
--- ---- of a scene: the solid k, by its faces, and the number n of the other solid
+-- ---- of a scene: the solid k in its words, and the number m of the other
 
 module _ (s : List ℕ) where
   abbrev v : Seen
   v = seen (viewOf s)
 
-  module _ (k : Solid) (n : ℕ) {Own : ℕ → Type 0} (own : (f : ℕ) → ((k .first + 1 ≤ f) × (f < k .first + 1 + k .count)) ↔ Own f)
-      (against : (u w : ℕ) → edgeMask v k u w ≡ maskIn (viewOf s) u w n) (corners : Corners (v .face) k) where
-    entered : (e : Entry) → IsEntry v k e ↔ (Edge s Own (e .low) (e .high) × (e .mask ≡ maskIn (viewOf s) (e .low) (e .high) n))
+  module _ {k : Solid} {n : ℕ} {Of Own Other : ℕ → Type 0} (named : Worded s k n Of Own Other) (m : ℕ)
+      (against : (u w : ℕ) → edgeMask v k u w ≡ maskIn (viewOf s) u w m) (corners : Corners (v .face) k) where
+    entered : (e : Entry) → IsEntry v k e ↔ (Edge s Own (e .low) (e .high) × (e .mask ≡ maskIn (viewOf s) (e .low) (e .high) m))
     entered e = (
+      λ p. (edge-in s named .0 (p .lower-first, p .on), p .masked ∙ against (e .low) (e .high)),
       λ p.
-          let o = p .on in (
-            record { lower-first = p .lower-first; on = (o .0, own (o .0) .0 (o .1), o .2 .0, o .2 .1) },
-            p .masked ∙ against (e .low) (e .high),
-          ),
-      λ p.
-          let o = p .0 .on in
-          record {
-            lower-first = p .0 .lower-first;
-            on = (o .0, own (o .0) .1 (o .1), (o .2, o .3));
-            masked = p .1 ∙ sym (against (e .low) (e .high));
-          },
+          let o = edge-in s named .1 (p .0) in
+          record { lower-first = o .0; on = o .1; masked = p .1 ∙ sym (against (e .low) (e .high)) },
     )
 
-    edges-are : EdgesAre s Own n (solidEdges v k)
+    edges-are : EdgesAre s Own m (solidEdges v k)
     edges-are = record { rising = edges-rise v k; members = λ e. Iff·trans (to-entry v k e, from-entry v k e corners) (entered e) }
 
   module _ (ok : judged s ≡ Accepted) where
     pub edges-of-a : EdgesAre s (FaceOfA s) 2 (solidEdges v (solid (viewOf s) 1))
     unfolding maskIn edgeMask solid
-    edges-of-a =
-        edges-are (solidA (viewOf s)) 2 (λ f. (λ h. (omega arith, omega arith), λ h. (omega arith, omega arith))) (λ u w. refl)
-        (corners-a s ok)
+    edges-of-a = edges-are (a-worded s) 2 (λ u w. refl) (sound-a s ok .corners)
 
     pub edges-of-b : EdgesAre s (FaceOfB s) 1 (solidEdges v (solid (viewOf s) 2))
     unfolding maskIn edgeMask solid
-    edges-of-b =
-        edges-are (solidB (viewOf s)) 1 (λ f. (λ h. (omega arith, omega arith), λ h. (omega arith, omega arith))) (λ u w. refl)
-        (corners-b s ok)
+    edges-of-b = edges-are (b-worded s) 1 (λ u w. refl) (sound-b s ok .corners)

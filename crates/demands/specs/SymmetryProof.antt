@@ -22,13 +22,18 @@ round-law = law (all λ au. all λ av. all λ x. all λ y. all λ z. five (not (
 
 backward-law : (au av x y z : Bool) → five (not (not (not au))) (not (not (not av))) (not y) (not x) (not z) ≡ five au av x y z
 backward-law =
-    law (all λ au. all λ av. all λ x. all λ y. all λ z. five (not (not (not au))) (not (not (not av))) (not y) (not x) (not z) ≐ five au av x y z) tt
+    law (all λ au. all λ av. all λ x. all λ y. all λ z. five (not (not (not au))) (not (not (not av))) (not y) (not x)
+    (not z) ≐ five au av x y z) tt
 
 module _ (n : ℕ) (s : ℕ → ℕ → ℕ → ℕ → Bool) (r : Rules (Upto n) s) (a b : ℕ) (f : Face) (d : Beside n a b f) where
   ends-hit : hitsFace s b a f ≡ hitsFace s a b f
   unfolding hits
   ends-hit =
-      rw (r .swap1 a b (f .p) (f .q) (search ne-sym), r .swap1 a b (f .q) (f .r) (search ne-sym), r .swap1 a b (f .r) (f .p) (search ne-sym))
+      rw (
+        r .swap1 a b (f .p) (f .q) (search ne-sym),
+        r .swap1 a b (f .q) (f .r) (search ne-sym),
+        r .swap1 a b (f .r) (f .p) (search ne-sym),
+      )
       (ends-law (s (f .p) (f .q) (f .r) a) (s (f .p) (f .q) (f .r) b) (s a b (f .p) (f .q)) (s a b (f .q) (f .r)) (s a b (f .r) (f .p)))
 
   round-hit : hitsFace s a b (round f) ≡ hitsFace s a b f

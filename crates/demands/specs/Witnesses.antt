@@ -1,5 +1,5 @@
--- One accepted scene for each verdict, so that no demand is about nothing: the printed scene, which crosses, and a small solid beside, within and around
--- another; and the printed scene with a direction as far point, and with an edge of A in four faces. Assumes nothing.
+-- One accepted scene for each verdict, so that no demand is about nothing: the printed scene, which crosses, and a small solid beside,
+-- within and around another; and the printed scene with a direction as far point, and with an edge of A in four faces. Assumes nothing.
 use mathlib.Core.Path.{_≡_}
 use mathlib.Core.List.{List, [], _∷_}
 use Prim.Native.Nat.{ℕ}
@@ -21,12 +21,17 @@ use Rattle.demands.specs.Scenes.{minus, at, corners, four, scene, sceneT
 -- ---- the solids: that at the origin, the printed one that it crosses, one beside it and one around it
 
 abbrev small : Table
-small = record { rows = at (pos 0) (pos 0) (pos 0) ∷ at (pos 4) (pos 0) (pos 0) ∷ at (pos 0) (pos 4) (pos 0) ∷ at (pos 0) (pos 0) (pos 4) ∷ []; faces = four }
+small =
+    record {
+      rows = at (pos 0) (pos 0) (pos 0) ∷ at (pos 4) (pos 0) (pos 0) ∷ at (pos 0) (pos 4) (pos 0) ∷ at (pos 0) (pos 0) (pos 4) ∷ [];
+      faces = four;
+    }
 
 abbrev crossing : Table
 crossing =
     record {
-      rows = at (pos 1) (pos 1) (pos 1) ∷ at (minus 8) (minus 7) (minus 9) ∷ at (pos 9) (minus 6) (minus 9) ∷ at (pos 2) (pos 10) (minus 9) ∷ [];
+      rows = at (pos 1) (pos 1) (pos 1) ∷ at (minus 8) (minus 7) (minus 9) ∷ at (pos 9) (minus 6) (minus 9) ∷ at (pos 2)
+          (pos 10) (minus 9) ∷ [];
       faces = four;
     }
 

@@ -2,9 +2,10 @@
 use mathlib.Core.Path.{refl}
 use lib.Count.{ones}
 use Rattle.laws.specs.Mask.{maskOf}
+use Rattle.laws.specs.Runs.{upTo}
 use Rattle.edges.specs.Edges.{joined}
 use Rattle.face_masks.specs.Faces.{isOdd}
-use Rattle.listing.specs.Hits.{upTo, faceHits, edgeHits, pairHits, vertexHits, solidHits, isInside, insideCount, lowestInside}
+use Rattle.listing.specs.Hits.{faceHits, edgeHits, pairHits, vertexHits, solidHits, isInside, insideCount, lowestInside}
 use Rattle.listing.specs.First.{firstOf}
 use Rattle.scene.specs.View.{solid}
 use Rattle.scene.specs.Faces.{isCorner, hasBoth}
@@ -13,7 +14,8 @@ use Rattle.demands.specs.Computing.{judging, piercing}
 use Rattle.demands.specs.Witnesses.{Witnesses}
 
 pub witnesses : Witnesses
-unfolding judging piercing ones maskOf isCorner hasBoth joined isOdd upTo faceHits edgeHits pairHits vertexHits solidHits isInside insideCount lowestInside firstOf listingIn solid answered countsIn insideIn countedOf enclosureIn verdictIn verdictOf
+unfolding judging piercing ones maskOf isCorner hasBoth joined isOdd upTo faceHits edgeHits pairHits vertexHits solidHits isInside
+    insideCount lowestInside firstOf listingIn solid answered countsIn insideIn countedOf enclosureIn verdictIn verdictOf
 witnesses =
     record {
       cross = record { long = refl; accepted = refl; listing = refl; counts = refl; verdict = refl };

@@ -1,5 +1,5 @@
--- The words of document 01 that the demands use, as facts about the numbers of a scene: its points, vertices, faces, solids and records, the edges
--- of a solid, an edge that pierces a face, and a vertex that is enclosed. Assumes nothing.
+-- The words of document 01 that the demands use, as facts about the numbers of a scene: its points, vertices, faces, solids and records,
+-- the edges of a solid, an edge that pierces a face, and a vertex that is enclosed. Assumes nothing.
 use mathlib.Core.Path.{_≡_}
 use mathlib.Core.Logic.{_⊎_, _↔_}
 use mathlib.Core.Bool.{true}

@@ -1,5 +1,5 @@
--- What is answered of a scene depends on its rows by what pierces alone: two kinds of rows with which the same edges pierce the same faces give the
--- same masks, hits and enclosed vertices. Assumes nothing.
+-- What is answered of a scene depends on its rows by what pierces alone: two kinds of rows with which the same edges pierce the same faces
+-- give the same masks, hits and enclosed vertices. Assumes nothing.
 use mathlib.Core.Path.{_≡_, refl, ap}
 use mathlib.Core.Logic.{_≢_}
 use mathlib.Core.Bool.{Bool, true, false, cond, _&&_}
@@ -10,6 +10,7 @@ use lib.Dec.{ltb}
 use borrow.Author.Tests.{ltb-true}
 use Rattle.laws.specs.Range.{count-same, lowest-same}
 use Rattle.laws.specs.Mask.{mask-same}
+use Rattle.laws.specs.Runs.{upTo, upTo-same}
 use Rattle.scene.specs.Faces.{Vertex, FaceOf}
 use Rattle.scene.specs.declared.Row.{Row}
 use Rattle.scene.specs.declared.Face.{Face}
@@ -20,8 +21,7 @@ use Rattle.pierce.specs.Formula.{pierced}
 use Rattle.pierce.specs.Beside.{Beside, beside}
 use Rattle.face_masks.specs.Faces.{isOdd}
 use Rattle.pierce.specs.Against.{maskAgainst}
-use Rattle.listing.specs.Hits.{Seen, Hit, upTo, faceHits, edgeHits, pairHits, pairsAt, vertexHits, solidHits, isInside, insideCount, lowestInside}
-use Rattle.listing.specs.Laws.{upTo-same}
+use Rattle.listing.specs.Hits.{Seen, Hit, faceHits, edgeHits, pairHits, pairsAt, vertexHits, solidHits, isInside, insideCount, lowestInside}
 
 -- a point of n that is no vertex of the solid whose vertices are the points above low, up to high
 pub record Clear (n low high i : ℕ) : Type 0 where
@@ -33,7 +33,8 @@ abbrev pub SamePierced : (n : ℕ) (row row′ : ℕ → Row) → Type 0
 SamePierced n row row′ = (u v : ℕ) (f : Face) → Beside n u v f → pierced n row u v f ≡ pierced n row′ u v f
 
 module _ (n : ℕ) (row row′ : ℕ → Row) (face : ℕ → Face) (same : SamePierced n row row′) (low high : ℕ) (inside : high ≤ n) where
-  pierced-same : (u v : ℕ) → Clear n low high u → Clear n low high v → u ≢ v → (f : Face) → FaceOf low high f → pierced n row u v f ≡ pierced n row′ u v f
+  pierced-same : (u v : ℕ) → Clear n low high u → Clear n low high v → u ≢ v → (f : Face) → FaceOf low high f →
+      pierced n row u v f ≡ pierced n row′ u v f
   pierced-same u v cu cv d f h = same u v f (beside inside (cu .point) (cv .point) d (cu .out) (cv .out) f h)
 
   module _ (first count : ℕ) (faces : (i : ℕ) → i < count → FaceOf low high (face (first + 1 + i)))
@@ -45,7 +46,8 @@ module _ (n : ℕ) (row row′ : ℕ → Row) (face : ℕ → Face) (same : Same
 
   -- the vertices of k are none of the other solid's
   module _ (k : Solid) (faces : (i : ℕ) → i < k .others → FaceOf low high (face (k .other + 1 + i)))
-      (own : (i : ℕ) → k .low < i → i ≤ k .low + k .verts → Clear n low high i) (far : Clear n low high n) (last : k .low + k .verts < n) where
+      (own : (i : ℕ) → k .low < i → i ≤ k .low + k .verts → Clear n low high i) (far : Clear n low high n)
+      (last : k .low + k .verts < n) where
     abbrev o : Seen
     o = record { points = n; row = row; face = face }
 
@@ -60,7 +62,8 @@ module _ (n : ℕ) (row row′ : ℕ → Row) (face : ℕ → Face) (same : Same
     unfolding pairHits edgeHits
     pair-same u v both cu cv = go (ltb u v) refl
       where
-        go : (b : Bool) → ltb u v ≡ b → cond (b && both) (upTo (faceHits o k u v) (k .others)) [] ≡ cond (b && both) (upTo (faceHits o′ k u v) (k .others)) []
+        go : (b : Bool) → ltb u v ≡ b →
+            cond (b && both) (upTo (faceHits o k u v) (k .others)) [] ≡ cond (b && both) (upTo (faceHits o′ k u v) (k .others)) []
         go false e = refl
         go true e =
             let l : u < v = ltb-true u v e in

@@ -1,5 +1,6 @@
--- A solid k of a scene, and the solid k′ that it is where the points are numbered in another way, in each solid in the same order: with no tie between the
--- points outside the other solid and its faces the same edges pierce the same faces, and the same vertices are enclosed. Assumes nothing.
+-- A solid k of a scene, and the solid k′ that it is where the points are numbered in another way, in each solid in the same order: with no
+-- tie between the points outside the other solid and its faces the same edges pierce the same faces, and the same vertices are enclosed.
+-- Assumes nothing.
 use mathlib.Core.Path.{_≡_, sym, ap, ap₂, _∙_}
 use mathlib.Core.Logic.{_≢_}
 use mathlib.Core.Bool.{_&&_, _||_}
@@ -52,15 +53,18 @@ pub record Renumbered (o o′ : Seen) (to : ℕ → ℕ) : Type 0 where
   pub weighted : Weighted (o .points) (o .row)
   pub weighted′ : Weighted (o .points) (o′ .row)
 
-module _ (o o′ : Seen) (to faceTo : ℕ → ℕ) (g : Renumbered o o′ to) (k k′ : Solid) (low high : ℕ) (x : Counterpart o o′ to faceTo k k′ low high) where
+module _ (o o′ : Seen) (to faceTo : ℕ → ℕ) (g : Renumbered o o′ to) (k k′ : Solid) (low high : ℕ)
+    (x : Counterpart o o′ to faceTo k k′ low high) where
   abbrev n : ℕ
   n = o .points
 
-  besides : (u v : ℕ) → Clear n low high u → Clear n low high v → u ≢ v → (j : ℕ) → j < k .others → Beside n u v (o .face (k .other + 1 + j))
+  besides : (u v : ℕ) → Clear n low high u → Clear n low high v → u ≢ v → (j : ℕ) → j < k .others →
+      Beside n u v (o .face (k .other + 1 + j))
   besides u v cu cv d j b = beside (x .within) (cu .point) (cv .point) d (cu .out) (cv .out) _ (x .other-corners j b)
 
   pub mask-same : (u v : ℕ) → Clear n low high u → Clear n low high v → u ≢ v →
-      maskAgainst (o′ .points) (o′ .row) (o′ .face) (to u) (to v) (k′ .other) (k′ .others) ≡ maskAgainst n (o .row) (o .face) u v (k .other) (k .others)
+      maskAgainst (o′ .points) (o′ .row) (o′ .face) (to u) (to v) (k′ .other) (k′ .others) ≡ maskAgainst n (o .row) (o .face) u v
+      (k .other) (k .others)
   mask-same u v cu cv d =
       (λ i. maskAgainst (g .points i) (o′ .row) (o′ .face) (to u) (to v) (k′ .other) (x .other-count i))
       ∙ mask-renamed n to (o .row) (o′ .row) (g .numbers) (g .six) (g .weighted) (g .weighted′) (o .face) (o′ .face)
@@ -113,10 +117,11 @@ module _ (o o′ : Seen) (to faceTo : ℕ → ℕ) (g : Renumbered o o′ to) (k
       joined (o′ .face) k′ (k′ .low + 1 + i) (k′ .low + 1 + m) ≡ joined (o .face) k (k .low + 1 + i) (k .low + 1 + m)
   unfolding joined
   edge-same i m a b =
-      any-shifted (λ f. hasBoth (k′ .low + 1 + i) (k′ .low + 1 + m) (o′ .face f)) (λ f. hasBoth (k .low + 1 + i) (k .low + 1 + m) (o .face f))
-      (k′ .first + 1) (k .first + 1) (k′ .count) (k .count) (x .own-count)
+      any-shifted (λ f. hasBoth (k′ .low + 1 + i) (k′ .low + 1 + m) (o′ .face f))
+      (λ f. hasBoth (k .low + 1 + i) (k .low + 1 + m) (o .face f)) (k′ .first + 1) (k .first + 1) (k′ .count) (k .count) (x .own-count)
       (λ j c. (λ t. hasBoth (sym (x .number i a) t) (sym (x .number m b) t) (x .own-faces j c t))
-      ∙ both-same (o .face (k .first + 1 + j)) (x .own-corners j c) (k .low + 1 + i) (k .low + 1 + m) (x .own i a .point) (x .own m b .point))
+      ∙ both-same (o .face (k .first + 1 + j)) (x .own-corners j c) (k .low + 1 + i) (k .low + 1 + m) (x .own i a .point)
+      (x .own m b .point))
 
   -- ---- hits
 

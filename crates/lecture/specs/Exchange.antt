@@ -1,6 +1,7 @@
--- A and B exchanged: a scene t whose A is the B of s and whose B is the A of s, with the same far point. Where no tie is broken in s, as where s is
--- clean, t has the answers of s, told of the other letter: its masks, its listing pair by pair, its counts and its verdict. (With ties none of it need
--- be so, since the points have other numbers in t and are shifted otherwise: `Ties` has a scene.) Assumes nothing.
+-- A and B exchanged: a scene t whose A is the B of s and whose B is the A of s, with the same far point. Where no tie is broken in s, as
+-- where s is clean, t has the answers of s, told of the other letter: its masks, its listing pair by pair, its counts and its verdict.
+-- (With ties none of it need be so, since the points have other numbers in t and are shifted otherwise: `Ties` has a scene.)
+-- Assumes nothing.
 use mathlib.Core.Path.{_≡_}
 use mathlib.Core.Logic.{_≢_, _↔_}
 use mathlib.Core.Bool.{cond}
@@ -53,8 +54,8 @@ exchangedBytes s = bytesOf (record { a = tablesOf s .b; b = tablesOf s .a; far =
 pub record NoTies (s : List ℕ) : Type 0 where
   pub of-a : (i : ℕ) → i < facesA s → (u v : ℕ) → Clear (pointsOf s) 0 (vertsA s) u → Clear (pointsOf s) 0 (vertsA s) v → u ≢ v →
       Untied (rowsOf s) u v (face (tablesOf s) (0 + 1 + i))
-  pub of-b : (i : ℕ) → i < facesB s → (u v : ℕ) → Clear (pointsOf s) (vertsA s) (verts s) u → Clear (pointsOf s) (vertsA s) (verts s) v → u ≢ v →
-      Untied (rowsOf s) u v (face (tablesOf s) (facesA s + 1 + i))
+  pub of-b : (i : ℕ) → i < facesB s → (u v : ℕ) → Clear (pointsOf s) (vertsA s) (verts s) u →
+      Clear (pointsOf s) (vertsA s) (verts s) v → u ≢ v → Untied (rowsOf s) u v (face (tablesOf s) (facesA s + 1 + i))
 
 -- a pair of s in the numbers of t; the listing of s so told: edges of B with faces of A come first
 abbrev pub carried : List ℕ → Hit → Hit
@@ -63,7 +64,8 @@ carried s h = record { low = to s (h .low); high = to s (h .high); face = faceTo
 unfoldable pub listedExchanged : List ℕ → List Hit
 listedExchanged s = map (carried s) (solidHits (seen s) (inB s) ++ solidHits (seen s) (inA s))
 
--- the verdict of s so told: the first such pair; if none, the lowest vertex of B enclosed by A; if none, the lowest of A enclosed by B; else apart
+-- the verdict of s so told: the first such pair; if none, the lowest vertex of B enclosed by A; if none, the lowest of A enclosed by B;
+-- else apart
 unfoldable pub enclosureExchanged : List ℕ → Verdict
 enclosureExchanged s =
     let p : ℕ = lowestInside (seen s) (inA s) in

@@ -21,14 +21,16 @@ use Rattle.orient.specs.Weighted.{Weighted}
 use Rattle.pierce.specs.Beside.{beside}
 use Rattle.listing.specs.Hits.{Hit, solidHits, isInside, insideCount, lowestInside}
 use Rattle.listing.specs.First.{firstOf}
-use Rattle.questions.specs.Answers.{answered, countsIn, countedOf, crossOr, enclosureIn, verdictIn, verdictOf, verdictNumber, listingIn, insideIn}
+use Rattle.questions.specs.Answers.{answered, countsIn, countedOf, crossOr, enclosureIn, verdictIn}
+use Rattle.questions.specs.Answers.{verdictOf, verdictNumber, listingIn, insideIn}
 use Rattle.questions.specs.declared.Counted.the-variants.{Counts}
 use Rattle.questions.specs.declared.Verdict.{Verdict}
 use Rattle.questions.specs.declared.Verdict.the-variants.{AInB, BInA, Apart}
 use Rattle.clean.specs.Clean.{Clean}
 use Rattle.lecture.specs.Lecture.{rowsOf, pointsOf, seen, inA, inB, listed}
 use Rattle.lecture.specs.Renumbered.{clean-untied}
-use Rattle.lecture.specs.Exchange.{to, faceTo, carried, Exchanged, NoTies, listedExchanged, enclosureExchanged, verdictExchanged, SameExchanged, Exchange}
+use Rattle.lecture.specs.Exchange.{to, faceTo, carried, Exchanged, NoTies, listedExchanged, enclosureExchanged, verdictExchanged}
+use Rattle.lecture.specs.Exchange.{SameExchanged, Exchange}
 use Rattle.lecture.specs.Numbers.{of-a, of-b, of-far, into, apart}
 use Rattle.lecture.specs.Word.{word, wordBy, word-by-counts}
 use Rattle.lecture.specs.Shifted.{lowest-from}
@@ -41,7 +43,8 @@ scene-weighted s ok i a b = weighted limits s ok i a (omega (arith, points-are s
 -- ---- what is told of the lowest enclosed vertices, p of A and q of B in s, p′ of A and q′ of B in t
 
 module _ (a b p q p′ q′ v w : ℕ) (e : p′ + a ≡ q) (f : q′ ≡ p + b) (g : q ≤ a + b → v ≡ q - a) (h : p ≤ a → w ≡ b + p) where
-  enclosure-told : cond (leb p′ b) (AInB p′) (cond (leb q′ (b + a)) (BInA q′) Apart) ≡ cond (leb q (a + b)) (AInB v) (cond (leb p a) (BInA w) Apart)
+  enclosure-told : cond (leb p′ b) (AInB p′) (cond (leb q′ (b + a)) (BInA q′) Apart) ≡ cond (leb q (a + b)) (AInB v)
+      (cond (leb p a) (BInA w) Apart)
   enclosure-told = by (decLt (a + b) q) (decLt a p)
     where
       by : Dec (a + b < q) → Dec (a < p) →
@@ -99,7 +102,8 @@ module _ (s t : List ℕ) (ok : judged s ≡ Accepted) (ok′ : judged t ≡ Acc
         face-number = λ j l. of-b (facesA s) (facesB s) (facesA s + 1 + j) (omega arith) (omega arith) ∙ omega arith;
         own-faces = λ j l. ap (λ (f : ℕ). face (tablesOf t) (f + 1 + j)) (h .faces-a) ∙ h .of-a j l;
         other-faces = h .of-b;
-        own-corners = λ j l. let e : 0 + vertsA s ≡ vertsA s = omega arith in rw e (face-of-a limits s ok (0 + 1 + j) (omega arith) (omega arith));
+        own-corners = λ j l. let e : 0 + vertsA s ≡ vertsA s = omega arith in
+            rw e (face-of-a limits s ok (0 + 1 + j) (omega arith) (omega arith));
         other-corners = λ j l. face-of-b limits s ok (facesA s + 1 + j) (omega arith) (omega arith);
         untied = ties .of-b;
         within = omega arith;
@@ -182,7 +186,8 @@ module _ (s t : List ℕ) (ok : judged s ≡ Accepted) (ok′ : judged t ≡ Acc
 
   -- ---- the kernel's answers
 
-  counts-are : countsIn (viewOf t) ≡ record { pairs = length (listed s); «a_in_b» = insideCount (seen s) (inB s); «b_in_a» = insideCount (seen s) (inA s) }
+  counts-are : countsIn
+      (viewOf t) ≡ record { pairs = length (listed s); «a_in_b» = insideCount (seen s) (inB s); «b_in_a» = insideCount (seen s) (inA s) }
   unfolding countsIn insideIn listingIn solid
   counts-are = λ i. record { pairs = (ap length listing ∙ as-many) i; «a_in_b» = inside-a i; «b_in_a» = inside-b i }
 
@@ -210,8 +215,10 @@ module _ (s t : List ℕ) (ok : judged s ≡ Accepted) (ok′ : judged t ≡ Acc
 same : (s t : List ℕ) → judged s ≡ Accepted → judged t ≡ Accepted → Exchanged s t → NoTies s → SameExchanged s t
 same s t ok ok′ h ties =
     record {
-      mask-a = mask-same (seen s) (seen t) (to s) (faceTo s) (renumbered s t ok ok′ h ties) (inA s) (inB t) (vertsA s) (verts s) (a-is-b s t ok ok′ h ties);
-      mask-b = mask-same (seen s) (seen t) (to s) (faceTo s) (renumbered s t ok ok′ h ties) (inB s) (inA t) 0 (vertsA s) (b-is-a s t ok ok′ h ties);
+      mask-a = mask-same (seen s) (seen t) (to s) (faceTo s) (renumbered s t ok ok′ h ties) (inA s) (inB t) (vertsA s) (verts s)
+          (a-is-b s t ok ok′ h ties);
+      mask-b = mask-same (seen s) (seen t) (to s) (faceTo s) (renumbered s t ok ok′ h ties) (inB s) (inA t) 0 (vertsA s)
+          (b-is-a s t ok ok′ h ties);
       listing = listing s t ok ok′ h ties;
       counted = counted s t ok ok′ h ties;
       verdict = verdict s t ok ok′ h ties;
@@ -225,11 +232,13 @@ no-ties s ok clean =
       of-a =
           λ i l u v cu cv d.
           clean-untied (pointsOf s) (rowsOf s) clean u v _
-          (beside (omega arith) (cu .point) (cv .point) d (cu .out) (cv .out) _ (face-of-a limits s ok (0 + 1 + i) (omega arith) (omega arith)));
+          (beside (omega arith) (cu .point) (cv .point) d (cu .out)
+          (cv .out) _ (face-of-a limits s ok (0 + 1 + i) (omega arith) (omega arith)));
       of-b =
           λ i l u v cu cv d.
           clean-untied (pointsOf s) (rowsOf s) clean u v _
-          (beside (omega arith) (cu .point) (cv .point) d (cu .out) (cv .out) _ (face-of-b limits s ok (facesA s + 1 + i) (omega arith) (omega arith)));
+          (beside (omega arith) (cu .point) (cv .point) d (cu .out)
+          (cv .out) _ (face-of-b limits s ok (facesA s + 1 + i) (omega arith) (omega arith)));
     }
 
 pub exchange : Exchange

@@ -1,5 +1,5 @@
--- Two lists and a way from the entries of the one to those of the other that gives no two the same: the one is no longer than the other. And so for the
--- numbers of a range at which a test passes. Assumes nothing.
+-- Two lists and a way from the entries of the one to those of the other that gives no two the same: the one is no longer than the other.
+-- And so for the numbers of a range at which a test passes. Assumes nothing.
 use mathlib.Core.Path.{_≡_, refl, sym, ap, _∙_}
 use mathlib.Core.Logic.{inl, inr, _≢_}
 use mathlib.Core.Bool.{Bool, true, false}
@@ -10,8 +10,8 @@ use lib.ListN.{length}
 use Rattle.laws.specs.Lists.{Each, Some, each-map, run, run-each, count-run}
 use Rattle.laws.specs.Even.{count}
 use Rattle.laws.specs.Range.{countOf, more}
-use Rattle.demands.specs.Exact.{Rising}
-use Rattle.demands.specs.ExactRuns.{rising-map, some-run}
+use Rattle.laws.specs.Members.{some-run}
+use Rattle.laws.specs.Rising.{Rising, rising-map}
 
 module _ {A : Type 0} where
   -- x stands in the list

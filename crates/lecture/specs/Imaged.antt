@@ -1,5 +1,5 @@
--- The image that is written is an accepted scene: the scene's bytes with each row times the table. So no rule is broken by an image that passed 5 and
--- 6, and 14 never occurs. Assumes nothing.
+-- The image that is written is an accepted scene: the scene's bytes with each row times the table. So no rule is broken by an image that
+-- passed 5 and 6, and 14 never occurs. Assumes nothing.
 use mathlib.Core.Path.{_≡_, refl, sym, ap, _∙_}
 use mathlib.Core.Logic.{_⊎_, inl, inr}
 use mathlib.Core.List.{List}
@@ -40,12 +40,14 @@ module _ (g : ℕ → Row) (s : List ℕ) where
   abbrev put : ℕ → List ℕ
   put n = filled rowPut g n s
 
-  filled-keeps : (n k : ℕ) → ((j : ℕ) → j < n → (k < pointStart j + 2) ⊎ (pointStart j + 9 ≤ k)) → byteAt (filled rowPut g n s) k ≡ byteAt s k
+  filled-keeps : (n k : ℕ) → ((j : ℕ) → j < n → (k < pointStart j + 2) ⊎ (pointStart j + 9 ≤ k)) →
+      byteAt (filled rowPut g n s) k ≡ byteAt s k
   unfolding filled
   filled-keeps zero k h = refl
   filled-keeps (suc n) k h = by (h n (omega arith)) ∙ filled-keeps n k (λ j b. h j (omega arith))
     where
-      by : (k < pointStart n + 2) ⊎ (pointStart n + 9 ≤ k) → byteAt (rowPut (filled rowPut g n s) n (g n)) k ≡ byteAt (filled rowPut g n s) k
+      by : (k < pointStart n + 2) ⊎ (pointStart n + 9 ≤ k) →
+          byteAt (rowPut (filled rowPut g n s) n (g n)) k ≡ byteAt (filled rowPut g n s) k
       by (inl l) = row-below (filled rowPut g n s) n (g n) k l
       by (inr l) = row-above (filled rowPut g n s) n (g n) k l
 
@@ -53,7 +55,8 @@ module _ (g : ℕ → Row) (s : List ℕ) where
   later : (n j : ℕ) → j < n → Same (rowPut (filled rowPut g n s) n (g n)) (filled rowPut g n s) (pointStart j) 9
   later n j l m a b = row-below (filled rowPut g n s) n (g n) m (omega arith)
 
-  filled-row : (n : ℕ) → ((j : ℕ) → j < n → RowFits (g j) × (pointStart j + 9 ≤ length s)) → (j : ℕ) → j < n → rowAt (filled rowPut g n s) j ≡ g j
+  filled-row : (n : ℕ) → ((j : ℕ) → j < n → RowFits (g j) × (pointStart j + 9 ≤ length s)) → (j : ℕ) → j < n →
+      rowAt (filled rowPut g n s) j ≡ g j
   unfolding filled
   filled-row zero h j b = absurd (omega arith)
   filled-row (suc n) h j b = by (ℕ-discrete j n) (filled-row n (λ j b. h j (omega arith)) j)
@@ -63,7 +66,8 @@ module _ (g : ℕ → Row) (s : List ℕ) where
           let f = h n (omega arith) in
           ap (rowAt (rowPut (filled rowPut g n s) n (g n))) e
           ∙ row-back (filled rowPut g n s) n (g n) (f .0) (rw (filled-length g n s) (f .1)) ∙ ap g (sym e)
-      by (no d) before = row-frame (rowPut (filled rowPut g n s) n (g n)) (filled rowPut g n s) j (later n j (omega arith)) ∙ before (omega arith)
+      by (no d) before =
+          row-frame (rowPut (filled rowPut g n s) n (g n)) (filled rowPut g n s) j (later n j (omega arith)) ∙ before (omega arith)
 
 -- ---- the image
 
@@ -114,8 +118,10 @@ module _ (s : List ℕ) (m : Map) (room : ℕ) (p : Passed s m room) where
       shape = omega (arith, same-shape s t image-rerowed .verts-a, same-shape s t image-rerowed .verts-b)
 
       by : Dec (verts s < i) → row (tablesOf t) i ≡ mapped m (row (tablesOf s) i)
-      by (no l) = row-is t i (u .0) (omega (arith, shape)) ∙ image-row i (omega arith) ∙ ap (mapped m) (sym (row-is s i (u .0) (omega arith)))
-      by (yes l) = far-is t {i = i} (omega (arith, shape)) ∙ image-row 0 (omega arith) ∙ ap (mapped m) (sym (far-is s {i = i} (omega arith)))
+      by (no l) =
+          row-is t i (u .0) (omega (arith, shape)) ∙ image-row i (omega arith) ∙ ap (mapped m) (sym (row-is s i (u .0) (omega arith)))
+      by (yes l) =
+          far-is t {i = i} (omega (arith, shape)) ∙ image-row 0 (omega arith) ∙ ap (mapped m) (sym (far-is s {i = i} (omega arith)))
 
   pub image-mapped : MappedBy m s (imageBytes m s)
   image-mapped = record { shape = same-shape s t image-rerowed; rows = by-number }

@@ -1,6 +1,7 @@
--- The theorem of the lecture, of the bytes of two accepted scenes s and t. Where s is clean and each row of t is that of s times a table whose
--- determinant is not zero, of either sign, t is clean and has the masks, the listing, the enclosed vertices and the verdict of s. Where rows of
--- nonzero weight are multiplied by positive whole numbers, clean or not, no sign changes, and so none of these. Assumes nothing.
+-- The theorem of the lecture, of the bytes of two accepted scenes s and t. Where s is clean and each row of t is that of s times a table
+-- whose determinant is not zero, of either sign, t is clean and has the masks, the listing, the enclosed vertices and the verdict of s.
+-- Where rows of nonzero weight are multiplied by positive whole numbers, clean or not, no sign changes, and so none of these.
+-- Assumes nothing.
 use mathlib.Core.Path.{_≡_}
 use mathlib.Core.Logic.{_≢_}
 use mathlib.Core.List.{List, _++_}
@@ -67,7 +68,8 @@ pub record SameShape (s t : List ℕ) : Type 0 where
 -- u and v are different points, neither of them a vertex of the solid that is asked about
 pub record SameAnswers (s t : List ℕ) : Type 0 where
   pub mask-a : (u v : ℕ) → Clear (pointsOf s) 0 (vertsA s) u → Clear (pointsOf s) 0 (vertsA s) v → u ≢ v → maskA t u v ≡ maskA s u v
-  pub mask-b : (u v : ℕ) → Clear (pointsOf s) (vertsA s) (verts s) u → Clear (pointsOf s) (vertsA s) (verts s) v → u ≢ v → maskB t u v ≡ maskB s u v
+  pub mask-b : (u v : ℕ) → Clear (pointsOf s) (vertsA s) (verts s) u → Clear (pointsOf s) (vertsA s) (verts s) v → u ≢ v →
+      maskB t u v ≡ maskB s u v
   pub listing : listed t ≡ listed s
   pub inside-a : insideCount (seen t) (inA t) ≡ insideCount (seen s) (inA s)
   pub inside-b : insideCount (seen t) (inB t) ≡ insideCount (seen s) (inB s)
@@ -88,8 +90,8 @@ pub record SameMapped (s t : List ℕ) : Type 0 where
 
 abbrev pub Lecture : Type 0
 Lecture =
-    (m : Map) (s t : List ℕ) → judged s ≡ Accepted → judged t ≡ Accepted → MappedBy m s t → Clean (pointsOf s) (rowsOf s) → determinantOf m ≢ pos 0 →
-    SameMapped s t
+    (m : Map) (s t : List ℕ) → judged s ≡ Accepted → judged t ≡ Accepted → MappedBy m s t → Clean (pointsOf s) (rowsOf s) →
+    determinantOf m ≢ pos 0 → SameMapped s t
 
 -- ---- the image that is written into a lent buffer d: an accepted scene of the same shape, and where s is clean with the same answers
 

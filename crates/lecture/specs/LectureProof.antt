@@ -42,12 +42,14 @@ pub multiplied : Multiplied
 multiplied k s t ok ok′ h =
     let signs : (a b c d : ℕ) → Four (Upto (pointsOf s)) a b c d → positiveAt (rowsOf t) a b c d ≡ positiveAt (rowsOf s) a b c d =
     λ a b c d f.
-    sign-scaled (rowsOf s) (rowsOf t) a b c d (k a) (k b) (k c) (k d) (h .rows a (f .a-in)) (h .rows b (f .b-in)) (h .rows c (f .c-in)) (h .rows d (f .d-in)) in
+    sign-scaled (rowsOf s) (rowsOf t) a b c d (k a) (k b) (k c) (k d) (h .rows a (f .a-in)) (h .rows b (f .b-in)) (h .rows c (f .c-in))
+    (h .rows d (f .d-in)) in
     record {
       signs = signs;
       answers =
           same-answers s t ok ok′ (h .shape)
-          (pierced-turned (pointsOf s) false (rowsOf s) (rowsOf t) (λ a b c d f. rw (signs a b c d f) (law (all λ x. x ≐ x ⊕ false) tt _)) (six s ok));
+          (pierced-turned (pointsOf s) false (rowsOf s) (rowsOf t)
+          (λ a b c d f. rw (signs a b c d f) (law (all λ x. x ≐ x ⊕ false) tt _)) (six s ok));
     }
 
 pub image : Image

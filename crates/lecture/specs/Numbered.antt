@@ -1,6 +1,6 @@
--- The points of a scene numbered in another way: point i of s is point `to i` of t, in the same solid, and the faces keep their numbers. Where no tie is
--- broken in s, as where s is clean, t has the same masks, as many enclosed vertices and pairs, the same pairs with the ends' other numbers, and the same
--- word as its verdict. Assumes nothing.
+-- The points of a scene numbered in another way: point i of s is point `to i` of t, in the same solid, and the faces keep their numbers.
+-- Where no tie is broken in s, as where s is clean, t has the same masks, as many enclosed vertices and pairs, the same pairs with the
+-- ends' other numbers, and the same word as its verdict. Assumes nothing.
 use mathlib.Core.Path.{_≡_}
 use mathlib.Core.Logic.{_≢_}
 use mathlib.Core.Bool.{cond}
@@ -46,7 +46,8 @@ carried to h =
     (record { low = to (h .high); high = to (h .low); face = h .face })
 
 pub record SameNumbered (to back : ℕ → ℕ) (s t : List ℕ) : Type 0 where
-  pub mask-a : (u v : ℕ) → Clear (pointsOf s) 0 (vertsA s) u → Clear (pointsOf s) 0 (vertsA s) v → u ≢ v → maskA t (to u) (to v) ≡ maskA s u v
+  pub mask-a : (u v : ℕ) → Clear (pointsOf s) 0 (vertsA s) u → Clear (pointsOf s) 0 (vertsA s) v → u ≢ v →
+      maskA t (to u) (to v) ≡ maskA s u v
   pub mask-b : (u v : ℕ) → Clear (pointsOf s) (vertsA s) (verts s) u → Clear (pointsOf s) (vertsA s) (verts s) v → u ≢ v →
       maskB t (to u) (to v) ≡ maskB s u v
   pub pairs : (h : Hit) → PiercedPair s h → PiercedPair t (carried to h)
@@ -55,4 +56,6 @@ pub record SameNumbered (to back : ℕ → ℕ) (s t : List ℕ) : Type 0 where
   pub verdict : verdictNumber (verdictOf t) ≡ verdictNumber (verdictOf s)
 
 abbrev pub AnyNumbers : Type 0
-AnyNumbers = (to back : ℕ → ℕ) (s t : List ℕ) → judged s ≡ Accepted → judged t ≡ Accepted → Numbered to back s t → NoTies s → SameNumbered to back s t
+AnyNumbers =
+    (to back : ℕ → ℕ) (s t : List ℕ) → judged s ≡ Accepted → judged t ≡ Accepted → Numbered to back s t → NoTies s →
+    SameNumbered to back s t

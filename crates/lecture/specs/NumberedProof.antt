@@ -40,7 +40,8 @@ use Rattle.lecture.specs.Numbered.{Numbered, carried, AnyNumbers}
 
 -- ---- the two scenes
 
-module _ (to back : ℕ → ℕ) (s t : List ℕ) (ok : judged s ≡ Accepted) (ok′ : judged t ≡ Accepted) (h : Numbered to back s t) (ties : NoTies s) where
+module _ (to back : ℕ → ℕ) (s t : List ℕ) (ok : judged s ≡ Accepted) (ok′ : judged t ≡ Accepted) (h : Numbered to back s t)
+    (ties : NoTies s) where
   abbrev n : ℕ
   n = pointsOf s
 
@@ -72,15 +73,18 @@ module _ (to back : ℕ → ℕ) (s t : List ℕ) (ok : judged s ≡ Accepted) (
 
   module _ (low high first count : ℕ) (numbered : first + count ≤ faces s) (within : high ≤ n)
       (corners : (i : ℕ) → i < count → FaceOf low high (face (tablesOf s) (first + 1 + i)))
-      (untied : (i : ℕ) → i < count → (u v : ℕ) → Clear n low high u → Clear n low high v → u ≢ v → Untied (rowsOf s) u v (face (tablesOf s) (first + 1 + i)))
+      (untied : (i : ℕ) → i < count → (u v : ℕ) → Clear n low high u → Clear n low high v → u ≢ v →
+      Untied (rowsOf s) u v (face (tablesOf s) (first + 1 + i)))
       (u v : ℕ) (cu : Clear n low high u) (cv : Clear n low high v) (d : u ≢ v) where
     besides : (i : ℕ) → i < count → Beside n u v (face (tablesOf s) (first + 1 + i))
     besides i l = beside within (cu .point) (cv .point) d (cu .out) (cv .out) _ (corners i l)
 
-    mask-same : maskAgainst (pointsOf t) (rowsOf t) (face (tablesOf t)) (to u) (to v) first count ≡ maskAgainst n (rowsOf s) (face (tablesOf s)) u v first count
+    mask-same : maskAgainst (pointsOf t) (rowsOf t) (face (tablesOf t)) (to u) (to v) first count ≡ maskAgainst n (rowsOf s)
+        (face (tablesOf s)) u v first count
     mask-same =
         ap (λ (m : ℕ). maskAgainst m (rowsOf t) (face (tablesOf t)) (to u) (to v) first count) same-points
-        ∙ mask-renamed n to (rowsOf s) (rowsOf t) renumbering six (scene-weighted s ok) weights (face (tablesOf s)) (face (tablesOf t)) first first count u v
+        ∙ mask-renamed n to (rowsOf s) (rowsOf t) renumbering six (scene-weighted s ok) weights (face (tablesOf s))
+        (face (tablesOf t)) first first count u v
         besides (λ i l. untied i l u v cu cv d) (λ i l. h .there .faces (first + 1 + i) (omega arith))
 
     pierced-same : (f : ℕ) → first < f → f ≤ first + count →
@@ -88,7 +92,8 @@ module _ (to back : ℕ → ℕ) (s t : List ℕ) (ok : judged s ≡ Accepted) (
     pierced-same f a b =
         let i : ℕ = f - (first + 1) in
         let e : first + 1 + i ≡ f = omega arith in
-        subst (λ (f : ℕ). pierced (pointsOf t) (rowsOf t) (to u) (to v) (face (tablesOf t) f) ≡ pierced n (rowsOf s) u v (face (tablesOf s) f)) e
+        subst (λ (f : ℕ). pierced (pointsOf t) (rowsOf t) (to u) (to v) (face (tablesOf t) f) ≡ pierced n (rowsOf s) u v
+        (face (tablesOf s) f)) e
         (ap₂ (λ (m : ℕ) (g : Face). pierced m (rowsOf t) (to u) (to v) g) same-points (h .there .faces (first + 1 + i) (omega arith))
         ∙ pierced-renamed n to (rowsOf s) (rowsOf t) renumbering six (scene-weighted s ok) weights u v (face (tablesOf s) (first + 1 + i))
         (besides i (omega arith)) (untied i (omega arith) u v cu cv d))
@@ -120,8 +125,8 @@ module _ (to back : ℕ → ℕ) (s t : List ℕ) (ok : judged s ≡ Accepted) (
   of-a : (u v f : ℕ) → VertexOfA s u → VertexOfA s v → u ≢ v → FaceOfB s f →
       pierced (pointsOf t) (rowsOf t) (to u) (to v) (face (tablesOf t) f) ≡ pierced n (rowsOf s) u v (face (tablesOf s) f)
   of-a u v f a b d o =
-      pierced-same (vertsA s) (verts s) (facesA s) (facesB s) (omega arith) (omega arith) corners-b (ties .of-b) u v (a-clear u a) (a-clear v b) d f
-      (omega (arith, o)) (omega (arith, o))
+      pierced-same (vertsA s) (verts s) (facesA s) (facesB s) (omega arith) (omega arith) corners-b (ties .of-b) u v (a-clear u a)
+      (a-clear v b) d f (omega (arith, o)) (omega (arith, o))
 
   of-b : (u v f : ℕ) → VertexOfB s u → VertexOfB s v → u ≢ v → FaceOfA s f →
       pierced (pointsOf t) (rowsOf t) (to u) (to v) (face (tablesOf t) f) ≡ pierced n (rowsOf s) u v (face (tablesOf s) f)
@@ -148,8 +153,8 @@ module _ (to back : ℕ → ℕ) (s t : List ℕ) (ok : judged s ≡ Accepted) (
 
   -- what pierces in t, of the numbers of s
   told-back : (u v f : ℕ) → Point t u → Point t v →
-      pierced (pointsOf t) (rowsOf t) (to (back u)) (to (back v)) (face (tablesOf t) f) ≡ pierced n (rowsOf s) (back u) (back v) (face (tablesOf s) f) →
-      Pierces t u v f → Pierces s (back u) (back v) f
+      pierced (pointsOf t) (rowsOf t) (to (back u)) (to (back v)) (face (tablesOf t) f) ≡ pierced n (rowsOf s) (back u) (back v)
+      (face (tablesOf s) f) → Pierces t u v f → Pierces s (back u) (back v) f
   told-back u v f a b e p =
       sym e ∙ ap₂ (λ (u v : ℕ). pierced (pointsOf t) (rowsOf t) u v (face (tablesOf t) f)) (here u a) (here v b) ∙ p
 
@@ -173,7 +178,8 @@ module _ (to back : ℕ → ℕ) (s t : List ℕ) (ok : judged s ≡ Accepted) (
   as-many =
       le-antisymm
       (no-more-pairs back to t s ok′ ok (λ x p. let e = ends-in t ok′ x p in (here (x .low) (e .0), here (x .high) (e .1))) pairs-back)
-      (no-more-pairs to back s t ok ok′ (λ x p. let e = ends-in s ok x p in (h .back-to (x .low) (e .0), h .back-to (x .high) (e .1))) pairs)
+      (no-more-pairs to back s t ok ok′ (λ x p. let e = ends-in s ok x p in
+      (h .back-to (x .low) (e .0), h .back-to (x .high) (e .1))) pairs)
 
   -- ---- enclosed vertices
 
@@ -211,8 +217,8 @@ module _ (to back : ℕ → ℕ) (s t : List ℕ) (ok : judged s ≡ Accepted) (
       (fewer q p (vertsA s + 1) (vertsB s) back to (λ i l. omega (arith, back-b i (omega arith)))
       (λ i l. here i (omega (arith, same-points)))
       (λ i l. sym (in-b (back i) (back-b i (omega arith))) ∙ ap q (here i (omega (arith, same-points)))))
-      (fewer p q (vertsA s + 1) (vertsB s) to back (λ i l. omega (arith, h .there .of-b i (omega arith))) (λ i l. h .back-to i (omega arith))
-      (λ i l. in-b i (omega arith)))
+      (fewer p q (vertsA s + 1) (vertsB s) to back (λ i l. omega (arith, h .there .of-b i (omega arith)))
+      (λ i l. h .back-to i (omega arith)) (λ i l. in-b i (omega arith)))
 
   -- ---- the kernel's answers
 

@@ -1,5 +1,5 @@
--- The pairs of a scene, where its points are numbered in another way and its edges still pierce what they pierced: each is a pair of the other scene, with
--- the ends' other numbers, and there are no more of them than there. Assumes nothing.
+-- The pairs of a scene, where its points are numbered in another way and its edges still pierce what they pierced: each is a pair of the
+-- other scene, with the ends' other numbers, and there are no more of them than there. Assumes nothing.
 use mathlib.Core.Path.{_≡_, refl, sym, ap, ap₂, subst, _∙_}
 use mathlib.Core.Logic.{_≢_, inl, inr}
 use mathlib.Core.Bool.{Bool, true, false, cond}
@@ -10,6 +10,7 @@ use lib.Dec.{ltb}
 use lib.ListN.{length}
 use borrow.Author.Tests.{ltb-true, ltb-false, lt-ltb, le-ltb}
 use Rattle.laws.specs.Lists.{Each}
+use Rattle.laws.specs.Rising.{less-never, rising-map}
 use Rattle.scene.specs.Faces.{Corner, FaceOf, Vertex}
 use Rattle.scene.specs.Limits.{limits}
 use Rattle.scene.specs.Records.{vertsA, verts}
@@ -26,8 +27,6 @@ use Rattle.questions.specs.Answers.{listingIn}
 use Rattle.demands.specs.Words.{FaceOfA, FaceOfB, FaceNumber, Point, CornerOf, Edge, Pierces}
 use Rattle.demands.specs.Exact.{PiercedPair, Before, solidOf}
 use Rattle.demands.specs.ExactProof.{exact}
-use Rattle.demands.specs.ExactListing.{less-never}
-use Rattle.demands.specs.ExactRuns.{rising-map}
 use Rattle.demands.specs.SymmetryProof.{symmetry}
 use Rattle.lecture.specs.Lecture.{pointsOf}
 use Rattle.lecture.specs.Fewer.{In, no-more}
@@ -65,7 +64,8 @@ module _ (to : ℕ → ℕ) (s t : List ℕ) (ok : judged s ≡ Accepted) (ok′
   module _ (Own Other Own′ Other′ : ℕ → Type 0) (low high : ℕ)
       (own : (f : ℕ) → Own f → FaceNumber s f × Own′ f × FaceOf low high (face (tablesOf s) f)) (other : (f : ℕ) → Other f → Other′ f)
       (within : high < pointsOf s)
-      (beside′ : (u v f : ℕ) → Vertex low high u → Vertex low high v → u ≢ v → Other f → Beside (pointsOf t) (to u) (to v) (face (tablesOf t) f))
+      (beside′ : (u v f : ℕ) → Vertex low high u → Vertex low high v → u ≢ v → Other f →
+      Beside (pointsOf t) (to u) (to v) (face (tablesOf t) f))
       (same : (u v f : ℕ) → Vertex low high u → Vertex low high v → u ≢ v → Other f → Pierces s u v f → Pierces t (to u) (to v) f) where
     half : (x : Hit) → Edge s Own (x .low) (x .high) × Other (x .face) × Pierces s (x .low) (x .high) (x .face) →
         let y = carried to x in Edge t Own′ (y .low) (y .high) × Other′ (y .face) × Pierces t (y .low) (y .high) (y .face)
@@ -103,7 +103,8 @@ module _ (to : ℕ → ℕ) (s t : List ℕ) (ok : judged s ≡ Accepted) (ok′
         pierces = same u v (x .face) u-in v-in differ f p
 
         by : (b : Bool) → ltb (to u) (to v) ≡ b →
-            let y : Hit = cond b (record { low = to u; high = to v; face = x .face }) (record { low = to v; high = to u; face = x .face }) in
+            let y : Hit = cond b (record { low = to u; high = to v; face = x .face })
+            (record { low = to v; high = to u; face = x .face }) in
             Edge t Own′ (y .low) (y .high) × Other′ (y .face) × Pierces t (y .low) (y .high) (y .face)
         by true e = (record { lower-first = ltb-true (to u) (to v) e; on = (g, there .1, u-on, v-on) }, other (x .face) f, pierces)
         by false e =
@@ -117,14 +118,17 @@ module _ (to : ℕ → ℕ) (s t : List ℕ) (ok : judged s ≡ Accepted) (ok′
   -- ---- both
 
   module _
-      (same-a : (u v f : ℕ) → Vertex 0 (vertsA s) u → Vertex 0 (vertsA s) v → u ≢ v → FaceOfB s f → Pierces s u v f → Pierces t (to u) (to v) f)
+      (same-a : (u v f : ℕ) → Vertex 0 (vertsA s) u → Vertex 0 (vertsA s) v → u ≢ v → FaceOfB s f → Pierces s u v f →
+      Pierces t (to u) (to v) f)
       (same-b : (u v f : ℕ) → Vertex (vertsA s) (verts s) u → Vertex (vertsA s) (verts s) v → u ≢ v → FaceOfA s f →
       Pierces s u v f → Pierces t (to u) (to v) f) where
-    beside-a : (u v f : ℕ) → Vertex 0 (vertsA s) u → Vertex 0 (vertsA s) v → u ≢ v → FaceOfB s f → Beside (pointsOf t) (to u) (to v) (face (tablesOf t) f)
+    beside-a : (u v f : ℕ) → Vertex 0 (vertsA s) u → Vertex 0 (vertsA s) v → u ≢ v → FaceOfB s f →
+        Beside (pointsOf t) (to u) (to v) (face (tablesOf t) f)
     beside-a u v f a b d o =
         let x = h .of-a u (omega (arith, a)) in
         let y = h .of-a v (omega (arith, b)) in
-        beside {low = vertsA t} {high = verts t} (omega arith) (omega (arith, h .verts-a, h .verts-b)) (omega (arith, h .verts-a, h .verts-b))
+        beside {low = vertsA t} {high = verts t} (omega arith) (omega (arith, h .verts-a, h .verts-b))
+        (omega (arith, h .verts-a, h .verts-b))
         (apart u v (omega (arith, a)) (omega (arith, b)) d) (λ z. omega (arith, z, h .verts-a)) (λ z. omega (arith, z, h .verts-a)) _
         (face-of-b limits t ok′ f (omega (arith, o, h .faces-a)) (omega (arith, o, h .faces-a, h .faces-b)))
 
@@ -167,7 +171,8 @@ lower-first s x (inl p) = p .0 .lower-first
 lower-first s x (inr p) = p .0 .lower-first
 
 module _ (to back : ℕ → ℕ) where
-  there-and-back : (x : Hit) → x .low < x .high → back (to (x .low)) ≡ x .low → back (to (x .high)) ≡ x .high → carried back (carried to x) ≡ x
+  there-and-back : (x : Hit) → x .low < x .high → back (to (x .low)) ≡ x .low → back (to (x .high)) ≡ x .high →
+      carried back (carried to x) ≡ x
   unfolding carried
   there-and-back x l e f = by (ltb (to (x .low)) (to (x .high)))
     where
@@ -192,9 +197,10 @@ module _ (to back : ℕ → ℕ) where
       let pairs = each-in (PiercedPair s) (listingIn (viewOf s)) (λ x k. here .members x .0 k) in
       no-more (carried to) (listingIn (viewOf s)) (listingIn (viewOf t))
       (rising-map (Before s) (λ x y. carried to x ≢ carried to y) (PiercedPair s)
-      (λ x y p q b e. less-never (solidOf s (x .low) ∷ three x) (subst (Before s x) (sym (self y q) ∙ ap (carried back) (sym e) ∙ self x p) b))
-      (listingIn (viewOf s)) pairs (here .rising))
-      (each-in (λ x. In (carried to x) (listingIn (viewOf t))) (listingIn (viewOf s)) (λ x k. there .members (carried to x) .1 (pair x (here .members x .0 k))))
+      (λ x y p q b e. less-never (solidOf s (x .low) ∷ three x)
+      (subst (Before s x) (sym (self y q) ∙ ap (carried back) (sym e) ∙ self x p) b)) (listingIn (viewOf s)) pairs (here .rising))
+      (each-in (λ x. In (carried to x) (listingIn (viewOf t))) (listingIn (viewOf s))
+      (λ x k. there .members (carried to x) .1 (pair x (here .members x .0 k))))
     where
       self : (x : Hit) → PiercedPair s x → carried back (carried to x) ≡ x
       self x p = there-and-back x (lower-first s x p) (inverse x p .0) (inverse x p .1)

@@ -1,5 +1,6 @@
--- The numbers of the points enter by the shift alone, which breaks ties. With the points numbered in another way, as where A and B are exchanged, an
--- edge and a face with no tie between them pierce as before, and so a mask is the same. In a clean scene there is no tie at all. Assumes nothing.
+-- The numbers of the points enter by the shift alone, which breaks ties. With the points numbered in another way, as where A and B are
+-- exchanged, an edge and a face with no tie between them pierce as before, and so a mask is the same. In a clean scene there is no tie at
+-- all. Assumes nothing.
 use mathlib.Core.Path.{_≡_, sym, ap, _∙_}
 use mathlib.Core.Logic.{_≢_}
 use mathlib.Core.Bool.{not, _&&_}
@@ -95,7 +96,8 @@ module _ (n : ℕ) (to : ℕ → ℕ) (row row′ : ℕ → Row) (h : Renumberin
       λ i. (e1 i ⊕ e2 i) && not (mixed (e3 i) (e4 i) (e5 i))
 
   module _ (enough : 6 ≤ n) (weighted : Weighted n row) (weighted′ : Weighted n row′) where
-    pub pierced-renamed : (u v : ℕ) (f : Face) → Beside n u v f → Untied row u v f → pierced n row′ (to u) (to v) (renamed to f) ≡ pierced n row u v f
+    pub pierced-renamed : (u v : ℕ) (f : Face) → Beside n u v f → Untied row u v f →
+        pierced n row′ (to u) (to v) (renamed to f) ≡ pierced n row u v f
     pierced-renamed u v f d t =
         by-five n (positiveAt row′) (rules n row′ weighted′) (to u) (to v) (renamed to f) enough (beside-renamed u v f d)
         ∙ hits-same u v f d t ∙ sym (by-five n (positiveAt row) (rules n row weighted) u v f enough d)

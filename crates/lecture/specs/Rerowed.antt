@@ -24,4 +24,5 @@ module _ (s t : List ℕ) (h : Rerowed s t) where
       by (yes a) (yes b) (yes c) = face-none t k (omega (arith, fa-same s t h, fb-same s t h)) ∙ sym (face-none s k c)
 
   pub same-shape : SameShape s t
-  same-shape = record { verts-a = va-same s t h; verts-b = vb-same s t h; faces-a = fa-same s t h; faces-b = fb-same s t h; faces = faces-same }
+  same-shape =
+      record { verts-a = va-same s t h; verts-b = vb-same s t h; faces-a = fa-same s t h; faces-b = fb-same s t h; faces = faces-same }

@@ -1,5 +1,5 @@
--- Rows of nonzero weight multiplied by positive whole numbers: the shift scales with the weight, so each of the four terms takes the same positive
--- factor, and no sign changes, ties included. Assumes nothing.
+-- Rows of nonzero weight multiplied by positive whole numbers: the shift scales with the weight, so each of the four terms takes the same
+-- positive factor, and no sign changes, ties included. Assumes nothing.
 use mathlib.Core.Path.{_≡_, sym, ap, _∙_}
 use mathlib.Core.Logic.{_≢_}
 use mathlib.Core.List.{[], _∷_}
@@ -40,7 +40,9 @@ factor-times k w h = by (ℤ-discrete w (pos 0))
 
     by : Dec (w ≡ pos 0) → factor (pos k *ℤ w) ≡ pos k *ℤ factor w
     by (yes e) = rw (h .weightless e) (ap factor (1-*ℤ w) ∙ sym (1-*ℤ (factor w)))
-    by (no d) = factor-weight (pos k *ℤ w) (nonzero-mul (pos k) w (positive k (h .positive)) d) ∙ ap (λ (z : ℤ). pos k *ℤ z) (sym (factor-weight w d))
+    by (no d) =
+        factor-weight (pos k *ℤ w) (nonzero-mul (pos k) w (positive k (h .positive)) d)
+        ∙ ap (λ (z : ℤ). pos k *ℤ z) (sym (factor-weight w d))
 
 -- ---- the terms
 
@@ -104,7 +106,8 @@ abbrev pub ScaledRow : (k : ℕ) (r r′ : Row) → Type 0
 ScaledRow k r r′ = Factor k (r .w) × (r′ ≡ times k r)
 
 module _ (row row′ : ℕ → Row) (a b c d i j k l : ℕ)
-    (ha : ScaledRow i (row a) (row′ a)) (hb : ScaledRow j (row b) (row′ b)) (hc : ScaledRow k (row c) (row′ c)) (hd : ScaledRow l (row d) (row′ d)) where
+    (ha : ScaledRow i (row a) (row′ a)) (hb : ScaledRow j (row b) (row′ b)) (hc : ScaledRow k (row c) (row′ c))
+    (hd : ScaledRow l (row d) (row′ d)) where
   scaled-point : (p m : ℕ) → ScaledRow m (row p) (row′ p) → numbered (pointAt row′ p) ≡ multiple _*ℤ_ (pos m) (numbered (pointAt row p))
   scaled-point p m h =
       ap (λ (r : Row). numbered (record { x = r .x; y = r .y; z = r .z; w = r .w; n = pos p })) (h .1)
@@ -120,7 +123,8 @@ module _ (row row′ : ℕ → Row) (a b c d i j k l : ℕ)
 
   terms-scaled : terms (pointAt row′ a) (pointAt row′ b) (pointAt row′ c) (pointAt row′ d) ≡ multiples row a b c d i j k l
   unfolding terms
-  terms-scaled = λ n. powers (pos 0) _+ℤ_ _-ℤ_ _*ℤ_ (scaled-point a i ha n) (scaled-point b j hb n) (scaled-point c k hc n) (scaled-point d l hd n)
+  terms-scaled =
+      λ n. powers (pos 0) _+ℤ_ _-ℤ_ _*ℤ_ (scaled-point a i ha n) (scaled-point b j hb n) (scaled-point c k hc n) (scaled-point d l hd n)
 
   some : 1 ≤ i * j * k * l
   some = mul-le-mul (mul-le-mul (mul-le-mul (ha .0 .positive) (hb .0 .positive)) (hc .0 .positive)) (hd .0 .positive)
@@ -128,7 +132,8 @@ module _ (row row′ : ℕ → Row) (a b c d i j k l : ℕ)
   pub sign-scaled : positiveAt row′ a b c d ≡ positiveAt row a b c d
   unfolding positiveAt orientation
   sign-scaled =
-      let each : (z z′ : ℤ) → z′ ≡ all-of row a b c d i j k l *ℤ z → sign z′ ≡ sign z = λ z z′ e. ap sign e ∙ sign-times (i * j * k * l) z some in
+      let each : (z z′ : ℤ) → z′ ≡ all-of row a b c d i j k l *ℤ z → sign z′ ≡ sign z = λ z z′ e. ap sign e
+      ∙ sign-times (i * j * k * l) z some in
       let s0 = each (T row a b c d i j k l .e0) _ (ap (λ (p : Powers ℤ). p .e0) terms-scaled ∙ e0-times row a b c d i j k l) in
       let s1 = each (T row a b c d i j k l .e1) _ (ap (λ (p : Powers ℤ). p .e1) terms-scaled ∙ e1-times row a b c d i j k l) in
       let s2 = each (T row a b c d i j k l .e2) _ (ap (λ (p : Powers ℤ). p .e2) terms-scaled ∙ e2-times row a b c d i j k l) in

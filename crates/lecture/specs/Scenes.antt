@@ -40,12 +40,27 @@ module _ (s t : List ℕ) (ok : judged s ≡ Accepted) (ok′ : judged t ≡ Acc
   view-is = λ i. record { points = points-are i; row = rowsOf t; face = λ k. shape .faces k i }
 
   a-is : inA t ≡ inA s
-  a-is = λ i. record { low = 0; verts = shape .verts-a i; first = 0; count = shape .faces-a i; other = shape .faces-a i; others = shape .faces-b i }
+  a-is =
+      λ i. record {
+        low = 0;
+        verts = shape .verts-a i;
+        first = 0;
+        count = shape .faces-a i;
+        other = shape .faces-a i;
+        others = shape .faces-b i;
+      }
 
   b-is : inB t ≡ inB s
   b-is =
       λ i.
-      record { low = shape .verts-a i; verts = shape .verts-b i; first = shape .faces-a i; count = shape .faces-b i; other = 0; others = shape .faces-a i }
+      record {
+        low = shape .verts-a i;
+        verts = shape .verts-b i;
+        first = shape .faces-a i;
+        count = shape .faces-b i;
+        other = 0;
+        others = shape .faces-a i;
+      }
 
   -- ---- the faces of A and of B, and the points that are none of their vertices
 
@@ -78,37 +93,44 @@ module _ (s t : List ℕ) (ok : judged s ≡ Accepted) (ok′ : judged t ≡ Acc
     mask-b : Clear n (vertsA s) (verts s) u → Clear n (vertsA s) (verts s) v → maskB t u v ≡ maskB s u v
     mask-b cu cv =
         (λ i. maskAgainst (points-are i) (rowsOf t) (λ k. shape .faces k i) u v (shape .faces-a i) (shape .faces-b i))
-        ∙ sym (masks-same n (rowsOf s) (rowsOf t) (face (tablesOf s)) same (vertsA s) (verts s) (omega arith) (facesA s) (facesB s) faces-of-b u v cu cv d)
+        ∙ sym (masks-same n (rowsOf s) (rowsOf t) (face (tablesOf s)) same (vertsA s) (verts s) (omega arith) (facesA s)
+        (facesB s) faces-of-b u v cu cv d)
 
   hits-a : solidHits (seen t) (inA t) ≡ solidHits (seen s) (inA s)
   hits-a =
       ap₂ solidHits view-is a-is
-      ∙ sym (hits-same n (rowsOf s) (rowsOf t) (face (tablesOf s)) same (vertsA s) (verts s) (omega arith) (inA s) faces-of-b own-a far-b (omega arith))
+      ∙ sym (hits-same n (rowsOf s) (rowsOf t) (face (tablesOf s)) same (vertsA s) (verts s) (omega arith)
+      (inA s) faces-of-b own-a far-b (omega arith))
 
   hits-b : solidHits (seen t) (inB t) ≡ solidHits (seen s) (inB s)
   hits-b =
       ap₂ solidHits view-is b-is
-      ∙ sym (hits-same n (rowsOf s) (rowsOf t) (face (tablesOf s)) same 0 (vertsA s) (omega arith) (inB s) faces-of-a own-b far-a (omega arith))
+      ∙ sym (hits-same n (rowsOf s) (rowsOf t) (face (tablesOf s)) same 0 (vertsA s) (omega arith)
+      (inB s) faces-of-a own-b far-a (omega arith))
 
   inside-a : insideCount (seen t) (inA t) ≡ insideCount (seen s) (inA s)
   inside-a =
       ap₂ insideCount view-is a-is
-      ∙ sym (counts-same n (rowsOf s) (rowsOf t) (face (tablesOf s)) same (vertsA s) (verts s) (omega arith) (inA s) faces-of-b own-a far-b (omega arith))
+      ∙ sym (counts-same n (rowsOf s) (rowsOf t) (face (tablesOf s)) same (vertsA s) (verts s) (omega arith)
+      (inA s) faces-of-b own-a far-b (omega arith))
 
   inside-b : insideCount (seen t) (inB t) ≡ insideCount (seen s) (inB s)
   inside-b =
       ap₂ insideCount view-is b-is
-      ∙ sym (counts-same n (rowsOf s) (rowsOf t) (face (tablesOf s)) same 0 (vertsA s) (omega arith) (inB s) faces-of-a own-b far-a (omega arith))
+      ∙ sym (counts-same n (rowsOf s) (rowsOf t) (face (tablesOf s)) same 0 (vertsA s) (omega arith)
+      (inB s) faces-of-a own-b far-a (omega arith))
 
   lowest-a : lowestInside (seen t) (inA t) ≡ lowestInside (seen s) (inA s)
   lowest-a =
       ap₂ lowestInside view-is a-is
-      ∙ sym (lowests-same n (rowsOf s) (rowsOf t) (face (tablesOf s)) same (vertsA s) (verts s) (omega arith) (inA s) faces-of-b own-a far-b (omega arith))
+      ∙ sym (lowests-same n (rowsOf s) (rowsOf t) (face (tablesOf s)) same (vertsA s) (verts s) (omega arith)
+      (inA s) faces-of-b own-a far-b (omega arith))
 
   lowest-b : lowestInside (seen t) (inB t) ≡ lowestInside (seen s) (inB s)
   lowest-b =
       ap₂ lowestInside view-is b-is
-      ∙ sym (lowests-same n (rowsOf s) (rowsOf t) (face (tablesOf s)) same 0 (vertsA s) (omega arith) (inB s) faces-of-a own-b far-a (omega arith))
+      ∙ sym (lowests-same n (rowsOf s) (rowsOf t) (face (tablesOf s)) same 0 (vertsA s) (omega arith)
+      (inB s) faces-of-a own-b far-a (omega arith))
 
   listing : listed t ≡ listed s
   listing = ap₂ _++_ hits-a hits-b

@@ -1,5 +1,5 @@
--- Two tests that agree, one at the numbers from a on and the other at as many from b on: both pass as often, and the lowest at which they do is as far
--- on. Assumes nothing.
+-- Two tests that agree, one at the numbers from a on and the other at as many from b on: both pass as often, and the lowest at which they
+-- do is as far on. Assumes nothing.
 use mathlib.Core.Path.{_≡_, refl, ap, _∙_}
 use mathlib.Core.Bool.{Bool, true, false, cond, _||_}
 use Prim.Native.Nat.{ℕ, zero, suc, _+_, _-_, _≤_, _<_}

@@ -1,12 +1,12 @@
--- The signs of a clean scene mapped by a table whose determinant is not zero: all keep where it is positive, and all turn where it is negative. The
--- image is clean. Assumes nothing.
-use mathlib.Core.Path.{_≡_, refl, sym, ap, _∙_}
+-- The signs of a clean scene mapped by a table whose determinant is not zero: all keep where it is positive, and all turn where it is
+-- negative. The image is clean. Assumes nothing.
+use mathlib.Core.Path.{_≡_, sym, ap, _∙_}
 use mathlib.Core.Logic.{_≢_}
 use mathlib.Core.Bool.{Bool, not}
-use Prim.Native.Nat.{ℕ, zero, suc}
-use lib.IntN.{ℤ, pos, negsuc, _*ℤ_}
+use Prim.Native.Nat.{ℕ}
+use lib.IntN.{ℤ, pos, _*ℤ_}
 use Rattle.laws.specs.Bools.{_⊕_, all, _≐_, law}
-use Rattle.laws.specs.Sign.{Sign, sign, _or_}
+use Rattle.laws.specs.Sign.{sign, or-settled}
 use Rattle.scene.specs.declared.Row.{Row}
 use Rattle.orient.specs.Determinant.{det4}
 use Rattle.orient.specs.Alternating.{plus-mul, nonzero-mul}
@@ -17,25 +17,20 @@ use Rattle.maps.specs.Mapped.{mapped, determinantOf, det-mapped}
 use Rattle.clean.specs.Clean.{Clean, c0-rows}
 use Rattle.lecture.specs.Turned.{Turned}
 
--- a number that is not zero gives the sign alone
-settles : (z : ℤ) (t : Sign) → z ≢ pos 0 → isPlus (sign z or t) ≡ isPlus (sign z)
-settles (pos zero) t d = absurd (d refl)
-settles (pos (suc n)) t d = refl
-settles (negsuc n) t d = refl
-
 -- of four points with c0 not zero the sign is that of the determinant of their rows
 pub by-c0 : (row : ℕ → Row) (a b c d : ℕ) → c0 (pointAt row a) (pointAt row b) (pointAt row c) (pointAt row d) ≢ pos 0 →
     positiveAt row a b c d ≡ isPlus (sign (det4 (row a) (row b) (row c) (row d)))
 unfolding positiveAt orientation
 by-c0 row a b c d h =
-    settles (c0 (pointAt row a) (pointAt row b) (pointAt row c) (pointAt row d)) (tied (pointAt row a) (pointAt row b) (pointAt row c) (pointAt row d)) h
-    ∙ ap (λ (z : ℤ). isPlus (sign z)) (c0-rows row a b c d)
+    ap isPlus (or-settled (c0 (pointAt row a) (pointAt row b) (pointAt row c) (pointAt row d))
+    (tied (pointAt row a) (pointAt row b) (pointAt row c) (pointAt row d)) h) ∙ ap (λ (z : ℤ). isPlus (sign z)) (c0-rows row a b c d)
 
 -- row′ has at the numbers 1 to n what the map makes of row
 abbrev pub MappedRows : (n : ℕ) → Map → (row row′ : ℕ → Row) → Type 0
 MappedRows n m row row′ = (i : ℕ) → Upto n i → row′ i ≡ mapped m (row i)
 
-module _ (n : ℕ) (m : Map) (row row′ : ℕ → Row) (image : MappedRows n m row row′) (clean : Clean n row) (regular : determinantOf m ≢ pos 0) where
+module _ (n : ℕ) (m : Map) (row row′ : ℕ → Row) (image : MappedRows n m row row′) (clean : Clean n row)
+    (regular : determinantOf m ≢ pos 0) where
   module _ (a b c d : ℕ) (f : Four (Upto n) a b c d) where
     abbrev D : ℤ
     D = det4 (row a) (row b) (row c) (row d)

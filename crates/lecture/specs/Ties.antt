@@ -1,11 +1,12 @@
--- A scene with ties whose verdict changes when A and B are exchanged: two tetrahedra on the two sides of one face. So nothing can be told of the exchange
--- where a tie is broken. Assumes nothing.
+-- A scene with ties whose verdict changes when A and B are exchanged: two tetrahedra on the two sides of one face. So nothing can be told
+-- of the exchange where a tie is broken. Assumes nothing.
 use mathlib.Core.Path.{_≡_, refl}
 use mathlib.Core.List.{List, [], _∷_}
 use Prim.Native.Nat.{ℕ}
 use lib.Count.{ones}
 use lib.IntN.{pos}
 use Rattle.laws.specs.Mask.{maskOf}
+use Rattle.laws.specs.Runs.{upTo}
 use Rattle.scene.specs.Tables.{Table}
 use Rattle.scene.specs.View.{solid}
 use Rattle.scene.specs.Faces.{isCorner, hasBoth}
@@ -15,7 +16,7 @@ use Rattle.rules.specs.Write.{bytesOf}
 use Rattle.edges.specs.Edges.{joined}
 use Rattle.face_masks.specs.Faces.{isOdd}
 use Rattle.listing.specs.First.{firstOf}
-use Rattle.listing.specs.Hits.{upTo, faceHits, edgeHits, pairHits, vertexHits, solidHits, isInside, lowestInside}
+use Rattle.listing.specs.Hits.{faceHits, edgeHits, pairHits, vertexHits, solidHits, isInside, lowestInside}
 use Rattle.questions.specs.Answers.{answered, enclosureIn, verdictIn, verdictOf, listingIn}
 use Rattle.questions.specs.declared.Verdict.the-variants.{Cross, Apart}
 use Rattle.demands.specs.Computing.{judging, piercing}
@@ -23,11 +24,19 @@ use Rattle.demands.specs.Scenes.{minus, at, four, scene}
 use Rattle.lecture.specs.Exchange.{exchangedBytes}
 
 abbrev above : Table
-above = record { rows = at (pos 0) (pos 0) (pos 0) ∷ at (pos 4) (pos 0) (pos 0) ∷ at (pos 0) (pos 4) (pos 0) ∷ at (pos 0) (pos 0) (pos 4) ∷ []; faces = four }
+above =
+    record {
+      rows = at (pos 0) (pos 0) (pos 0) ∷ at (pos 4) (pos 0) (pos 0) ∷ at (pos 0) (pos 4) (pos 0) ∷ at (pos 0) (pos 0) (pos 4) ∷ [];
+      faces = four;
+    }
 
 abbrev below : Table
 below =
-    record { rows = at (pos 0) (pos 0) (pos 0) ∷ at (pos 4) (pos 0) (pos 0) ∷ at (pos 0) (pos 4) (pos 0) ∷ at (pos 0) (pos 0) (minus 4) ∷ []; faces = four }
+    record {
+      rows = at (pos 0) (pos 0) (pos 0) ∷ at (pos 4) (pos 0) (pos 0) ∷ at (pos 0) (pos 4) (pos 0)
+          ∷ at (pos 0) (pos 0) (minus 4) ∷ [];
+      faces = four;
+    }
 
 abbrev pub touching : List ℕ
 touching = bytesOf (scene above below)
@@ -38,5 +47,6 @@ pub record Ties : Type 0 where
   pub exchanged : verdictOf (exchangedBytes touching) ≡ Apart
 
 pub ties : Ties
-unfolding judging piercing ones maskOf isCorner hasBoth joined isOdd upTo faceHits edgeHits pairHits vertexHits solidHits isInside lowestInside firstOf listingIn solid answered enclosureIn verdictIn verdictOf exchangedBytes
+unfolding judging piercing ones maskOf isCorner hasBoth joined isOdd upTo faceHits edgeHits pairHits vertexHits solidHits isInside
+    lowestInside firstOf listingIn solid answered enclosureIn verdictIn verdictOf exchangedBytes
 ties = record { accepted = refl; crosses = refl; exchanged = refl }

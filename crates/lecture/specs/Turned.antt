@@ -1,4 +1,5 @@
--- Formula (13) compares signs only: where the signs of all four points turn at once, or none does, an edge pierces the same faces. Assumes nothing.
+-- Formula (13) compares signs only: where the signs of all four points turn at once, or none does, an edge pierces the same faces.
+-- Assumes nothing.
 use mathlib.Core.Path.{_≡_, sym}
 use mathlib.Core.Bool.{Bool, _&&_}
 use Prim.Native.Nat.{ℕ, _≤_}

@@ -34,7 +34,8 @@ module _ (s : List ℕ) (ok : judged s ≡ Accepted) where
   t = exchangedBytes s
 
   other-ok : TablesOk limits other
-  other-ok = let o = by-tables limits s .0 (accepted limits s .0 ok) .1 in record { a = o .b; b = o .a; far = o .far; somewhere = o .somewhere }
+  other-ok =
+      let o = by-tables limits s .0 (accepted limits s .0 ok) .1 in record { a = o .b; b = o .a; far = o .far; somewhere = o .somewhere }
 
   same : tablesOf t ≡ other
   unfolding exchangedBytes
@@ -53,10 +54,14 @@ module _ (s : List ℕ) (ok : judged s ≡ Accepted) where
   verts-b = sym (size-b t) ∙ ap (λ (k : Tables). size (k .b)) same ∙ size-a s
 
   faces-a : facesA t ≡ facesB s
-  faces-a = sym (length-run (faceAt t) 0 (facesA t)) ∙ ap (λ (k : Tables). length (k .a .faces)) same ∙ length-run (faceAt s) (facesA s) (facesB s)
+  faces-a =
+      sym (length-run (faceAt t) 0 (facesA t)) ∙ ap (λ (k : Tables). length (k .a .faces)) same
+      ∙ length-run (faceAt s) (facesA s) (facesB s)
 
   faces-b : facesB t ≡ facesA s
-  faces-b = sym (length-run (faceAt t) (facesA t) (facesB t)) ∙ ap (λ (k : Tables). length (k .b .faces)) same ∙ length-run (faceAt s) 0 (facesA s)
+  faces-b =
+      sym (length-run (faceAt t) (facesA t) (facesB t)) ∙ ap (λ (k : Tables). length (k .b .faces)) same
+      ∙ length-run (faceAt s) 0 (facesA s)
 
   -- ---- its rows and its faces, as they stand in the file
 
@@ -67,8 +72,8 @@ module _ (s : List ℕ) (ok : judged s ≡ Accepted) where
 
   row-b : (i : ℕ) → i < vertsA s → rowAt t (vertsA t + 1 + i) ≡ rowAt s (1 + i)
   row-b i l =
-      sym (run-at (rowAt t) (vertsA t + 1) (vertsB t) i noRow (omega (arith, verts-b))) ∙ ap (λ (k : Tables). getD (k .b .rows) i noRow) same
-      ∙ run-at (rowAt s) 1 (vertsA s) i noRow l
+      sym (run-at (rowAt t) (vertsA t + 1) (vertsB t) i noRow (omega (arith, verts-b)))
+      ∙ ap (λ (k : Tables). getD (k .b .rows) i noRow) same ∙ run-at (rowAt s) 1 (vertsA s) i noRow l
 
   stored-a : (i : ℕ) → i < facesB s → faceAt t (0 + i) ≡ faceAt s (facesA s + i)
   stored-a i l =
@@ -77,8 +82,8 @@ module _ (s : List ℕ) (ok : judged s ≡ Accepted) where
 
   stored-b : (i : ℕ) → i < facesA s → faceAt t (facesA t + i) ≡ faceAt s (0 + i)
   stored-b i l =
-      sym (run-at (faceAt t) (facesA t) (facesB t) i noFace (omega (arith, faces-b))) ∙ ap (λ (k : Tables). getD (k .b .faces) i noFace) same
-      ∙ run-at (faceAt s) 0 (facesA s) i noFace l
+      sym (run-at (faceAt t) (facesA t) (facesB t) i noFace (omega (arith, faces-b)))
+      ∙ ap (λ (k : Tables). getD (k .b .faces) i noFace) same ∙ run-at (faceAt s) 0 (facesA s) i noFace l
 
   -- ---- by number
 
@@ -92,10 +97,11 @@ module _ (s : List ℕ) (ok : judged s ≡ Accepted) where
           ∙ ap (rowAt s) (omega arith) ∙ sym (row-is s i (u .0) (omega arith))
       by (yes l) (no k) =
           let e : to s i ≡ 1 + (i - (vertsA s + 1)) = of-b (vertsA s) (vertsB s) i l (omega arith) ∙ omega arith in
-          ap (rowsOf t) e ∙ row-is t (1 + (i - (vertsA s + 1))) (omega arith) (omega (arith, verts-a, verts-b)) ∙ row-a (i - (vertsA s + 1)) (omega arith)
-          ∙ ap (rowAt s) (omega arith) ∙ sym (row-is s i (u .0) (omega arith))
+          ap (rowsOf t) e ∙ row-is t (1 + (i - (vertsA s + 1))) (omega arith) (omega (arith, verts-a, verts-b))
+          ∙ row-a (i - (vertsA s + 1)) (omega arith) ∙ ap (rowAt s) (omega arith) ∙ sym (row-is s i (u .0) (omega arith))
       by (yes l) (yes k) =
-          far-is t (of-far (vertsA s) (vertsB s) i k ∙ omega (arith, verts-a, verts-b)) ∙ ap (λ (k : Tables). k .far) same ∙ sym (far-is s (omega arith))
+          far-is t (of-far (vertsA s) (vertsB s) i k ∙ omega (arith, verts-a, verts-b)) ∙ ap (λ (k : Tables). k .far) same
+          ∙ sym (far-is s (omega arith))
 
   raised : (f : Face) → FaceOf 0 (vertsA s) f → raise (vertsA t) f ≡ renamed (to s) f
   raised f c =
@@ -119,7 +125,8 @@ module _ (s : List ℕ) (ok : judged s ≡ Accepted) where
 
   faces-of-a : (i : ℕ) → i < facesA s → face (tablesOf t) (facesB s + 1 + i) ≡ renamed (to s) (face (tablesOf s) (0 + 1 + i))
   faces-of-a i l =
-      let e : face (tablesOf s) (0 + 1 + i) ≡ faceAt s (0 + i) = face-a s (0 + 1 + i) (omega arith) (omega arith) ∙ ap (faceAt s) (omega arith) in
+      let e : face (tablesOf s) (0 + 1 + i) ≡ faceAt s (0 + i) = face-a s (0 + 1 + i) (omega arith) (omega arith)
+      ∙ ap (faceAt s) (omega arith) in
       let c = face-of-a limits s ok (0 + 1 + i) (omega arith) (omega arith) in
       face-b t (facesB s + 1 + i) (omega (arith, faces-a)) (omega (arith, faces-a, faces-b))
       ∙ ap (λ (j : ℕ). raise (vertsA t) (faceAt t j)) (omega (arith, faces-a)) ∙ ap (raise (vertsA t)) (stored-b i l)

@@ -11,6 +11,7 @@ use Rattle.laws.specs.Decides.{and-iff}
 use Rattle.laws.specs.Even.{count}
 use Rattle.laws.specs.Lists.{Each, run, length-run, each-map}
 use Rattle.laws.specs.Mask.{digit, mask-ones}
+use Rattle.laws.specs.Runs.{only}
 use Rattle.scene.specs.Limits.{limits}
 use Rattle.scene.specs.Records.{vertsA, verts}
 use Rattle.scene.specs.Faces.{FaceOf, EdgesOk}
@@ -22,7 +23,7 @@ use Rattle.pierce.specs.Closed.{Closed, closed-by-edges}
 use Rattle.pierce.specs.Formula.{pierced}
 use Rattle.sides.specs.Sides.{above}
 use Rattle.sides.specs.Crossing.{pierced-differs}
-use Rattle.listing.specs.Hits.{Seen, Hit, only, faceHits, edgeHits, pairHits, pairsAt, vertexHits, solidHits}
+use Rattle.listing.specs.Hits.{Seen, Hit, faceHits, edgeHits, pairHits, pairsAt, vertexHits, solidHits}
 use Rattle.table.specs.Sums.{sumOf, ones-sum, digit-le}
 use Rattle.table.specs.Runs.{upTo-length, only-length}
 use Rattle.table.specs.Pairs.{pairSum, pairs-le, list-most}
