@@ -28,7 +28,8 @@ abbrev pub Clean : ℕ → (ℕ → Row) → Type 0
 Clean n row = (a b c d : ℕ) → Four (Upto n) a b c d → c0 (pointAt row a) (pointAt row b) (pointAt row c) (pointAt row d) ≢ pos 0
 
 -- c0 is the determinant of the rows
-pub c0-rows : (row : ℕ → Row) (a b c d : ℕ) → c0 (pointAt row a) (pointAt row b) (pointAt row c) (pointAt row d) ≡ det4 (row a) (row b) (row c) (row d)
+pub c0-rows : (row : ℕ → Row) (a b c d : ℕ) →
+    c0 (pointAt row a) (pointAt row b) (pointAt row c) (pointAt row d) ≡ det4 (row a) (row b) (row c) (row d)
 unfolding partOf
 c0-rows row a b c d = c0-parts (pointAt row a) (pointAt row b) (pointAt row c) (pointAt row d)
 

@@ -1,5 +1,5 @@
--- The plane through three rows: its four coefficients, each a determinant of three columns, such that plane · t is the determinant of the three rows
--- and t. Assumes nothing.
+-- The plane through three rows: its four coefficients, each a determinant of three columns, such that plane · t is the determinant of the
+-- three rows and t. Assumes nothing.
 use mathlib.Core.Path.{_≡_}
 use mathlib.Core.List.{[], _∷_}
 use lib.IntN.{ℤ, _+ℤ_, _-ℤ_, _*ℤ_}
@@ -86,4 +86,5 @@ dotOf p t = dot-of _+ℤ_ _-ℤ_ _*ℤ_ (entries p) (entries t)
 pub plane-det : (a b c t : Row) → dotOf (planeOf a b c) t ≡ det4 a b c t
 unfolding dotOf volumeOf det4
 plane-det a b c t =
-    ring (rows (a ∷ b ∷ c ∷ t ∷ [])) (dot-of _⊕_ _⊖_ _⊗_ (plane-of _⊕_ _⊖_ _⊗_ (row 0) (row 1) (row 2)) (row 3)) (det (row 0) (row 1) (row 2) (row 3)) tt
+    ring (rows (a ∷ b ∷ c ∷ t ∷ [])) (dot-of _⊕_ _⊖_ _⊗_ (plane-of _⊕_ _⊖_ _⊗_ (row 0) (row 1) (row 2)) (row 3))
+    (det (row 0) (row 1) (row 2) (row 3)) tt

@@ -1,5 +1,5 @@
--- The numbers formed for planes are small: of rows within a scene's limits no product or sum on the way is above 24·C⁴, C the largest coordinate, and
--- so none above what may be formed for a sign. Assumes nothing.
+-- The numbers formed for planes are small: of rows within a scene's limits no product or sum on the way is above 24·C⁴, C the largest
+-- coordinate, and so none above what may be formed for a sign. Assumes nothing.
 use mathlib.Core.Path.{_≡_, sym, subst}
 use Prim.Native.Nat.{ℕ, _+_, _*_, _≤_}
 use native.Mathlib.Nat.{le-trans}
@@ -49,7 +49,8 @@ module _ {a b : ℤ} (ha : Small mostEntry a) (hb : Small mostEntry b) where
   two = times (held ha (lit< tt)) (held hb (lit< tt)) (lit< tt)
 
 module _ {a b c d : ℤ} (ha : Small mostEntry a) (hb : Small mostEntry b) (hc : Small mostEntry c) (hd : Small mostEntry d) where
-  pub cross : Held (mostEntry * mostEntry + mostEntry * mostEntry) (reread (reread a *ℤ reread b) -ℤ reread (reread c *ℤ reread d)) (a *ℤ b -ℤ c *ℤ d)
+  pub cross : Held (mostEntry * mostEntry + mostEntry * mostEntry) (reread (reread a *ℤ reread b) -ℤ reread (reread c *ℤ reread d))
+      (a *ℤ b -ℤ c *ℤ d)
   cross = less (two ha hb) (two hc hd) (lit< tt)
 
   pub third : {e : ℤ} → Small mostEntry e → Held mostTerm (formed a b c d e) (e *ℤ (a *ℤ b -ℤ c *ℤ d))
@@ -72,7 +73,8 @@ module _ {a b c : Three} (h : VolumeSmall a b c) where
   pub volume-size : Small mostCoefficient (volumeOf a b c)
   volume-size = below (record { size = whole .size }) (lit≤ tt)
 
-pub plane-size : {a b c : Row} → RowSmall mostEntry a → RowSmall mostEntry b → RowSmall mostEntry c → RowSmall mostCoefficient (planeOf a b c)
+pub plane-size : {a b c : Row} → RowSmall mostEntry a → RowSmall mostEntry b → RowSmall mostEntry c →
+    RowSmall mostCoefficient (planeOf a b c)
 plane-size {a} {b} {c} p q r =
     record {
       x = volume-size {a = butX a} {b = butX b} {c = butX c} (omega arith);
@@ -117,7 +119,8 @@ module _ {p t : Row} (h : RowSmall mostCoefficient p × RowSmall mostEntry t) wh
   pub dot-xyz : Held (mostProduct + mostProduct + mostProduct) xyz (p .x *ℤ t .x +ℤ p .y *ℤ t .y +ℤ p .z *ℤ t .z)
   dot-xyz = plus dot-xy dot-z (lit< tt)
 
-  pub dotted : Held (mostProduct + mostProduct + mostProduct + mostProduct) (reread xyz +ℤ reread (reread (p .w) *ℤ reread (t .w))) (dotOf p t)
+  pub dotted : Held (mostProduct + mostProduct + mostProduct + mostProduct)
+      (reread xyz +ℤ reread (reread (p .w) *ℤ reread (t .w))) (dotOf p t)
   unfolding dotOf
   dotted = plus dot-xyz dot-w (lit< tt)
 
@@ -130,9 +133,15 @@ pub row-small : {row : ℕ → Row} → AllWithin limits row → (i : ℕ) {r : 
 row-small {row} h i e =
     let k = h i in
     subst (RowSmall mostEntry) (sym e)
-    (record { x = record { size = k .x }; y = record { size = k .y }; z = record { size = k .z }; w = record { size = le-trans (k .w) (lit≤ tt) } })
+    (record {
+      x = record { size = k .x };
+      y = record { size = k .y };
+      z = record { size = k .z };
+      w = record { size = le-trans (k .w) (lit≤ tt) };
+    })
 
 -- the plane of three of them
 pub three-small : {row : ℕ → Row} → AllWithin limits row → {i j k : ℕ} {a b c p : Row} → a ≡ row i → b ≡ row j → c ≡ row k →
     p ≡ planeOf a b c → RowSmall mostCoefficient p
-three-small h {i} {j} {k} ea eb ec e = subst (RowSmall mostCoefficient) (sym e) (plane-size (row-small h i ea) (row-small h j eb) (row-small h k ec))
+three-small h {i} {j} {k} ea eb ec e =
+    subst (RowSmall mostCoefficient) (sym e) (plane-size (row-small h i ea) (row-small h j eb) (row-small h k ec))

@@ -27,7 +27,8 @@ use Rattle.maps.specs.declared.Imaged.the-variants.{Refused, Written}
 pub entries-small : {m : Map} {b : Bool} → b ≡ entriesOk m → not b ≡ false → MapSmall m
 entries-small {m} e q = map-small m (sym e ∙ not-false _ q)
 
-pub mappable : {s : List ℕ} {m : Map} {o : Judged} {b : Bool} → o ≡ judged s → o ≡ judge.Accepted → b ≡ entriesOk m → not b ≡ false → Mappable s m
+pub mappable : {s : List ℕ} {m : Map} {o : Judged} {b : Bool} → o ≡ judged s → o ≡ judge.Accepted → b ≡ entriesOk m →
+    not b ≡ false → Mappable s m
 mappable e q f p = record { accepted = sym e ∙ q; entries = sym f ∙ not-false _ p }
 
 module _ (s : List ℕ) (m : Map) (room : ℕ) {o : Judged} (e : o ≡ judged s) where
@@ -90,7 +91,8 @@ passed s m room h =
 
 pub fill-ready : {s : List ℕ} {m : Map} {room : ℕ} {o : Checked} → o ≡ imageFault s m room → o ≡ Fine →
     Mappable s m × (rowsFault m s ≡ judge.Accepted) × (length s ≤ room)
-fill-ready {s} {m} {room} e q = let p = passed s m room (sym e ∙ q) in (record { accepted = p .scene; entries = p .entries }, p .rows, p .fits)
+fill-ready {s} {m} {room} e q =
+    let p = passed s m room (sym e ∙ q) in (record { accepted = p .scene; entries = p .entries }, p .rows, p .fits)
 
 module _ {s d : List ℕ} {m : Map} {o : Checked} (e : o ≡ imageFault s m (length d)) where
   pub image-refused : {f : Fault} → o ≡ Faulty f → IsImage s m d d (Refused f)

@@ -31,7 +31,8 @@ unfolding filled
 filled-length g zero l = refl
 filled-length g (suc n) l = row-length (filled rowPut g n l) n (g n) ∙ filled-length g n l
 
-filled-front : (g : ℕ → Row) (n : ℕ) (a b : List ℕ) → ((j : ℕ) → j < n → pointStart j + 9 ≤ length a) → filled rowPut g n (a ++ b) ≡ filled rowPut g n a ++ b
+filled-front : (g : ℕ → Row) (n : ℕ) (a b : List ℕ) → ((j : ℕ) → j < n → pointStart j + 9 ≤ length a) →
+    filled rowPut g n (a ++ b) ≡ filled rowPut g n a ++ b
 unfolding filled
 filled-front g zero a b h = refl
 filled-front g (suc n) a b h =

@@ -1,5 +1,6 @@
--- The image of a scene: its refusals in order, each with its number and place, and its bytes. The scene's own refusals come first; then 17 for an
--- entry of the table outside its range, and 18 for the determinant zero; then 5 and 6 of the image, record by record; then 13. Assumes nothing.
+-- The image of a scene: its refusals in order, each with its number and place, and its bytes. The scene's own refusals come first; then 17
+-- for an entry of the table outside its range, and 18 for the determinant zero; then 5 and 6 of the image, record by record; then 13.
+-- Assumes nothing.
 use mathlib.Core.Path.{_≡_}
 use mathlib.Core.Bool.{Bool, true, false, not, _&&_}
 use mathlib.Core.List.{List, _++_}
@@ -71,7 +72,8 @@ imageRow m s j = mapped m (rowAt s j)
 
 unfoldable pub coordinatesOk : Row → Bool
 coordinatesOk r =
-    leb (natAbs (r .x)) (limits .mostCoordinate) && (leb (natAbs (r .y)) (limits .mostCoordinate) && leb (natAbs (r .z)) (limits .mostCoordinate))
+    leb (natAbs (r .x)) (limits .mostCoordinate)
+    && (leb (natAbs (r .y)) (limits .mostCoordinate) && leb (natAbs (r .z)) (limits .mostCoordinate))
 
 -- the far point, and no other, may have weight 0
 unfoldable pub weightOk : ℕ → Row → Bool

@@ -1,5 +1,5 @@
--- A map is a 4×4 table of whole numbers; a row (x, y, z, w) is multiplied by it from the right. The determinant of four rows so mapped is theirs
--- times that of the table. Assumes nothing.
+-- A map is a 4×4 table of whole numbers; a row (x, y, z, w) is multiplied by it from the right. The determinant of four rows so mapped is
+-- theirs times that of the table. Assumes nothing.
 use mathlib.Core.Path.{_≡_}
 use mathlib.Core.List.{[], _∷_}
 use Prim.Native.Nat.{ℕ}

@@ -67,7 +67,9 @@ module _ (s : List ℕ) (ok : judged s ≡ Accepted) where
   file-row-small j b {r} e = subst (RowSmall mostEntry) (sym e) (by (ℕ-discrete j 0))
     where
       by : Dec (j ≡ 0) → RowSmall mostEntry (rowAt s j)
-      by (yes z) = subst (λ (i : ℕ). RowSmall mostEntry (rowAt s i)) (sym z) (row-small (rows-within limits s ok) (verts s + 1) (sym (far-is s refl)))
+      by (yes z) =
+          subst (λ (i : ℕ). RowSmall mostEntry (rowAt s i)) (sym z)
+          (row-small (rows-within limits s ok) (verts s + 1) (sym (far-is s refl)))
       by (no z) = row-small (rows-within limits s ok) j (sym (row-is s j (omega arith) b))
 
   -- the record of a point stands in the file

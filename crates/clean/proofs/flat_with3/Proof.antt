@@ -45,7 +45,8 @@ returns c =
     let d = c .before in
     c .meets .ensures
     ∙ by-plane _ _ _ _ _
-    (d .plane .ensures ∙ (λ i. planeOf (d .before .before .before .row-in .ensures i) (d .before .before .row-in2 .ensures i) (d .before .row-in3 .ensures i)))
+    (d .plane .ensures
+    ∙ (λ i. planeOf (d .before .before .before .row-in .ensures i) (d .before .before .row-in2 .ensures i) (d .before .row-in3 .ensures i)))
 
 pub flat-with3-spec : {M : Type 1} → statement M
 flat-with3-spec =

@@ -48,7 +48,8 @@ but-w-requires-2 : tie.Need-but-w-requires-2
 but-w-requires-2 c κs = c .before .before .before .before .before .before .before .before .before .before .before .before .before .pre .1
 
 but-w-requires-3 : tie.Need-but-w-requires-3
-but-w-requires-3 c κs = c .before .before .before .before .before .before .before .before .before .before .before .before .before .before .pre .2
+but-w-requires-3 c κs =
+    c .before .before .before .before .before .before .before .before .before .before .before .before .before .before .pre .2
 
 volume-requires-4 : tie.Need-volume-requires-4
 volume-requires-4 c κs = (c .before .before .but-w .ensures .1, c .before .but-w2 .ensures .1, c .but-w3 .ensures .1)

@@ -12,7 +12,8 @@ plane-requires : tie.Need-plane-requires
 plane-requires c κs = search needs
 
 dot-requires : tie.Need-dot-requires
-dot-requires c κs = let s = c .before .before .before .before .before .pre in (rw (c .plane .ensures) (plane-size (s .x) (s .y) (s .z)), s .w)
+dot-requires c κs =
+    let s = c .before .before .before .before .before .pre in (rw (c .plane .ensures) (plane-size (s .x) (s .y) (s .z)), s .w)
 
 returns : tie.Need-returns
 returns c =
