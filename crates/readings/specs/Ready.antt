@@ -203,8 +203,7 @@ pub record Decoded (s : List ℕ) (n : ℕ) (rows : List ℤ) (corners : List �
   pub are-faces : faceIn corners ≡ viewOf s .face
 
 pub decoded : (s : List ℕ) {n : ℕ} (rows : List ℤ) (corners : List ℕ) → n ≡ points (viewOf s) → rowIn rows ≡ viewOf s .row →
-    faceIn corners ≡ viewOf s .face →
-    Decoded s n rows corners
+    faceIn corners ≡ viewOf s .face → Decoded s n rows corners
 decoded s rows corners e r f = record { are-points = e; are-rows = r; are-faces = f }
 
 module _ {s : List ℕ} {n : ℕ} {rows : List ℤ} {corners : List ℕ} (d : Decoded s n rows corners) where

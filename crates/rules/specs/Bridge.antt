@@ -7,7 +7,7 @@ use native.Mathlib.Omega.{arith}
 use native.Mathlib.Decide.{decLt}
 use Rattle.laws.specs.Lists.{Some, length-run, run-each, each-run}
 use Rattle.scene.specs.Limits.{Limits, limits, leastWeight}
-use Rattle.scene.specs.Records.{vertsA, vertsB, verts, facesA, facesB, faces, faceRecord, lastRecord}
+use Rattle.scene.specs.Records.{vertsA, vertsB, verts, facesA, facesB, faceRecord, lastRecord}
 use Rattle.scene.specs.Tables.{rowAt, faceAt, tablesOf}
 use Rattle.scene.specs.Read.{size-a, size-b}
 use Rattle.scene.specs.Faces.{Corner, Vertex, FaceOf, Sides, EdgeOk}

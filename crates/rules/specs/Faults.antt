@@ -21,8 +21,7 @@ use Rattle.rules.specs.Numbers.{turnOf, Gives, gives, gives-none, rule-n
 
 -- a test that passes, before what is at fault at a place (X)
 passed : {P Q X : Type 0} {b : Bool} → (b ≡ true) ↔ P → (r : Refusal) {q : Refusal} (k : Judged) → turnOf r < turnOf q →
-    (k ≡ Refused q) ↔ (X × Q) →
-    (rule b r k ≡ Refused q) ↔ (X × (P × Q))
+    (k ≡ Refused q) ↔ (X × Q) → (rule b r k ≡ Refused q) ↔ (X × (P × Q))
 passed e r k l f = Iff·trans (rule-next e r k l f) (λ h. (h .1 .0, (h .0, h .1 .1)), λ h. (h .1 .0, (h .0, h .1 .1)))
 
 module _ (l : Limits) (s : List ℕ) (k : ℕ) (from : 1 ≤ k) (to : k ≤ lastRecord s) where

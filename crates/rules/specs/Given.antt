@@ -131,8 +131,7 @@ module _ (l : Limits) (s : List ℕ) (ok : judgedAt l s ≡ Accepted) where
   each-of-b =
       rw (faces-b s)
       (each-mapped (FaceOf 0 (vertsB s)) (FaceOf (vertsA s) (verts s)) (raise (vertsA s)) (face-raised (vertsA s) (vertsB s))
-      (tablesOf s .b .faces)
-      (rw (size-b s) at (tables-ok .b .corners)))
+      (tablesOf s .b .faces) (rw (size-b s) at (tables-ok .b .corners)))
 
   pub face-of-a : (k : ℕ) → 1 ≤ k → k ≤ facesA s → FaceOf 0 (vertsA s) (face (tablesOf s) k)
   face-of-a k a b = each-run (FaceOf 0 (vertsA s)) (face (tablesOf s)) 1 (facesA s) each-of-a k a (omega arith)

@@ -88,8 +88,7 @@ rule-alone e r k high g = Iff·trans (rule-here e r k high g) (λ h. h .1, λ n.
 
 -- the refusal K of a rule, at the place i
 pub rule-at : {P : Type 0} {b : Bool} → (b ≡ true) ↔ P → (K : ℕ → Refusal) → ((i : ℕ) → placeOf (K i) ≡ i) →
-    (i p : ℕ) (k : Judged) (high : ℕ) →
-    Gives (suc (turnOf (K p))) high k → (rule b (K i) k ≡ Refused (K p)) ↔ ((i ≡ p) × ¬ P)
+    (i p : ℕ) (k : Judged) (high : ℕ) → Gives (suc (turnOf (K p))) high k → (rule b (K i) k ≡ Refused (K p)) ↔ ((i ≡ p) × ¬ P)
 rule-at e K place i p k high g =
     Iff·trans (rule-here e (K i) k high g) (λ h. (sym (place i) ∙ ap placeOf (h .0) ∙ place p, h .1), λ h. (ap K (h .0), h .1))
 

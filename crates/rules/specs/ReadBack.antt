@@ -8,7 +8,7 @@ use lib.ListN.{length, getD}
 use Rattle.laws.specs.Lists.{Each, run}
 use Rattle.scene.specs.Limits.{Limits}
 use Rattle.scene.specs.Bytes.{twoAt, coordinateAt, weightAt, signed}
-use Rattle.scene.specs.Records.{faces, pointStart, faceStart, endStart, markFP, markVX, markEN}
+use Rattle.scene.specs.Records.{pointStart, faceStart, endStart, markFP, markVX, markEN}
 use Rattle.scene.specs.Tables.{Tables, size, rowAt, faceAt, cornerAt, tablesOf}
 use Rattle.scene.specs.Faces.{FaceOf}
 use Rattle.scene.specs.declared.Row.{Row}

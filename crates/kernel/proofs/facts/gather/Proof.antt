@@ -12,8 +12,7 @@ returns c =
     .before .before .before .before .before .before .before in
     gathered (now (s .args .s)) (s .pre)
     (c .before .before .before .before .before .before .before .before .before .before .before .before .before .before .before
-    .survey-of .ensures)
-    (search needs) (search needs) _ (search needs) (search needs)
+    .survey-of .ensures) (search needs) (search needs) _ (search needs) (search needs)
 
 pub gather-spec : {M : Type 1} → statement M
 gather-spec =

@@ -13,5 +13,4 @@ mask-spec =
     tie.close
     (tie.spec (λ c κs. search needs) (λ c. search needs) (λ c. search (refused-so refused)) (λ c. search needs) (λ c κs. search needs)
     (λ c. search needs) (λ c. search (own-refused refused)) (λ c. search needs) (λ c κs. search (mask-outside, accepted-so))
-    (λ c κs. search needs)
-    (λ c. search (both-accept refused, accepted-so, mask-said)))
+    (λ c κs. search needs) (λ c. search (both-accept refused, accepted-so, mask-said)))

@@ -26,6 +26,5 @@ pierces-spec =
     tie.close
     (tie.spec (λ c κs. search needs) (λ c. search needs) (λ c. search (refused-so Refused)) (λ c. search needs) (λ c κs. search needs)
     (λ c. search needs) (λ c. search (own-refused Refused)) (λ c. search needs) (λ c κs. search (rows-fit, accepted-so))
-    (λ c κs. search needs)
-    (λ c κs. search needs) pierces-requires (λ c. search (both-accept Refused, accepted-so, yes-so, pierces-found))
+    (λ c κs. search needs) (λ c κs. search needs) pierces-requires (λ c. search (both-accept Refused, accepted-so, yes-so, pierces-found))
     (λ c. search (both-accept Refused, accepted-so, no-so, pierces-found)))
