@@ -2,7 +2,7 @@
 -- question decide. Assumes nothing.
 use mathlib.Core.Path.{_≡_, refl, sym, ap}
 use mathlib.Core.Logic.{_⊎_, ⊎-elim, _↔_, Iff·rfl, Iff·symm, Iff·trans, Iff·and}
-use mathlib.Core.Bool.{Bool, true, false, not}
+use mathlib.Core.Bool.{Bool, true, false}
 use mathlib.Core.List.{List}
 use Prim.Native.Nat.{ℕ, suc, _≤_, _<_}
 use native.Mathlib.Omega.{arith}
@@ -27,7 +27,7 @@ use Rattle.rules.specs.Accepted.{accepted}
 use Rattle.rules.specs.Refused as table
 use Rattle.questions.specs.Laws.{answered-then}
 use Rattle.questions.specs.Answers.{answered, isPoint, isFace, other, differ, arePoints, clear, edgeAndFace}
-use Rattle.questions.specs.Answers.{isVertexOf, edgeAndSolid, outside, refused, isSolid}
+use Rattle.questions.specs.Answers.{isVertexOf, edgeAndSolid, outside, isSolid}
 use Rattle.demands.specs.Words.{SolidNumber, VertexOf, FourPoints, TwoAlike, EdgeAndFace, AlikeOrCorner, EdgeAndSolid, AlikeOrVertex}
 use Rattle.demands.specs.Solids.{vertex-of}
 use Rattle.demands.specs.Answers.{OfScene, Refusals, Never, Always, NoList}

@@ -17,7 +17,7 @@ use Rattle.scene.specs.Tables.{tablesOf, row, face}
 use Rattle.scene.specs.declared.Refusal.{Refusal}
 use Rattle.judge.specs.Judge.{judged, andThen, rule}
 use Rattle.judge.specs.declared.Judged.{Judged}
-use Rattle.judge.specs.declared.Judged.the-variants.{Accepted, Refused}
+use Rattle.judge.specs.declared.Judged.the-variants.{Accepted}
 use Rattle.rules.specs.Rules.{FileOk}
 use Rattle.judge.specs.Tests.{within-iff, rule-iff, then-iff}
 use Rattle.rules.specs.Accepted as rules

@@ -14,9 +14,8 @@ use Rattle.laws.specs.Members.{each-of}
 use Rattle.laws.specs.Rising.{Rising, less-never, less-back}
 use Rattle.scene.specs.Records.{vertsA, verts}
 use Rattle.judge.specs.Judge.{judged}
-use Rattle.judge.specs.declared.Judged.the-variants.{Accepted, Refused}
+use Rattle.judge.specs.declared.Judged.the-variants.{Accepted}
 use Rattle.scene.specs.declared.Solid.{Solid}
-use Rattle.pierce.specs.Against.{enclosed}
 use Rattle.listing.specs.Hits.{Hit, isInside, lowestInside}
 use Rattle.listing.specs.First.{firstOf}
 use Rattle.listing.specs.Pour.{three}

@@ -7,7 +7,7 @@ use Prim.Native.Nat.{ℕ, _<_}
 use native.Mathlib.Omega.{arith}
 use lib.ListN.{length, set}
 use Rattle.laws.specs.Range.{firstOf, over, anyOf, countOf, lowestOf}
-use Rattle.laws.specs.Lists.{Each, Some, each-append}
+use Rattle.laws.specs.Lists.{Each, Some, each-append, run, run-each}
 use Rattle.laws.specs.Members.{some-length}
 use Rattle.scene.specs.Limits.{limits, within}
 use Rattle.scene.specs.Bytes.{twoAt, coordinateAt, weightAt}
@@ -135,28 +135,8 @@ to-each Q h (n ∷ l) b e =
     ((g .0, g .1, s, h (g .0) s (subst OfScene (sym (g .1)) (b .0)) (table.refused limits s (g .0) .0 (g .3))), to-each Q h l (b .1) (e .1))
 
 small : Each OfScene ofScene
-small = (
-  inl (omega arith),
-  (
-    inl (omega arith),
-    (
-      inl (omega arith),
-      (
-        inl (omega arith),
-        (
-          inl (omega arith),
-          (
-            inl (omega arith),
-            (
-              inl (omega arith),
-              (inl (omega arith), (inl (omega arith), (inr refl, tt))),
-            ),
-          ),
-        ),
-      ),
-    ),
-  ),
-)
+small =
+    each-append OfScene (run (λ i. i) 1 9) (14 ∷ []) (run-each OfScene (λ i. i) 1 9 (λ i a b. inl (omega arith))) (inr refl, tt)
 
 all-of-scene : (Q : List ℕ → Refusal → Type 0) → ((r : Refusal) (s : List ℕ) → OfScene (numberOf r) → Grounds limits s r → Q s r) →
     Each (Given Q) ofScene

@@ -8,7 +8,7 @@ use borrow.Author.Tests.{ne-eqb}
 use Rattle.laws.specs.Decides.{fails-iff}
 use Rattle.laws.specs.Lists.{run, number-once}
 use Rattle.scene.specs.Limits.{Limits, limits}
-use Rattle.scene.specs.Records.{vertsA, verts}
+use Rattle.scene.specs.Records.{vertsA}
 use Rattle.scene.specs.Read.{points-are}
 use Rattle.scene.specs.View.{View, viewOf, points, solid, either-solid}
 use Rattle.scene.specs.declared.Solid as numbers

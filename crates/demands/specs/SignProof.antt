@@ -6,7 +6,7 @@ use Prim.Native.Nat.{zero, suc}
 use lib.IntN.{ℤ, pos, negsuc}
 use Rattle.laws.specs.Decides.{eqb-iff}
 use Rattle.laws.specs.Never.{nonsense}
-use Rattle.laws.specs.Sign.{Sign, sign, _or_, plus, minus}
+use Rattle.laws.specs.Sign.{Sign, sign, _or_}
 use Rattle.scene.specs.View.{viewOf, points}
 use Rattle.orient.specs.Laws.{psi, c3-psi}
 use Rattle.orient.specs.Signs.{Upto, Four}

@@ -63,8 +63,8 @@ module _ (o o′ : Seen) (to faceTo : ℕ → ℕ) (g : Renumbered o o′ to) (k
   besides u v cu cv d j b = beside (x .within) (cu .point) (cv .point) d (cu .out) (cv .out) _ (x .other-corners j b)
 
   pub mask-same : (u v : ℕ) → Clear n low high u → Clear n low high v → u ≢ v →
-      maskAgainst (o′ .points) (o′ .row) (o′ .face) (to u) (to v) (k′ .other) (k′ .others) ≡ maskAgainst n (o .row) (o .face) u v
-      (k .other) (k .others)
+      maskAgainst (o′ .points) (o′ .row) (o′ .face) (to u) (to v) (k′ .other) (k′ .others)
+      ≡ maskAgainst n (o .row) (o .face) u v (k .other) (k .others)
   mask-same u v cu cv d =
       (λ i. maskAgainst (g .points i) (o′ .row) (o′ .face) (to u) (to v) (k′ .other) (x .other-count i))
       ∙ mask-renamed n to (o .row) (o′ .row) (g .numbers) (g .six) (g .weighted) (g .weighted′) (o .face) (o′ .face)

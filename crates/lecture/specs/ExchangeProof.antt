@@ -43,8 +43,8 @@ scene-weighted s ok i a b = weighted limits s ok i a (omega (arith, points-are s
 -- ---- what is told of the lowest enclosed vertices, p of A and q of B in s, p′ of A and q′ of B in t
 
 module _ (a b p q p′ q′ v w : ℕ) (e : p′ + a ≡ q) (f : q′ ≡ p + b) (g : q ≤ a + b → v ≡ q - a) (h : p ≤ a → w ≡ b + p) where
-  enclosure-told : cond (leb p′ b) (AInB p′) (cond (leb q′ (b + a)) (BInA q′) Apart) ≡ cond (leb q (a + b)) (AInB v)
-      (cond (leb p a) (BInA w) Apart)
+  enclosure-told : cond (leb p′ b) (AInB p′) (cond (leb q′ (b + a)) (BInA q′) Apart)
+      ≡ cond (leb q (a + b)) (AInB v) (cond (leb p a) (BInA w) Apart)
   enclosure-told = by (decLt (a + b) q) (decLt a p)
     where
       by : Dec (a + b < q) → Dec (a < p) →
@@ -186,8 +186,8 @@ module _ (s t : List ℕ) (ok : judged s ≡ Accepted) (ok′ : judged t ≡ Acc
 
   -- ---- the kernel's answers
 
-  counts-are : countsIn
-      (viewOf t) ≡ record { pairs = length (listed s); «a_in_b» = insideCount (seen s) (inB s); «b_in_a» = insideCount (seen s) (inA s) }
+  counts-are : countsIn (viewOf t)
+      ≡ record { pairs = length (listed s); «a_in_b» = insideCount (seen s) (inB s); «b_in_a» = insideCount (seen s) (inA s) }
   unfolding countsIn insideIn listingIn solid
   counts-are = λ i. record { pairs = (ap length listing ∙ as-many) i; «a_in_b» = inside-a i; «b_in_a» = inside-b i }
 
@@ -232,13 +232,13 @@ no-ties s ok clean =
       of-a =
           λ i l u v cu cv d.
           clean-untied (pointsOf s) (rowsOf s) clean u v _
-          (beside (omega arith) (cu .point) (cv .point) d (cu .out)
-          (cv .out) _ (face-of-a limits s ok (0 + 1 + i) (omega arith) (omega arith)));
+          (beside (omega arith) (cu .point) (cv .point) d (cu .out) (cv .out) _
+          (face-of-a limits s ok (0 + 1 + i) (omega arith) (omega arith)));
       of-b =
           λ i l u v cu cv d.
           clean-untied (pointsOf s) (rowsOf s) clean u v _
-          (beside (omega arith) (cu .point) (cv .point) d (cu .out)
-          (cv .out) _ (face-of-b limits s ok (facesA s + 1 + i) (omega arith) (omega arith)));
+          (beside (omega arith) (cu .point) (cv .point) d (cu .out) (cv .out) _
+          (face-of-b limits s ok (facesA s + 1 + i) (omega arith) (omega arith)));
     }
 
 pub exchange : Exchange

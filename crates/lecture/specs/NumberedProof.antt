@@ -79,8 +79,8 @@ module _ (to back : ℕ → ℕ) (s t : List ℕ) (ok : judged s ≡ Accepted) (
     besides : (i : ℕ) → i < count → Beside n u v (face (tablesOf s) (first + 1 + i))
     besides i l = beside within (cu .point) (cv .point) d (cu .out) (cv .out) _ (corners i l)
 
-    mask-same : maskAgainst (pointsOf t) (rowsOf t) (face (tablesOf t)) (to u) (to v) first count ≡ maskAgainst n (rowsOf s)
-        (face (tablesOf s)) u v first count
+    mask-same : maskAgainst (pointsOf t) (rowsOf t) (face (tablesOf t)) (to u) (to v) first count
+        ≡ maskAgainst n (rowsOf s) (face (tablesOf s)) u v first count
     mask-same =
         ap (λ (m : ℕ). maskAgainst m (rowsOf t) (face (tablesOf t)) (to u) (to v) first count) same-points
         ∙ mask-renamed n to (rowsOf s) (rowsOf t) renumbering six (scene-weighted s ok) weights (face (tablesOf s))
@@ -153,8 +153,8 @@ module _ (to back : ℕ → ℕ) (s t : List ℕ) (ok : judged s ≡ Accepted) (
 
   -- what pierces in t, of the numbers of s
   told-back : (u v f : ℕ) → Point t u → Point t v →
-      pierced (pointsOf t) (rowsOf t) (to (back u)) (to (back v)) (face (tablesOf t) f) ≡ pierced n (rowsOf s) (back u) (back v)
-      (face (tablesOf s) f) → Pierces t u v f → Pierces s (back u) (back v) f
+      pierced (pointsOf t) (rowsOf t) (to (back u)) (to (back v)) (face (tablesOf t) f)
+      ≡ pierced n (rowsOf s) (back u) (back v) (face (tablesOf s) f) → Pierces t u v f → Pierces s (back u) (back v) f
   told-back u v f a b e p =
       sym e ∙ ap₂ (λ (u v : ℕ). pierced (pointsOf t) (rowsOf t) u v (face (tablesOf t) f)) (here u a) (here v b) ∙ p
 

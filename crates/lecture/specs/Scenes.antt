@@ -11,7 +11,7 @@ use lib.ListN.{length}
 use Rattle.scene.specs.Faces.{FaceOf}
 use Rattle.scene.specs.Limits.{limits}
 use Rattle.scene.specs.Records.{vertsA, facesA, facesB, verts}
-use Rattle.scene.specs.Tables.{tablesOf, row, face}
+use Rattle.scene.specs.Tables.{tablesOf, face}
 use Rattle.judge.specs.Judge.{judged}
 use Rattle.judge.specs.declared.Judged.the-variants.{Accepted}
 use Rattle.rules.specs.Given.{counts, face-of-a, face-of-b}

@@ -9,7 +9,7 @@ use Rattle.laws.specs.Lists.{run-at, length-run}
 use Rattle.scene.specs.Faces.{FaceOf}
 use Rattle.scene.specs.Limits.{limits}
 use Rattle.scene.specs.Read.{size-a, size-b, row-is, far-is, face-a, face-b}
-use Rattle.scene.specs.Records.{vertsA, vertsB, facesA, facesB, verts, faces}
+use Rattle.scene.specs.Records.{vertsA, vertsB, facesA, facesB, verts}
 use Rattle.scene.specs.Tables.{Tables, tablesOf, face, size, raise, rowAt, faceAt, noRow, noFace}
 use Rattle.scene.specs.declared.Face.{Face}
 use Rattle.judge.specs.Judge.{judged}
