@@ -1,5 +1,5 @@
--- A bench: what opening it and each move at it answer, and the bench that is handed back. Each move is a session's move in one scene or in both.
--- Assumes nothing.
+-- A bench: what opening it and each move at it answer, and the bench that is handed back. Each move is a session's move in one scene or in
+-- both. Assumes nothing.
 use mathlib.Core.Bool.{Bool, true, false, not, cond, _&&_}
 use mathlib.Core.List.{List}
 use Prim.Native.Nat.{ℕ, _+_, _*_}
@@ -108,7 +108,9 @@ solidsOf s = cond (isWhole s) (record { held = true; own = vertsA s; fixture = v
 
 -- 1 where there is no scene; 11 for a number that the scene lacks; then 19 for a fixture vertex and for the far point
 unfoldable pub ownFault : Solids → ℕ → Answer
-ownFault k p = unless (k .held) (Scene Opening) (unless (within 1 (k .own + k .fixture + 1) p) (Scene Lacking) (unless (within 1 (k .own) p) (Shared p) Done))
+ownFault k p =
+    unless (k .held) (Scene Opening)
+    (unless (within 1 (k .own + k .fixture + 1) p) (Scene Lacking) (unless (within 1 (k .own) p) (Shared p) Done))
 
 -- then the session's move of the vertex, with its 5 and 6
 abbrev pub ownMovedBy : Answer → Session → ℕ → Row → Moved

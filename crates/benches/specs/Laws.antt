@@ -22,9 +22,11 @@ use Rattle.session.specs.Session.{scene, empty, isWhole, opened, movedOf, farMo
 use Rattle.session.specs.Saved.{saveFault, savedBy, IsSaved}
 use Rattle.session.specs.declared.Session.{Session}
 use Rattle.session.specs.declared.Changed.{Changed}
-use Rattle.benches.specs.Bench.{unless, thenScene, said, differAt, sameBytes, sameCounts, sameVertices, sameFaces, openFault, openedBy, openedOf}
+use Rattle.benches.specs.Bench.{unless, thenScene, said, differAt, sameBytes, sameCounts, sameVertices, sameFaces, openFault}
+use Rattle.benches.specs.Bench.{openedBy, openedOf}
 use Rattle.benches.specs.Bench.{sessionOf, withSession, solidsOf, ownFault, ownMovedBy, ownMovedOf, groupMovedOf}
-use Rattle.benches.specs.Bench.{numberFault, sceneMoved, placed, placedIn, fixtureMovedBy, fixtureMovedOf, lecturerMovedBy, lecturerMovedOf}
+use Rattle.benches.specs.Bench.{numberFault, sceneMoved, placed, placedIn, fixtureMovedBy}
+use Rattle.benches.specs.Bench.{fixtureMovedOf, lecturerMovedBy, lecturerMovedOf}
 use Rattle.benches.specs.declared.Bench.{Bench}
 use Rattle.benches.specs.declared.Answered.{Answered}
 use Rattle.benches.specs.declared.Group.{Group}
@@ -78,8 +80,8 @@ module _ (s t : List ℕ) where
   counts-same p q e f g =
       ap₂ eqb f g ∙ ap (λ (b : Bool). b && eqb (facesB s) (facesB t)) (sym (eq-eqb (vertsB s) (vertsB t) (sym p ∙ e ∙ q)))
 
-  pub vertices-by : {w : Bool} {a b m i j : ℕ} → a ≡ vertsA s → b ≡ vertsA t → m ≡ vertsB s → i ≡ pointStart (a + 1) → j ≡ pointStart (b + 1) →
-      w ≡ sameBytes s i t j (m * 9) → w ≡ sameVertices s t
+  pub vertices-by : {w : Bool} {a b m i j : ℕ} → a ≡ vertsA s → b ≡ vertsA t → m ≡ vertsB s → i ≡ pointStart (a + 1) →
+      j ≡ pointStart (b + 1) → w ≡ sameBytes s i t j (m * 9) → w ≡ sameVertices s t
   unfolding sameVertices
   vertices-by p q r e f h = rw (e, f, p, q, r) at h
 
@@ -104,7 +106,8 @@ solids-none s room {r = r} e q l = go (isWhole s) (sym e ∙ q)
     go true h = absurd (never (ap (λ (b : Bool). rule b (Buffer (length s)) judge.Accepted) (sym (le-leb (length s) room l)) ∙ h))
     go false h = refl
 
-pub solids-held : (s out out′ : List ℕ) {j : Judged} {a b : ℕ} → IsSaved s out out′ j → j ≡ judge.Accepted → a ≡ byteAt out′ 2 → b ≡ byteAt out′ 4 →
+pub solids-held : (s out out′ : List ℕ) {j : Judged} {a b : ℕ} → IsSaved s out out′ j → j ≡ judge.Accepted → a ≡ byteAt out′ 2 →
+    b ≡ byteAt out′ 4 →
     _≡_ {A = Solids} (record { held = true; own = a; fixture = b }) (solidsOf s)
 unfolding saveFault solidsOf isWhole
 solids-held s out out′ h q x y =
@@ -169,7 +172,8 @@ module _ (s : Session) (n : ℕ) (v : Row) {k : Solids} {o : Judged} (e : k ≡ 
   abbrev lacking : o ≡ numberFault (solidsOf (scene s)) n
   lacking = f ∙ ap (λ (k : Solids). numberFault k n) e
 
-  pub fixture-refused : {r : Refusal} → o ≡ judge.Refused r → _≡_ {A = Changed} (record { answer = judge.Refused r; session = s }) (fixtureMovedOf s n v)
+  pub fixture-refused : {r : Refusal} → o ≡ judge.Refused r →
+      _≡_ {A = Changed} (record { answer = judge.Refused r; session = s }) (fixtureMovedOf s n v)
   unfolding fixtureMovedOf
   fixture-refused q = ap (λ (o : Judged). fixtureMovedBy o s n v) (sym q ∙ lacking)
 
@@ -183,7 +187,8 @@ module _ (s : Session) (n : ℕ) (v : Row) {k : Solids} {o : Judged} (e : k ≡ 
 
 -- ---- the bench
 
-pub group-moved : (b : Bench) (g : Group) (p : ℕ) (v : Row) {x : Session} {m : Moved} {d : Bench} → x ≡ sessionOf b g → m ≡ ownMovedOf x p v →
+pub group-moved : (b : Bench) (g : Group) (p : ℕ) (v : Row) {x : Session} {m : Moved} {d : Bench} → x ≡ sessionOf b g →
+    m ≡ ownMovedOf x p v →
     d ≡ withSession b g (m .session) → _≡_ {A = Answered} (record { answer = m .answer; bench = d }) (groupMovedOf b g p v)
 unfolding groupMovedOf
 group-moved b g p v e f h =
@@ -218,4 +223,5 @@ module _ (s t : List ℕ) {o : Answer} (e : o ≡ openFault s t) where
       _≡_ {A = Answered} (record { answer = Done; bench = record { one = c .session; two = d .session } }) (openedOf s t)
   unfolding openedOf
   open-done q a b =
-      (λ i. record { answer = Done; bench = record { one = a i .session; two = b i .session } }) ∙ ap (λ (o : Answer). openedBy o s t) (sym q ∙ e)
+      (λ i. record { answer = Done; bench = record { one = a i .session; two = b i .session } })
+      ∙ ap (λ (o : Answer). openedBy o s t) (sym q ∙ e)

@@ -1,7 +1,9 @@
-// A bench: two groups at one fixture. Each group has its scene, whose solid B and far point are shared; each operation hands the bench back.
+// A bench: two groups at one fixture. Each group has its scene, whose solid B and far point are shared; each operation hands the bench
+// back.
 ghost use mathlib.Core.Path.{_≡_};
 ghost use Rattle.session.specs.Session.{empty};
-ghost use Rattle.benches.specs.Bench.{faultNumber, faultPlace, sessionOf, withSession, openFault, openedOf, groupMovedOf, lecturerMovedOf};
+ghost use Rattle.benches.specs.Bench.{faultNumber, faultPlace, sessionOf, withSession, openFault};
+ghost use Rattle.benches.specs.Bench.{openedOf, groupMovedOf, lecturerMovedOf};
 use judge::Judged;
 use scene::Refusal;
 use scene::Row;

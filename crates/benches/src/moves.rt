@@ -2,7 +2,8 @@
 ghost use mathlib.Core.Path.{_≡_};
 ghost use Prim.Native.Nat.{_<_};
 ghost use Rattle.session.specs.Session.{scene};
-ghost use Rattle.benches.specs.Bench.{solidsOf, ownFault, said, ownMovedOf, numberFault, sceneMoved, placed, placedIn, fixtureMovedOf};
+ghost use Rattle.benches.specs.Bench.{solidsOf, ownFault, said, ownMovedOf, numberFault, sceneMoved};
+ghost use Rattle.benches.specs.Bench.{placed, placedIn, fixtureMovedOf};
 use crate::Answer;
 use crate::Fault;
 use judge::Judged;

@@ -1,5 +1,5 @@
--- One group's moves do not reach the other: strike them all, and the other group's session, its answers and the lecturer's are the same. What the
--- lecturer is answered is settled at the opening. Assumes nothing.
+-- One group's moves do not reach the other: strike them all, and the other group's session, its answers and the lecturer's are the same.
+-- What the lecturer is answered is settled at the opening. Assumes nothing.
 use mathlib.Core.Path.{_≡_, refl, sym, ap, ap₂, _∙_}
 use mathlib.Core.Logic.{inl, inr}
 use mathlib.Core.Bool.{Bool, true, false, cond, true≢false, false≢true}
@@ -12,7 +12,6 @@ use Rattle.judge.specs.declared.Judged.{Judged}
 use Rattle.judge.specs.declared.Judged.the-variants as judge
 use Rattle.session.specs.Session.{scene}
 use Rattle.session.specs.Kept.{Empty}
-use Rattle.session.specs.Kept as session
 use Rattle.session.specs.declared.Session.{Session}
 use Rattle.benches.specs.Bench.{thenScene, said, unless, openedOf, sessionOf, withSession, ownFault, ownMovedOf, groupMovedOf}
 use Rattle.benches.specs.Bench.{fixtureMovedOf, lecturerMovedBy, lecturerMovedOf}
@@ -24,9 +23,11 @@ use Rattle.benches.specs.declared.Fault.{Fault}
 use Rattle.benches.specs.declared.Fault.the-variants.{Scene}
 use Rattle.benches.specs.declared.Answer.{Answer}
 use Rattle.benches.specs.declared.Answer.the-variants.{Refused}
-use Rattle.groups.specs.Effect.{Follows, follows-same, empty-solids, empty-follows, full-follows, done-never, own-effect, fixture-effect}
+use Rattle.groups.specs.Effect.{Follows, follows-same, empty-solids, empty-follows, full-follows}
+use Rattle.groups.specs.Effect.{done-never, own-effect, fixture-effect}
 use Rattle.groups.specs.Lecturer.{lecturerFault, lecturer-told}
-use Rattle.groups.specs.Kept.{Sharing, State, Holds, holds-of, Operation, group, lecturer, step, after, step-holds, opened-bench, empty-told, told-alike}
+use Rattle.groups.specs.Kept.{Sharing, State, Holds, holds-of, Operation, group, lecturer, step, after, step-holds, opened-bench}
+use Rattle.groups.specs.Kept.{empty-told, told-alike}
 
 abbrev pub other : Group → Group
 other One = Two
@@ -130,7 +131,8 @@ apart : (g : Group) (b c : Bench) → Holds b → Holds c → sessionOf b g ≡ 
 apart g b c h k e [] = record { session = e; answers = refl }
 apart g b c h k e (o ∷ os) = go (isOf (other g) o) refl (λ b c h k e. apart g b c h k e os)
   where
-    go : (t : Bool) → isOf (other g) o ≡ t → ((b c : Bench) → Holds b → Holds c → sessionOf b g ≡ sessionOf c g → Apart g b c os) → Apart g b c (o ∷ os)
+    go : (t : Bool) → isOf (other g) o ≡ t → ((b c : Bench) → Holds b → Holds c → sessionOf b g ≡ sessionOf c g → Apart g b c os) →
+        Apart g b c (o ∷ os)
     go true q rest =
         let r = rest (step b o .bench) c (step-holds b o h) k (unseen b g o q ∙ e) in
         record { session = rw q (r .session); answers = rw q (r .answers) }
@@ -175,7 +177,8 @@ module _ (b : Bench) (n : ℕ) (v : Row) (h : Holds b) where
           ∙ sym (lecturer-told (b .one) n v (m .one))
 
 -- no move of anyone changes it
-pub lecturer-settled : (b : Bench) (os : List Operation) (n : ℕ) (v : Row) → Holds b → lecturerMovedOf (after b os) n v .answer ≡ lecturerMovedOf b n v .answer
+pub lecturer-settled : (b : Bench) (os : List Operation) (n : ℕ) (v : Row) → Holds b →
+    lecturerMovedOf (after b os) n v .answer ≡ lecturerMovedOf b n v .answer
 lecturer-settled b [] n v h = refl
 lecturer-settled b (o ∷ os) n v h = lecturer-settled (step b o .bench) os n v (step-holds b o h) ∙ lecturer-next b n v h o
 

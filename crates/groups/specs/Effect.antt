@@ -1,5 +1,5 @@
--- What a move does to one session: a group's leaves the fixture, the lecturer's changes it as the number and the row say; a refused one does nothing.
--- What the lecturer is answered is told by the fixture's vertex count, the number and the row. Assumes nothing.
+-- What a move does to one session: a group's leaves the fixture, the lecturer's changes it as the number and the row say; a refused one
+-- does nothing. What the lecturer is answered is told by the fixture's vertex count, the number and the row. Assumes nothing.
 use mathlib.Core.Path.{_≡_, refl, sym, ap, _∙_}
 use mathlib.Core.Logic.{_⊎_, inl, inr}
 use mathlib.Core.Bool.{Bool, true, false, cond}
@@ -178,12 +178,16 @@ module _ (s : Session) (n : ℕ) (v : Row) (h : Holds s) where
   by-moves j c (changes a d k) b f =
       record { follows = row-follows d k b; refused = λ q. absurd (never (sym (ap (placedIn n) a) ∙ q)); moved = λ q. f d }
 
-  number-free : numberFault (solidsOf (scene s)) n ≡ judge.Accepted → (solidsOf (scene s) .held ≡ true) × ((1 ≤ n) × (n ≤ vertsB (scene s) + 1))
+  number-free : numberFault (solidsOf (scene s)) n ≡ judge.Accepted →
+      (solidsOf (scene s) .held ≡ true) × ((1 ≤ n) × (n ≤ vertsB (scene s) + 1))
   unfolding numberFault
   number-free e =
       let a = rule-iff _ _ _ .0 e in
-      let b = rule-iff _ _ _ .0 (a .1) in
-      (a .0, within-iff 1 (vertsB (scene s) + 1) n .0 (ap (λ (k : Solids). within 1 (k .fixture + 1) n) (sym (held-solids (scene s) (a .0))) ∙ b .0))
+      let b = rule-iff _ _ _ .0 (a .1) in (
+        a .0,
+        within-iff 1 (vertsB (scene s) + 1) n .0
+            (ap (λ (k : Solids). within 1 (k .fixture + 1) n) (sym (held-solids (scene s) (a .0))) ∙ b .0),
+      )
 
   scene-effect : 1 ≤ n → Dec (n ≤ vertsB (scene s)) → FixtureEffect s n v (told n (sceneMoved s (solidsBy true (scene s)) n v))
   unfolding sceneMoved

@@ -1,4 +1,5 @@
--- The fixture of a scene, which the two groups share: solid B and the far point. What opening compares, what a change of one row does to it. Assumes nothing.
+-- The fixture of a scene, which the two groups share: solid B and the far point. What opening compares, what a change of one row does to
+-- it. Assumes nothing.
 use mathlib.Core.Path.{_≡_, refl, sym, ap, ap₂, _∙_}
 use mathlib.Core.Logic.{_≢_}
 use mathlib.Core.Bool.{true, cond}
@@ -142,7 +143,8 @@ module _ (s t : List ℕ) (j : ℕ) (v : Row) (h : RowChanged s j v t) (here : j
       ∙ run-set (rowAt s) (rowAt t) (vertsA s + 1) (vertsB s) (n - 1) v (omega arith) (ap (rowAt t) (omega arith) ∙ h .row)
       (λ m d. other-row m (λ q. d (omega arith))) in
       let far = other-row 0 (omega arith) in
-      let f : fixtureOf t ≡ record { solid = record { rows = set (tablesOf s .b .rows) (n - 1) v; faces = tablesOf s .b .faces }; far = rowAt s 0 } =
+      let f : fixtureOf t
+      ≡ record { solid = record { rows = set (tablesOf s .b .rows) (n - 1) v; faces = tablesOf s .b .faces }; far = rowAt s 0 } =
       λ i. record { solid = record { rows = rows i; faces = faces-same i }; far = far i } in
       f ∙ rw (le-leb n (size (tablesOf s .b)) (omega (arith, size-b s)))
 

@@ -1,5 +1,6 @@
--- What a bench holds is kept by every move and given by opening, so it stands after any of them, from any two strings of bytes: each group's session
--- holds what a session holds, and both scenes have the same solid B and far point. A refused move changes nothing. Assumes nothing.
+-- What a bench holds is kept by every move and given by opening, so it stands after any of them, from any two strings of bytes: each
+-- group's session holds what a session holds, and both scenes have the same solid B and far point. A refused move changes nothing.
+-- Assumes nothing.
 use mathlib.Core.Path.{_≡_, refl, sym, ap, _∙_}
 use mathlib.Core.Logic.{_⊎_, inl, inr}
 use mathlib.Core.List.{List, [], _∷_}
@@ -17,7 +18,7 @@ use Rattle.judge.specs.Tests.{never}
 use Rattle.judge.specs.declared.Judged.{Judged}
 use Rattle.judge.specs.declared.Judged.the-variants as judge
 use Rattle.rules.specs.Accepted.{accepted}
-use Rattle.session.specs.Session.{scene, empty, opened, openedBy}
+use Rattle.session.specs.Session.{scene, empty, opened}
 use Rattle.session.specs.Kept.{Empty, Full, opened-holds}
 use Rattle.session.specs.Kept as session
 use Rattle.session.specs.Saved.{opened-scene}

@@ -62,7 +62,8 @@ held-same s t i j n l m h k e b =
     (λ x y z.
     ap not
     (eq-eqb (byteAt s (i + x)) (byteAt t (j + x))
-    (byte-of h (i + x) x refl (omega arith) ∙ ap (λ (l : List ℕ). getD l x 0) e ∙ sym (byte-of k (j + x) x refl (omega (arith, ap length e)))))))
+    (byte-of h (i + x) x refl (omega arith) ∙ ap (λ (l : List ℕ). getD l x 0) e
+    ∙ sym (byte-of k (j + x) x refl (omega (arith, ap length e)))))))
 
 module _ (s t : List ℕ) (bs : Bytes s) (bt : Bytes t) (qs : judged s ≡ judge.Accepted) (qt : judged t ≡ judge.Accepted) where
   pub fixture-shared : fixtureOf s ≡ fixtureOf t → isShared s t ≡ true
@@ -70,14 +71,16 @@ module _ (s t : List ℕ) (bs : Bytes s) (bt : Bytes t) (qs : judged s ≡ judge
   fixture-shared e =
       let vb : vertsB s ≡ vertsB t = sym (size-b s) ∙ ap (λ (f : Fixture). size (f .solid)) e ∙ size-b t in
       let fb : facesB s ≡ facesB t =
-      sym (length-run (faceAt s) (facesA s) (facesB s)) ∙ ap (λ (f : Fixture). length (f .solid .faces)) e ∙ length-run (faceAt t) (facesA t) (facesB t) in
+      sym (length-run (faceAt s) (facesA s) (facesB s)) ∙ ap (λ (f : Fixture). length (f .solid .faces)) e
+      ∙ length-run (faceAt t) (facesA t) (facesB t) in
       let far = held-same s t _ _ 9 _ _ (far-held s bs qs) (far-held t bt qt) (ap (λ (f : Fixture). pointBytes markFP (f .far)) e) refl in
       let rows = held-same s t _ _ (vertsB s * 9) _ _ (rows-held s bs qs) (rows-held t bt qt)
       (ap (λ (f : Fixture). flatMap (pointBytes markVX) (f .solid .rows)) e)
       (sym (length-all (pointBytes markVX) 9 (λ r. refl) (tablesOf s .b .rows) ∙ ap (λ (n : ℕ). n * 9) (size-b s))) in
       let faces = held-same s t _ _ (facesB s * 5) _ _ (faces-held s bs qs) (faces-held t bt qt)
       (ap (λ (f : Fixture). flatMap faceBytes (f .solid .faces)) e)
-      (sym (length-all faceBytes 5 (λ f. refl) (tablesOf s .b .faces) ∙ ap (λ (n : ℕ). n * 5) (length-run (faceAt s) (facesA s) (facesB s)))) in
+      (sym (length-all faceBytes 5 (λ f. refl) (tablesOf s .b .faces)
+      ∙ ap (λ (n : ℕ). n * 5) (length-run (faceAt s) (facesA s) (facesB s)))) in
       simp decides ((vb, fb), (far, (rows, faces)))
 
 -- ---- opening
@@ -105,7 +108,8 @@ module _ (s t : List ℕ) (bs : Bytes s) (bt : Bytes t) where
   open-iff = (opens s t, λ o. rw (o .first, o .second, fixture-shared s t bs bt (o .first) (o .second) (o .fixture)))
 
   -- 22, of two accepted scenes
-  pub differing-iff : judged s ≡ judge.Accepted → judged t ≡ judge.Accepted → (openFault s t ≡ Refused Differing) ↔ (fixtureOf s ≡ fixtureOf t → ⊥)
+  pub differing-iff : judged s ≡ judge.Accepted → judged t ≡ judge.Accepted →
+      (openFault s t ≡ Refused Differing) ↔ (fixtureOf s ≡ fixtureOf t → ⊥)
   unfolding openFault thenScene unless
   differing-iff p q = (
     λ e f. done-never (sym (open-iff .1 (record { first = p; second = q; fixture = f })) ∙ e),

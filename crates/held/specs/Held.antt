@@ -1,5 +1,6 @@
--- What a session holds, after any operations from any string of bytes, keeps the written rules, and demands 2 and 3 read on it, with the counts that a fresh
--- count of it gives; or the session is empty. So it is of each group's session at a bench, after anyone's moves. Assumes nothing.
+-- What a session holds, after any operations from any string of bytes, keeps the written rules, and demands 2 and 3 read on it, with the
+-- counts that a fresh count of it gives; or the session is empty. So it is of each group's session at a bench, after anyone's moves.
+-- Assumes nothing.
 use mathlib.Core.Path.{_≡_}
 use mathlib.Core.Logic.{_⊎_, inl, inr}
 use mathlib.Core.List.{List}

@@ -1,5 +1,5 @@
--- What an operation changes: the numbers of its record, and no other byte. A refused one changes nothing, and the empty session refuses all of them
--- with 1. Assumes nothing.
+-- What an operation changes: the numbers of its record, and no other byte. A refused one changes nothing, and the empty session refuses all
+-- of them with 1. Assumes nothing.
 use mathlib.Core.Path.{_≡_, ap, _∙_}
 use mathlib.Core.Bool.{false}
 use mathlib.Core.List.{List}
@@ -19,7 +19,8 @@ use Rattle.scene.specs.declared.Refusal.the-variants.{Opening}
 use Rattle.judge.specs.Judge.{rule}
 use Rattle.judge.specs.declared.Judged.{Judged}
 use Rattle.judge.specs.declared.Judged.the-variants.{Accepted, Refused}
-use Rattle.session.specs.Session.{scene, fresh, isWhole, vertexFault, farFault, turnFault, changedBy, movedOf, farMovedOf, turned, turnedIn, reversedOf}
+use Rattle.session.specs.Session.{scene, fresh, isWhole, vertexFault, farFault, turnFault, changedBy, movedOf, farMovedOf, turned}
+use Rattle.session.specs.Session.{turnedIn, reversedOf}
 use Rattle.session.specs.Laws.{row-fits, vertex-free, far-free}
 use Rattle.session.specs.Kept.{Empty, Holds, row-in, corners-in, vertex-room, far-room, face-room}
 use Rattle.session.specs.declared.Session.{Session}
@@ -59,7 +60,8 @@ module _ (s : Session) where
   unfolding farMovedOf
   far-changed v q =
       let room = far-room s v q in
-      row-changed 0 v (changed-scene _ (rowPut (s .bytes) 0 v) q ∙ row-in s 0 v room) (row-back (scene s) 0 v (row-fits (far-free (scene s) v q .row)) room)
+      row-changed 0 v (changed-scene _ (rowPut (s .bytes) 0 v) q ∙ row-in s 0 v room)
+      (row-back (scene s) 0 v (row-fits (far-free (scene s) v q .row)) room)
 
   pub face-turned : (f : ℕ) → turnFault (scene s) f ≡ Accepted → FaceTurned (scene s) (f - 1) (scene (reversedOf s f .session))
   unfolding reversedOf
@@ -78,7 +80,8 @@ module _ (s : Session) where
 
   -- ---- refused
 
-  pub vertex-refused : (p : ℕ) (v : Row) {r : Refusal} → vertexFault (scene s) p v ≡ Refused r → movedOf s p v ≡ record { answer = Refused r; session = s }
+  pub vertex-refused : (p : ℕ) (v : Row) {r : Refusal} → vertexFault (scene s) p v ≡ Refused r →
+      movedOf s p v ≡ record { answer = Refused r; session = s }
   unfolding movedOf
   vertex-refused p v q = ap (λ (j : Judged). changedBy j s (rowPut (s .bytes) p v)) q
 

@@ -1,4 +1,5 @@
--- What a session holds is kept by every operation and given by opening, so it stands after any of them, from any string of bytes. Assumes nothing.
+-- What a session holds is kept by every operation and given by opening, so it stands after any of them, from any string of bytes.
+-- Assumes nothing.
 use mathlib.Core.Path.{_≡_, refl, sym, ap, _∙_}
 use mathlib.Core.Logic.{_⊎_, inl, inr}
 use mathlib.Core.List.{List, [], _∷_, _++_}
@@ -95,13 +96,15 @@ module _ (s : Session) where
   abbrev n : ℕ
   n = length (scene s)
 
-  pub row-in : (j : ℕ) (v : Row) → pointStart j + 9 ≤ length (scene s) → take (length (scene s)) (rowPut (s .bytes) j v) ≡ rowPut (scene s) j v
+  pub row-in : (j : ℕ) (v : Row) → pointStart j + 9 ≤ length (scene s) →
+      take (length (scene s)) (rowPut (s .bytes) j v) ≡ rowPut (scene s) j v
   unfolding rowPut
   row-in j v h =
       take-sets n (rowBytes v) (s .bytes) (pointStart j + 2) (omega arith)
       ∙ ap (λ (l : List ℕ). sets l (pointStart j + 2) (rowBytes v)) (take-again (s .len) (s .bytes))
 
-  pub corners-in : (k : ℕ) (f : Face) → k + 5 ≤ length (scene s) → take (length (scene s)) (cornersPut (s .bytes) k f) ≡ cornersPut (scene s) k f
+  pub corners-in : (k : ℕ) (f : Face) → k + 5 ≤ length (scene s) →
+      take (length (scene s)) (cornersPut (s .bytes) k f) ≡ cornersPut (scene s) k f
   unfolding cornersPut
   corners-in k f h =
       take-sets n (cornerBytes f) (s .bytes) (k + 2) (omega arith)
@@ -135,8 +138,8 @@ module _ (s : Session) where
   pub moved-holds : (p : ℕ) (v : Row) → Holds s → Holds (movedOf s p v .session)
   unfolding movedOf
   moved-holds p v h =
-      changed-holds (vertexFault (scene s) p v) (rowPut (s .bytes) p v) h (λ q. row-in p v (vertex-room p v q)) (λ q. sym (row-length (scene s) p v))
-      (λ q.
+      changed-holds (vertexFault (scene s) p v) (rowPut (s .bytes) p v) h (λ q. row-in p v (vertex-room p v q))
+      (λ q. sym (row-length (scene s) p v)) (λ q.
       let f = vertex-free (scene s) p v q in
       vertex-accepted (scene s) p v (row-fits (f .row)) (full h (f .whole)) (f .low) (f .high) (f .row))
 
@@ -152,8 +155,8 @@ module _ (s : Session) where
       let i : ℕ = f - 1 in
       let k : ℕ = faceStart (scene s) i in
       let g : Face = turned (faceAt (scene s) i) in
-      changed-holds (turnFault (scene s) f) (turnedIn (s .bytes) (scene s) i) h (λ q. corners-in k g (face-room f q)) (λ q. sym (corners-length (scene s) k g))
-      (λ q. turned-accepted (scene s) i (face-room f q) (full h (turn-free (scene s) f q .whole)))
+      changed-holds (turnFault (scene s) f) (turnedIn (s .bytes) (scene s) i) h (λ q. corners-in k g (face-room f q))
+      (λ q. sym (corners-length (scene s) k g)) (λ q. turned-accepted (scene s) i (face-room f q) (full h (turn-free (scene s) f q .whole)))
 
 pub step-holds : (s : Session) (o : Operation) → Holds s → Holds (step s o .session)
 step-holds s (reopen b) h = opened-holds b

@@ -1,4 +1,5 @@
--- What the operations' definitions give where the faults are known, in the form in which a call's answer and a branch arrive. Assumes nothing.
+-- What the operations' definitions give where the faults are known, in the form in which a call's answer and a branch arrive.
+-- Assumes nothing.
 use mathlib.Core.Path.{_≡_, sym, ap, _∙_}
 use mathlib.Core.Bool.{Bool, true, false, not}
 use mathlib.Core.List.{List, _++_}
@@ -35,7 +36,8 @@ pub record Whole (s : Session) (n : ℕ) : Type 0 where
 
 pub row-free : (least p : ℕ) (v : Row) → rowFault least p (sizesOf v) ≡ Accepted → RowOk least limits v
 unfolding rowFault
-row-free least p v e = let c = simp accepts at e in record { coordinates = record { x = c .0; y = c .1 .0; z = c .1 .1 .0 }; weight = c .1 .1 .1 .0 }
+row-free least p v e =
+    let c = simp accepts at e in record { coordinates = record { x = c .0; y = c .1 .0; z = c .1 .1 .0 }; weight = c .1 .1 .1 .0 }
 
 pub row-fits : {least : ℕ} {v : Row} → RowOk least limits v → RowFits v
 row-fits ok =
@@ -50,7 +52,8 @@ pub record VertexFree (s : List ℕ) (p : ℕ) (v : Row) : Type 0 where
 
 pub vertex-free : (s : List ℕ) (p : ℕ) (v : Row) → vertexFault s p v ≡ Accepted → VertexFree s p v
 unfolding vertexFault isWhole
-vertex-free s p v e = let c = simp accepts at e in record { whole = c .0; low = c .1 .0 .0; high = c .1 .0 .1; row = row-free 1 p v (c .1 .1) }
+vertex-free s p v e =
+    let c = simp accepts at e in record { whole = c .0; low = c .1 .0 .0; high = c .1 .0 .1; row = row-free 1 p v (c .1 .1) }
 
 pub record FarFree (s : List ℕ) (v : Row) : Type 0 where
   pub whole : length s ≡ lengthOf s
@@ -87,7 +90,9 @@ module _ (s : Session) (b : List ℕ) {o j : Judged} (e : o ≡ j) where
 
   pub changed-so : {t : Session} {n : ℕ} → o ≡ Accepted → n ≡ length (scene s) → t ≡ fresh b n →
       _≡_ {A = Changed} (record { answer = Accepted; session = t }) (changedBy j s b)
-  changed-so q n p = ap (λ (t : Session). record { answer = Accepted; session = t }) (p ∙ ap (fresh b) n) ∙ ap (λ (k : Judged). changedBy k s b) (sym q ∙ e)
+  changed-so q n p =
+      ap (λ (t : Session). record { answer = Accepted; session = t }) (p ∙ ap (fresh b) n)
+      ∙ ap (λ (k : Judged). changedBy k s b) (sym q ∙ e)
 
 drop-zeros : (k n : ℕ) → drop k (replicate {A = ℕ} n 0) ≡ replicate {A = ℕ} (n - k) 0
 drop-zeros zero n = rw sub-zero
@@ -95,11 +100,13 @@ drop-zeros (suc k) zero = rw zero-sub
 drop-zeros (suc k) (suc n) = rw suc-sub-suc (drop-zeros k n)
 
 module _ (s : List ℕ) {o : Judged} (e : o ≡ judged s) where
-  pub opened-not : {r : Refusal} {t : Session} → o ≡ Refused r → t ≡ empty → _≡_ {A = Changed} (record { answer = Refused r; session = t }) (opened s)
+  pub opened-not : {r : Refusal} {t : Session} → o ≡ Refused r → t ≡ empty →
+      _≡_ {A = Changed} (record { answer = Refused r; session = t }) (opened s)
   unfolding opened
   opened-not {r} q p = ap (λ (t : Session). record { answer = Refused r; session = t }) p ∙ ap (λ (k : Judged). openedBy k s) (sym q ∙ e)
 
-  pub opened-so : {b : List ℕ} {t : Session} → o ≡ Accepted → b ≡ s ++ drop (length s) (replicate (longest limits) 0) → t ≡ fresh b (length s) →
+  pub opened-so : {b : List ℕ} {t : Session} → o ≡ Accepted → b ≡ s ++ drop (length s) (replicate (longest limits) 0) →
+      t ≡ fresh b (length s) →
       _≡_ {A = Changed} (record { answer = Accepted; session = t }) (opened s)
   unfolding opened
   opened-so q h p =

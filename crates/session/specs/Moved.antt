@@ -1,5 +1,5 @@
--- An accepted scene stays accepted when the row of one point changes within its rules: the marks, the faces and the other rows are as they were.
--- Assumes nothing.
+-- An accepted scene stays accepted when the row of one point changes within its rules: the marks, the faces and the other rows are as they
+-- were. Assumes nothing.
 use mathlib.Core.Path.{_≡_, refl}
 use mathlib.Core.Logic.{_≢_}
 use mathlib.Core.List.{List}
@@ -74,5 +74,6 @@ vertex-accepted s (suc p) v fits q a b ok =
     let far : rowAt (rowPut s (suc p) v) 0 ≡ rowAt s 0 = row-frame (rowPut s (suc p) v) s 0 (other-same s (suc p) v 0 (omega arith)) in
     moved s (suc p) v b q ok fits (rw far (by-tables limits s .0 (accepted limits s .0 q) .1 .somewhere))
 
-pub far-accepted : (s : List ℕ) (v : Row) → RowFits v → judged s ≡ Accepted → RowOk 0 limits v → ¬ Zeros v → judged (rowPut s 0 v) ≡ Accepted
+pub far-accepted : (s : List ℕ) (v : Row) → RowFits v → judged s ≡ Accepted → RowOk 0 limits v → ¬ Zeros v →
+    judged (rowPut s 0 v) ≡ Accepted
 far-accepted s v fits q ok z = moved s 0 v (omega arith) q ok fits (rw (here-row s 0 v (omega arith) q ok fits) z)

@@ -84,4 +84,9 @@ face-room s f e =
     let q = then-first _ _ e in
     let t = turn-free s f (then-rest _ _ e) in
     let room : faceStart s (f - 1) + 5 ≤ length s = omega (arith, t .whole, t .low, t .high) in
-    record { low = t .low; high = omega (arith, t .whole, t .high, accepted-short s q); room = room; accepted = turned-accepted s (f - 1) room q }
+    record {
+      low = t .low;
+      high = omega (arith, t .whole, t .high, accepted-short s q);
+      room = room;
+      accepted = turned-accepted s (f - 1) room q;
+    }

@@ -56,7 +56,10 @@ module _ (s : Session) where
   pub save-full : Full s → (room : ℕ) → length (scene s) ≤ room → saveFault (scene s) room ≡ Accepted
   unfolding saveFault isWhole rule
   save-full f room l =
-      rw (eq-eqb (length (scene s)) (lengthOf (scene s)) (accepted limits (scene s) .0 (f .accepted) .header .long), le-leb (length (scene s)) room l)
+      rw (
+        eq-eqb (length (scene s)) (lengthOf (scene s)) (accepted limits (scene s) .0 (f .accepted) .header .long),
+        le-leb (length (scene s)) room l,
+      )
 
   -- the buffer, where there is room: the scene, and behind it what stood there
   pub saved-front : Full s → (out : List ℕ) → length (scene s) ≤ length out →

@@ -1,4 +1,5 @@
--- An accepted scene stays accepted when the first and third corners of a face are swapped: it has the same corners, and the same edges. Assumes nothing.
+-- An accepted scene stays accepted when the first and third corners of a face are swapped: it has the same corners, and the same edges.
+-- Assumes nothing.
 use mathlib.Core.Path.{_≡_, refl, sym, ap, ap₂, _∙_}
 use mathlib.Core.Logic.{_⊎_, inl, inr, _↔_, _≢_}
 use mathlib.Core.List.{List}
@@ -37,7 +38,8 @@ corner-alike i (inl e) = rw e (λ h. h, λ h. h)
 corner-alike i {f = f} (inr e) = rw e (corner-turned i f, corner-turned i (turned f))
 
 both-alike : (i j : ℕ) {g f : Face} → Alike g f → Both i j f ↔ Both i j g
-both-alike i j a = (λ h. (corner-alike i a .0 (h .0), corner-alike j a .0 (h .1)), λ h. (corner-alike i a .1 (h .0), corner-alike j a .1 (h .1)))
+both-alike i j a =
+    (λ h. (corner-alike i a .0 (h .0), corner-alike j a .0 (h .1)), λ h. (corner-alike i a .1 (h .0), corner-alike j a .1 (h .1)))
 
 face-alike : (low high : ℕ) {g f : Face} → Alike g f → FaceOf low high f → FaceOf low high g
 face-alike low high (inl e) h = rw e h
@@ -55,7 +57,8 @@ sides-alike X flip (inr e) h = rw e (flip _ _ (h .1), flip _ _ (h .0), flip _ _ 
 
 -- ---- lists of faces, number by number
 
-number-alike : (P : Face → Type 0) (g f : ℕ → Face) → ((i : ℕ) → P (f i) ↔ P (g i)) → (k n : ℕ) {m : ℕ} → Number P (run f k n) m → Number P (run g k n) m
+number-alike : (P : Face → Type 0) (g f : ℕ → Face) → ((i : ℕ) → P (f i) ↔ P (g i)) → (k n : ℕ) {m : ℕ} → Number P (run f k n) m →
+    Number P (run g k n) m
 number-alike P g f h k zero Number.none = Number.none
 number-alike P g f h k (suc n) (Number.one-more p r) = Number.one-more (h k .0 p) (number-alike P g f h (suc k) n r)
 number-alike P g f h k (suc n) (Number.not-this p r) = Number.not-this (λ q. p (h k .1 q)) (number-alike P g f h (suc k) n r)
@@ -94,8 +97,8 @@ module _ (g f : ℕ → Face) (alike : (i : ℕ) → Alike (g i) (f i)) (k n : �
   used-alike i = some-alike (Corner i) g f (λ m. corner-alike i (alike m) .0) k n
 
 -- a solid with the same rows, and faces alike
-table-alike : (g f : ℕ → Face) → ((i : ℕ) → Alike (g i) (f i)) → (k n : ℕ) (t′ t : Table) → t′ .rows ≡ t .rows → t′ .faces ≡ run g k n → t .faces ≡ run f k n →
-    TableOk limits t → TableOk limits t′
+table-alike : (g f : ℕ → Face) → ((i : ℕ) → Alike (g i) (f i)) → (k n : ℕ) (t′ t : Table) → t′ .rows ≡ t .rows → t′ .faces ≡ run g k n →
+    t .faces ≡ run f k n → TableOk limits t → TableOk limits t′
 table-alike g f alike k n t′ t r d e ok =
     let old : TableOk limits (record { rows = t .rows; faces = run f k n }) = rw (← e) ok in
     let z : length (run f k n) ≡ length (run g k n) = length-run f k n ∙ sym (length-run g k n) in
@@ -171,10 +174,13 @@ module _ (s : List ℕ) (i : ℕ) where
         let ra : tablesOf s′ .a .rows ≡ tablesOf s .a .rows =
         ap (run (rowAt s′) 1) va ∙ run-same (rowAt s′) (rowAt s) 1 (vertsA s) (λ j a b. row-same j (omega arith)) in
         let rb : tablesOf s′ .b .rows ≡ tablesOf s .b .rows =
-        ap₂ (λ (m n : ℕ). run (rowAt s′) (m + 1) n) va vb ∙ run-same (rowAt s′) (rowAt s) (vertsA s + 1) (vertsB s) (λ j a b. row-same j (omega arith)) in
+        ap₂ (λ (m n : ℕ). run (rowAt s′) (m + 1) n) va vb
+        ∙ run-same (rowAt s′) (rowAt s) (vertsA s + 1) (vertsB s) (λ j a b. row-same j (omega arith)) in
         record {
-          a = table-alike (faceAt s′) (faceAt s) alike 0 (facesA s) (tablesOf s′ .a) (tablesOf s .a) ra (ap (run (faceAt s′) 0) fa) refl (t .a);
-          b = table-alike (faceAt s′) (faceAt s) alike (facesA s) (facesB s) (tablesOf s′ .b) (tablesOf s .b) rb (ap₂ (run (faceAt s′)) fa fb) refl (t .b);
+          a = table-alike (faceAt s′) (faceAt s) alike 0 (facesA s) (tablesOf s′ .a) (tablesOf s .a) ra
+              (ap (run (faceAt s′) 0) fa) refl (t .a);
+          b = table-alike (faceAt s′) (faceAt s) alike (facesA s) (facesB s) (tablesOf s′ .b) (tablesOf s .b) rb
+              (ap₂ (run (faceAt s′)) fa fb) refl (t .b);
           far = rw (row-same 0 (omega arith)) (t .far);
           somewhere = rw (row-same 0 (omega arith)) (t .somewhere);
         }

@@ -26,7 +26,8 @@ pub mod faults;
 pub mod place;
 pub mod save;
 
-// The scene's bytes with zeros behind them, how many they are, and what a fresh count of them gives; no bytes and zero counts where it is empty.
+// The scene's bytes with zeros behind them, how many they are, and what a fresh count of them gives; no bytes and zero counts where it is
+// empty.
 pub struct Session {
     bytes: [u8; Scene::LONGEST],
     len: usize,

@@ -65,7 +65,8 @@ pub fn move_far(s: &mut [u8], v: Row) -> Judged
 }
 
 pub fn reverse(s: &mut [u8], f: usize) -> Judged
-    ensures { λ r. ⌜ IsChanged (reverseFault (now (s .entry)) f) (now (s .entry)) (turnedIn (now (s .entry)) (now (s .entry)) (f - 1)) (now (s .exit)) r ⌝ }
+    ensures { λ r. ⌜ IsChanged (reverseFault (now (s .entry)) f) (now (s .entry)) (turnedIn (now (s .entry)) (now (s .entry)) (f - 1))
+        (now (s .exit)) r ⌝ }
 {
     let j = reverse_fault(s, f);
     match j {

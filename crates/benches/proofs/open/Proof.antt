@@ -34,7 +34,8 @@ returns-2 : tie.Need-returns-2
 returns-2 c =
     let second = c .before .before in
     let told = second .before .before in
-    open-done _ _ (told .before .before .open-fault .ensures) (told .enum-told .given .1) (second .before .«open» .ensures) (second .open2 .ensures)
+    open-done _ _ (told .before .before .open-fault .ensures) (told .enum-told .given .1) (second .before .«open» .ensures)
+    (second .open2 .ensures)
 
 pub open-spec : {M : Type 1} → statement M
 open-spec =

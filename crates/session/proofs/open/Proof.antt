@@ -27,7 +27,8 @@ copy-requires : tie.Need-copy-requires
 copy-requires c κs = accepted-short _ (sym (c .before .before .before .judge .ensures) ∙ c .before .enum-told .given .1)
 
 fresh-requires : tie.Need-fresh-requires
-fresh-requires c κs = accepted-short _ (sym (c .before .before .before .before .before .judge .ensures) ∙ c .before .before .before .enum-told .given .1)
+fresh-requires c κs =
+    accepted-short _ (sym (c .before .before .before .before .before .judge .ensures) ∙ c .before .before .before .enum-told .given .1)
 
 returns-2 : tie.Need-returns-2
 returns-2 c =

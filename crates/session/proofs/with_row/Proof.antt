@@ -16,7 +16,8 @@ fresh-requires : tie.Need-fresh-requires
 fresh-requires c κs = search needs
 
 returns : tie.Need-returns
-returns c = c .fresh .ensures ∙ ap (λ (l : List ℕ). fresh l (c .before .before .before .before .args .n)) (c .before .before .put-row .ensures)
+returns c =
+    c .fresh .ensures ∙ ap (λ (l : List ℕ). fresh l (c .before .before .before .before .args .n)) (c .before .before .put-row .ensures)
 
 pub with-row-spec : {M : Type 1} → statement M
 with-row-spec =

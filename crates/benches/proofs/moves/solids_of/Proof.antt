@@ -35,8 +35,11 @@ byte-requires-2 c κs = search needs
 returns : tie.Need-returns
 returns c =
     let s = c .before .before .before .before .before .args .s in
-    let h : length (s .bytes) ≡ longest limits = search needs in
-    (solids-none _ _ (c .before .before .before .save .ensures .answer) (c .enum-told .given .1) (scene-fits s (longest limits) h), omega arith, omega arith)
+    let h : length (s .bytes) ≡ longest limits = search needs in (
+      solids-none _ _ (c .before .before .before .save .ensures .answer) (c .enum-told .given .1) (scene-fits s (longest limits) h),
+      omega arith,
+      omega arith,
+    )
 
 returns-2 : tie.Need-returns-2
 returns-2 c =

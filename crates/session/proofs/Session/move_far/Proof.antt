@@ -45,7 +45,8 @@ returns-2 : tie.Need-returns-2
 unfolding farMovedOf
 returns-2 c =
     let w = c .before .before .before .before .before .before .size .ensures in
-    changed-so _ _ (rw (w .same) at (c .before .before .before .far-fault .ensures)) (c .before .enum-told .given .1) (w .long) (c .with-row .ensures)
+    changed-so _ _ (rw (w .same) at (c .before .before .before .far-fault .ensures)) (c .before .enum-told .given .1) (w .long)
+    (c .with-row .ensures)
 
 pub move-far-spec : {M : Type 1} → statement M
 move-far-spec =

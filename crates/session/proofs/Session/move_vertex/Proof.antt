@@ -45,7 +45,8 @@ returns-2 : tie.Need-returns-2
 unfolding movedOf
 returns-2 c =
     let w = c .before .before .before .before .before .before .size .ensures in
-    changed-so _ _ (rw (w .same) at (c .before .before .before .vertex-fault .ensures)) (c .before .enum-told .given .1) (w .long) (c .with-row .ensures)
+    changed-so _ _ (rw (w .same) at (c .before .before .before .vertex-fault .ensures)) (c .before .enum-told .given .1) (w .long)
+    (c .with-row .ensures)
 
 pub move-vertex-spec : {M : Type 1} → statement M
 move-vertex-spec =

@@ -50,7 +50,8 @@ returns-2 c =
     let c3 = c .before .before .before in
     let c6 = c3 .before .before .before in
     let w = c6 .size .ensures in
-    changed-so _ _ (rw (w .same) at (c3 .turn-fault .ensures)) (c .before .enum-told .given .1) (w .long) (rw (w .same) at (c .with-face .ensures))
+    changed-so _ _ (rw (w .same) at (c3 .turn-fault .ensures)) (c .before .enum-told .given .1) (w .long)
+    (rw (w .same) at (c .with-face .ensures))
 
 pub reverse-spec : {M : Type 1} → statement M
 reverse-spec =

@@ -28,7 +28,8 @@ returns-2 c =
     let c4 = c3 .before in
     let c6 = c4 .before .before in
     rule-passed _ (c4 .is-whole .ensures) (c3 .if1 .left)
-    (rule-refused _ (c .before .is-within .ensures ∙ ap (λ (n : ℕ). within 1 n (c6 .args .f)) (c .before .before .faces .ensures .0)) (c .if2 .taken))
+    (rule-refused _ (c .before .is-within .ensures ∙ ap (λ (n : ℕ). within 1 n (c6 .args .f)) (c .before .before .faces .ensures .0))
+    (c .if2 .taken))
 
 returns-3 : tie.Need-returns-3
 unfolding turnFault

@@ -46,8 +46,8 @@ returns-3 c =
     let c6 = c5 .before in
     let c8 = c6 .before .before in
     rule-passed _ (c6 .is-whole .ensures) (c5 .if1 .left)
-    (rule-passed _ (c3 .is-within .ensures ∙ ap (λ (n : ℕ). within 1 n (c8 .args .p)) (c4 .vertices .ensures .0)) (c .before .before .if2 .left)
-    (c .row-fault .ensures ∙ ap (rowFault 1 _) (c .before .sizes-of .ensures)))
+    (rule-passed _ (c3 .is-within .ensures ∙ ap (λ (n : ℕ). within 1 n (c8 .args .p)) (c4 .vertices .ensures .0))
+    (c .before .before .if2 .left) (c .row-fault .ensures ∙ ap (rowFault 1 _) (c .before .sizes-of .ensures)))
 
 pub vertex-fault-spec : {M : Type 1} → statement M
 vertex-fault-spec =

@@ -17,11 +17,13 @@ enum-told : tie.Need-enum-told
 enum-told c = search needs
 
 sub-face-start : tie.Need-sub-face-start
-sub-face-start c = let m = face-room _ _ (sym (c .before .before .before .reverse-fault .ensures) ∙ c .before .enum-told .given .1) in m .low
+sub-face-start c =
+    let m = face-room _ _ (sym (c .before .before .before .reverse-fault .ensures) ∙ c .before .enum-told .given .1) in m .low
 
 face-start-requires : tie.Need-face-start-requires
 face-start-requires c κs =
-    let m = face-room _ _ (sym (c .before .before .before .reverse-fault .ensures) ∙ c .before .enum-told .given .1) in omega (arith, m .high)
+    let m = face-room _ _ (sym (c .before .before .before .reverse-fault .ensures) ∙ c .before .enum-told .given .1) in
+    omega (arith, m .high)
 
 sub-turned : tie.Need-sub-turned
 sub-turned c =
