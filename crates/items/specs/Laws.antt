@@ -23,10 +23,12 @@ module _ (s : List ℕ) (i : ℕ) {w : ℕ} (inv : i + gap false (drop i s) ≡ 
   gap-stop h = omega (arith, ap (gap false) (drop-of-length-le s h), inv)
 
   module _ (h : i < length s) where
-    gap-turn : {b m : Bool} → begins false (getD s i 0) ≡ b → comments false (getD s i 0) ≡ m → i + cond b 0 (suc (gap m (drop (suc i) s))) ≡ w
+    gap-turn : {b m : Bool} → begins false (getD s i 0) ≡ b → comments false (getD s i 0) ≡ m →
+        i + cond b 0 (suc (gap m (drop (suc i) s))) ≡ w
     unfolding gap
     gap-turn p q =
-        ap₂ (λ (b m : Bool). i + cond b 0 (suc (gap m (drop (suc i) s)))) (sym p) (sym q) ∙ ap (λ (l : List ℕ). i + gap false l) (sym (drop-cons s i 0 h)) ∙ inv
+        ap₂ (λ (b m : Bool). i + cond b 0 (suc (gap m (drop (suc i) s)))) (sym p) (sym q)
+        ∙ ap (λ (l : List ℕ). i + gap false l) (sym (drop-cons s i 0 h)) ∙ inv
 
     module _ {o : Bool} (p : o ≡ separates (getD s i 0)) where
       begun : {b : Bool} → not o ≡ b → begins false (getD s i 0) ≡ b
@@ -129,7 +131,8 @@ module _ (s : List ℕ) (i e n : ℕ) {w : ℕ} (inv : atMost largest (value n (
   unfolding value
   value-stop k h = sym (at-most-low largest n k) ∙ ap (λ (l : List ℕ). atMost largest (value n l)) (sym (slice-none i e s h)) ∙ inv
 
-  pub value-next : {d m : ℕ} → i < e → e ≤ length s → d ≡ getD s i 0 - 48 → m ≡ atMost largest (10 * n + d) → atMost largest (value m (slice (i + 1) e s)) ≡ w
+  pub value-next : {d m : ℕ} → i < e → e ≤ length s → d ≡ getD s i 0 - 48 → m ≡ atMost largest (10 * n + d) →
+      atMost largest (value m (slice (i + 1) e s)) ≡ w
   unfolding value
   value-next h k q p =
       ap (λ (j : ℕ). atMost largest (value j (slice (i + 1) e s))) (p ∙ ap (λ (d : ℕ). atMost largest (10 * n + d)) q)

@@ -30,7 +30,9 @@ module _ (s : List ℕ) (i : ℕ) {w : ℕ} (inv : i + line (drop i s) ≡ w) wh
   module _ (h : i < length s) where
     line-turn : {b : Bool} → eqb (getD s i 0) newline ≡ b → i + cond b 0 (suc (line (drop (suc i) s))) ≡ w
     unfolding line
-    line-turn e = ap (λ (b : Bool). i + cond b 0 (suc (line (drop (suc i) s)))) (sym e) ∙ ap (λ (l : List ℕ). i + line l) (sym (drop-cons s i 0 h)) ∙ inv
+    line-turn e =
+        ap (λ (b : Bool). i + cond b 0 (suc (line (drop (suc i) s)))) (sym e)
+        ∙ ap (λ (l : List ℕ). i + line l) (sym (drop-cons s i 0 h)) ∙ inv
 
     pub line-found : getD s i 0 ≡ newline → i ≡ w
     line-found e = omega (arith, line-turn (eq-eqb (getD s i 0) newline e))

@@ -61,7 +61,8 @@ pub coordinate-held : (z : ℤ) → leb (natAbs (nearest 32767 z)) (limits .most
 coordinate-held z =
     ap (λ (n : ℕ). leb n (limits .mostCoordinate)) (nearest-size 32767 z) ∙ held-low (limits .mostCoordinate) 32767 (natAbs z) (omega arith)
 
-pub weight-held : (least : ℕ) (z : ℤ) → within least (limits .mostWeight) (natAbs (nearest 127 z)) ≡ within least (limits .mostWeight) (natAbs z)
+pub weight-held : (least : ℕ) (z : ℤ) →
+    within least (limits .mostWeight) (natAbs (nearest 127 z)) ≡ within least (limits .mostWeight) (natAbs z)
 weight-held least z =
     ap (within least (limits .mostWeight)) (nearest-size 127 z) ∙ held-within least (limits .mostWeight) 127 (natAbs z) (omega arith)
 
@@ -70,8 +71,8 @@ corner-held v n h = held-within 1 v 255 n (omega arith)
 
 -- ---- what is within the limits is written as it is
 
-pub row-same : (r : Row) → natAbs (r .x) ≤ limits .mostCoordinate → natAbs (r .y) ≤ limits .mostCoordinate → natAbs (r .z) ≤ limits .mostCoordinate →
-    natAbs (r .w) ≤ limits .mostWeight → fittedRow r ≡ r
+pub row-same : (r : Row) → natAbs (r .x) ≤ limits .mostCoordinate → natAbs (r .y) ≤ limits .mostCoordinate →
+    natAbs (r .z) ≤ limits .mostCoordinate → natAbs (r .w) ≤ limits .mostWeight → fittedRow r ≡ r
 row-same r hx hy hz hw =
     let x = nearest-same 32767 (r .x) (omega arith) in
     let y = nearest-same 32767 (r .y) (omega arith) in

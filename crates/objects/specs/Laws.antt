@@ -37,7 +37,8 @@ refuses s out e p = record { answer = p; left = ap (λ (r : Made). leftBy r s ou
 -- ---- a text
 
 module _ (base : ℕ) (rest : Made) {o x : Reading} (p : o ≡ x) (s out : List ℕ) where
-  pub text-goes-on : {k : ℕ} {r : Made} {out′ : List ℕ} → o ≡ reading.At k → Makes rest s out out′ r → Makes (afterText base x rest) s out out′ r
+  pub text-goes-on : {k : ℕ} {r : Made} {out′ : List ℕ} → o ≡ reading.At k → Makes rest s out out′ r →
+      Makes (afterText base x rest) s out out′ r
   text-goes-on q g = makes-as (ap (λ (r : Reading). afterText base r rest) (sym q ∙ p)) g
 
   pub text-outside : {k m : ℕ} → o ≡ reading.Outside k → m ≡ base + k → Makes (afterText base x rest) s out out (Refused (Outside m))
@@ -57,7 +58,8 @@ module _ (s : List ℕ) {o : Reading} (p : o ≡ formOf s) where
 -- ---- the judge, and the room
 
 module _ (t : List ℕ) (room : ℕ) {o : Judged} (p : o ≡ judged t) (s out : List ℕ) where
-  pub judge-accepts : {r : Made} {out′ : List ℕ} → o ≡ judge.Accepted → Makes (placed t room) s out out′ r → Makes (judgedOf t room) s out out′ r
+  pub judge-accepts : {r : Made} {out′ : List ℕ} → o ≡ judge.Accepted → Makes (placed t room) s out out′ r →
+      Makes (judgedOf t room) s out out′ r
   unfolding judgedOf
   judge-accepts q g = makes-as (ap (λ (j : Judged). afterJudge j (placed t room)) (sym q ∙ p)) g
 
@@ -72,11 +74,13 @@ module _ (s out : List ℕ) where
       refuses s out refl
       (sym (ap (λ (b : Bool). cond b (Scene (length s)) (Refused (OfScene (Buffer (length s))))) (lt-leb (length s) (length out) h)))
 
-  pub room-serves : {out′ : List ℕ} → length s ≤ length out → out′ ≡ s ++ drop (length s) out → Makes (placed s (length out)) s out out′ (Scene (length s))
+  pub room-serves : {out′ : List ℕ} → length s ≤ length out → out′ ≡ s ++ drop (length s) out →
+      Makes (placed s (length out)) s out out′ (Scene (length s))
   unfolding placed
   room-serves h e =
       record {
-        answer = sym (ap (λ (b : Bool). cond b (Scene (length s)) (Refused (OfScene (Buffer (length s))))) (le-leb (length s) (length out) h));
+        answer =
+            sym (ap (λ (b : Bool). cond b (Scene (length s)) (Refused (OfScene (Buffer (length s))))) (le-leb (length s) (length out) h));
         left = e;
       }
 
@@ -89,7 +93,8 @@ module _ (a b : List ℕ) (far : Point) (room : ℕ) (s out : List ℕ) (h : Hea
   pub first-unfit : not o ≡ true → Makes (countedOf a b far room) s out out (Refused (OfScene Counts))
   unfolding countedOf
   first-unfit q =
-      refuses s out refl (ap (λ (t : Bool). cond (t && countsFit b) (judgedOf (sceneOf a b far) room) (Refused (OfScene Counts))) (sym (not-true o q) ∙ p))
+      refuses s out refl
+      (ap (λ (t : Bool). cond (t && countsFit b) (judgedOf (sceneOf a b far) room) (Refused (OfScene Counts))) (sym (not-true o q) ∙ p))
 
   module _ (q : not o ≡ false) (g : Head) (f : Headed b g) {t : Bool} (told-b : t ≡ headFits g) where
     e : t ≡ countsFit b
@@ -99,15 +104,16 @@ module _ (a b : List ℕ) (far : Point) (room : ℕ) (s out : List ℕ) (h : Hea
     unfolding countedOf
     second-unfit r =
         refuses s out refl
-        (ap₂ (λ (x y : Bool). cond (x && y) (judgedOf (sceneOf a b far) room) (Refused (OfScene Counts))) (sym (not-false o q) ∙ p) (sym (not-true t r) ∙ e))
+        (ap₂ (λ (x y : Bool). cond (x && y) (judgedOf (sceneOf a b far) room) (Refused (OfScene Counts))) (sym (not-false o q) ∙ p)
+        (sym (not-true t r) ∙ e))
 
     pub both-fit : {l : List ℕ} {r : Made} {out′ : List ℕ} → not t ≡ false → l ≡ sceneOf a b far → Makes (judgedOf l room) l out out′ r →
         Makes (countedOf a b far room) (sceneOf a b far) out out′ r
     unfolding countedOf
     both-fit {l} {r} {out′} n m x =
         makes-as
-        (ap₂ (λ (x y : Bool). cond (x && y) (judgedOf (sceneOf a b far) room) (Refused (OfScene Counts))) (sym (not-false o q) ∙ p) (sym (not-false t n) ∙ e))
-        (rw m at x)
+        (ap₂ (λ (x y : Bool). cond (x && y) (judgedOf (sceneOf a b far) room) (Refused (OfScene Counts))) (sym (not-false o q) ∙ p)
+        (sym (not-false t n) ∙ e)) (rw m at x)
 
 -- ---- the scene's own bytes, and an offset in the first text
 
@@ -129,7 +135,8 @@ module _ (room : ℕ) {n : ℕ} where
   judge-room judge.Accepted rest h e = h e
   judge-room (judge.Refused r) rest h e = let z : _≡_ {A = ℕ} 0 1 = cc in absurd (omega arith)
 
-  test-room : (b : Bool) (x : Made) (f : scene.Refusal) → (b ≡ true → x ≡ Scene n → n ≤ room) → cond b x (Refused (OfScene f)) ≡ Scene n → n ≤ room
+  test-room : (b : Bool) (x : Made) (f : scene.Refusal) → (b ≡ true → x ≡ Scene n → n ≤ room) →
+      cond b x (Refused (OfScene f)) ≡ Scene n → n ≤ room
   test-room true x f h e = h refl e
   test-room false x f h e = let z : _≡_ {A = ℕ} 0 1 = cc in absurd (omega arith)
 

@@ -46,7 +46,8 @@ afterJudge (judge.Refused r) rest = Refused (OfScene r)
 
 -- the counts that a text tells are within the limits
 unfoldable pub countsFit : List ℕ → Bool
-countsFit s = within (limits .leastVertices) (limits .mostVertices) (verticesOf s) && within (limits .leastFaces) (limits .mostFaces) (facesOf s)
+countsFit s =
+    within (limits .leastVertices) (limits .mostVertices) (verticesOf s) && within (limits .leastFaces) (limits .mostFaces) (facesOf s)
 
 -- the scene s in `room` bytes
 unfoldable pub placed : List ℕ → ℕ → Made

@@ -72,7 +72,8 @@ fn placed(s: &[u8], out: &mut [u8]) -> Made
 }
 
 fn judged(s: &[u8], out: &mut [u8]) -> Made
-    ensures { λ r. ⌜ Makes (judgedOf (now (s .entry)) (length (now (out .entry)))) (now (s .entry)) (now (out .entry)) (now (out .exit)) r ⌝ }
+    ensures { λ r. ⌜ Makes (judgedOf (now (s .entry)) (length (now (out .entry)))) (now (s .entry)) (now (out .entry))
+        (now (out .exit)) r ⌝ }
 {
     match judge::judge(s) {
         Judged::Accepted => placed(s, out),

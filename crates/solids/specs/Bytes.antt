@@ -67,7 +67,8 @@ module _ (s : List ℕ) (k : ℕ) where
   faces-none = grown-none faceBytes 5 (λ f. refl) (faceIn s) k
 
   pub faces-more : (i : ℕ) {m at : ℕ} {f : Face} {t u v : List ℕ} → Grown k (facesBytes s i) t u → m ≡ k + 5 * i →
-      at ≡ after s (4 + verticesOf s * numbersOf s + i * 4) → f ≡ fittedFace (cornersFrom s at) → Grown m (faceBytes f) u v → Grown k (facesBytes s (i + 1)) t v
+      at ≡ after s (4 + verticesOf s * numbersOf s + i * 4) → f ≡ fittedFace (cornersFrom s at) → Grown m (faceBytes f) u v →
+      Grown k (facesBytes s (i + 1)) t v
   faces-more i g e q f h = grown-more faceBytes 5 (λ f. refl) (faceIn s) k i g e (ap faceBytes (face-is s i q f)) h
 
 -- ---- counts that are small are told as they are
@@ -145,7 +146,9 @@ module _ (a b : List ℕ) (far : Point) where
       let nfa = sym (length-run (faceIn a) 0 fa) in
       let nb = sym (length-run (rowIn b) 0 vb) in
       let nfb = sym (length-run (faceIn b) 0 fb) in
-      let rest = pointBytes markFP (fittedRow (pointOf far)) ++ (rowBytes a va ++ (rowBytes b vb ++ (facesBytes a fa ++ (facesBytes b fb ++ two markEN)))) in
+      let rest =
+      pointBytes markFP (fittedRow (pointOf far))
+      ++ (rowBytes a va ++ (rowBytes b vb ++ (facesBytes a fa ++ (facesBytes b fb ++ two markEN)))) in
       let runs : Tables =
       record {
         a = record { rows = run (rowIn a) 0 va; faces = run (faceIn a) 0 fa };
@@ -170,7 +173,17 @@ module _ (a b : List ℕ) (far : Point) where
         let e3 = length-append (facesBytes a (facesOf a)) (facesBytes b (facesOf b) ++ two markEN) in
         let e4 = length-append (facesBytes b (facesOf b)) (two markEN) in
         ap length (sym parts-are)
-        ∙ omega (arith, e1, e2, e3, e4, rows-long a (verticesOf a), rows-long b (verticesOf b), faces-long a (facesOf a), faces-long b (facesOf b))
+        ∙ omega (
+          arith,
+          e1,
+          e2,
+          e3,
+          e4,
+          rows-long a (verticesOf a),
+          rows-long b (verticesOf b),
+          faces-long a (facesOf a),
+          faces-long b (facesOf b),
+        )
 
 -- ---- the points' records, and the faces' with the end
 
@@ -208,7 +221,8 @@ module _ (a b : List ℕ) (far : Point) (h g : Head) (p : Small a h) (q : Small 
   regrouped =
       append-assoc (headBytes (verticesOf a) (facesOf a) (verticesOf b) (facesOf b))
       (pointBytes markFP (fittedRow (pointOf far)) ++ (rowBytes a (verticesOf a) ++ rowBytes b (verticesOf b))) (allFaces a b)
-      ∙ ap (λ (l : List ℕ). headBytes (verticesOf a) (facesOf a) (verticesOf b) (facesOf b) ++ (pointBytes markFP (fittedRow (pointOf far)) ++ l))
+      ∙ ap (λ (l : List ℕ). headBytes (verticesOf a) (facesOf a) (verticesOf b) (facesOf b)
+      ++ (pointBytes markFP (fittedRow (pointOf far)) ++ l))
       (append-assoc (rowBytes a (verticesOf a)) (rowBytes b (verticesOf b)) (allFaces a b))
       ∙ parts-are a b far
 
@@ -232,7 +246,8 @@ scene-stands {s} {t} {l} g e = ap (λ (n : ℕ). take n t) (e ∙ sym plus) ∙ 
 
 module _ (a b : List ℕ) (far : Point) (h g : Head) (p : Small a h) (q : Small b g) where
   pub scene-made : {s0 s1 s2 : List ℕ} {m e : ℕ} → Grown 0 (pointsBytes a b far) s0 s1 → m ≡ 15 + 9 * h .vertices + 9 * g .vertices →
-      Grown m (allFaces a b) s1 s2 → e ≡ 15 + 9 * h .vertices + 9 * g .vertices + 5 * h .faces + 5 * g .faces + 2 → take e s2 ≡ sceneOf a b far
+      Grown m (allFaces a b) s1 s2 → e ≡ 15 + 9 * h .vertices + 9 * g .vertices + 5 * h .faces + 5 * g .faces + 2 →
+      take e s2 ≡ sceneOf a b far
   scene-made x e y d = scene-stands (scene-grown a b far h g p q x e y) (scene-length a b far h g p q d)
 
 -- the header's four counts
@@ -240,6 +255,3 @@ pub grown-head : {va fa vb fb : ℕ} {s t u v w x : List ℕ} → Grown 0 (two m
     Grown 4 (vb ∷ []) v w → Grown 5 (fb ∷ []) w x → Grown 0 (headBytes va fa vb fb) s x
 grown-head g0 g1 g2 g3 g4 =
     grown-join g0 (omega arith) (grown-join g1 (omega arith) (grown-join g2 (omega arith) (grown-join g3 (omega arith) g4)))
-
-pub grown-byte : {k m n : ℕ} {s t : List ℕ} → m ≡ n → Grown k (m ∷ []) s t → Grown k (n ∷ []) s t
-grown-byte e g = grown-as (ap (λ (n : ℕ). n ∷ []) e) g

@@ -58,7 +58,8 @@ wholes signed (suc n) s at = cond (wholeFrom signed s at) (wholes signed n s (en
 -- a face: 3, and three numbers
 unfoldable pub faceFrom : List ℕ → ℕ → Reading
 faceFrom s at =
-    cond (wholeFrom false s at) (cond (eqb (sizeFrom false s at) 3) (wholes false 3 s (endOf s at)) (Sides (startOf s at))) (Outside (startOf s at))
+    cond (wholeFrom false s at) (cond (eqb (sizeFrom false s at) 3) (wholes false 3 s (endOf s at)) (Sides (startOf s at)))
+    (Outside (startOf s at))
 
 unfoldable pub facesFrom : ℕ → List ℕ → ℕ → Reading
 facesFrom zero s at = At at

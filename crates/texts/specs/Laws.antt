@@ -77,13 +77,15 @@ module _ (s : List ℕ) (at : ℕ) {b e : ℕ} {o : Bool} (pb : b ≡ startOf s 
 
   pub face-outside : not o ≡ true → Outside b ≡ faceFrom s at
   face-outside q =
-      ap (λ (t : Bool). cond t (cond (eqb (sizeOf false s b e) 3) (wholes false 3 s e) (Sides b)) (Outside b)) (sym (not-true o q)) ∙ face-all
+      ap (λ (t : Bool). cond t (cond (eqb (sizeOf false s b e) 3) (wholes false 3 s e) (Sides b)) (Outside b))
+      (sym (not-true o q)) ∙ face-all
 
   module _ (q : not o ≡ false) {n : ℕ} (r : n ≡ atMost largest (sizeOf false s b e)) where
     face-by : {t : Bool} → eqb (sizeOf false s b e) 3 ≡ t → cond t (wholes false 3 s e) (Sides b) ≡ faceFrom s at
     face-by f =
         ap (λ (t : Bool). cond t (wholes false 3 s e) (Sides b)) (sym f)
-        ∙ ap (λ (t : Bool). cond t (cond (eqb (sizeOf false s b e) 3) (wholes false 3 s e) (Sides b)) (Outside b)) (sym (not-false o q)) ∙ face-all
+        ∙ ap (λ (t : Bool). cond t (cond (eqb (sizeOf false s b e) 3) (wholes false 3 s e) (Sides b)) (Outside b))
+        (sym (not-false o q)) ∙ face-all
 
     three : n ≡ 3 → sizeOf false s b e ≡ 3
     three f = by (decLt (sizeOf false s b e) largest)

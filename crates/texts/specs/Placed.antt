@@ -7,7 +7,8 @@ use lib.ListN.{length}
 use lib.Dec.{eqb}
 use Rattle.items.specs.Items.{startOf, endOf, after}
 use Rattle.items.specs.Numbers.{wholeFrom, sizeFrom}
-use Rattle.texts.specs.Form.{goOn, wholes, faceFrom, facesFrom, endFrom, numbersOf, verticesOf, facesOf, facesThen, verticesThen, formOf}
+use Rattle.texts.specs.Form.{goOn, wholes, faceFrom, facesFrom, endFrom, numbersOf, verticesOf}
+use Rattle.texts.specs.Form.{facesOf, facesThen, verticesThen, formOf}
 use Rattle.texts.specs.Places.{start-in, end-in, after-in}
 use Rattle.texts.specs.declared.Reading.{Reading}
 use Rattle.texts.specs.declared.Reading.the-variants.{At, Outside, Sides}

@@ -136,7 +136,8 @@ module _ (s : List ℕ) where
   faces-many (suc n) (suc m) at h a b = by (faceFrom s at) refl (λ j. faces-many n m j)
     where
       by : (r : Reading) → faceFrom s at ≡ r →
-          ((j : ℕ) → j ≤ length s → length s < n + j → length s < m + j → facesFrom n s j ≡ facesFrom m s j) → goOn r (facesFrom n s) ≡ goOn r (facesFrom m s)
+          ((j : ℕ) → j ≤ length s → length s < n + j → length s < m + j → facesFrom n s j ≡ facesFrom m s j) →
+          goOn r (facesFrom n s) ≡ goOn r (facesFrom m s)
       by (At j) p rest =
           let f = face-reach at h p in
           rest j (f .within) (omega (arith, f .from)) (omega (arith, f .from))

@@ -9,7 +9,8 @@ use Rattle.items.proofs.numbers.value.Statement.{statement}
 use Rattle.items.proofs.numbers.value.Tie as tie
 
 abbrev Inv-loop : tie.InvT-loop
-Inv-loop text start end n₀ i₀ n i = (atMost largest (value n (slice i end text)) ≡ atMost largest (value 0 (slice start end text))) × (n ≤ largest)
+Inv-loop text start end n₀ i₀ n i =
+    (atMost largest (value n (slice i end text)) ≡ atMost largest (value 0 (slice start end text))) × (n ≤ largest)
 
 abbrev μ-loop : tie.MeasureT-loop
 μ-loop text start end n₀ i₀ n i = end - i

@@ -14,7 +14,8 @@ told-requires c κs = search needs
 returns : tie.Need-returns
 returns c =
     let n = c .before .next .ensures in
-    weight-told _ _ _ (c .before .before .if1 .taken) (number-told _ _ (n .0) (n .1) 127 (omega arith) (c .told .ensures .0) (c .told .ensures .1))
+    weight-told _ _ _ (c .before .before .if1 .taken)
+    (number-told _ _ (n .0) (n .1) 127 (omega arith) (c .told .ensures .0) (c .told .ensures .1))
 
 returns-2 : tie.Need-returns-2
 returns-2 c = weight-one _ _ _ (c .if1 .left)

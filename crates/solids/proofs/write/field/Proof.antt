@@ -14,7 +14,8 @@ at-most-requires : tie.Need-at-most-requires
 at-most-requires c κs = search needs
 
 unsigned-requires : tie.Need-unsigned-requires
-unsigned-requires c κs = (let h = told-le (c .before .args .half - 1) (c .before .args .n .size) (c .at-most .ensures) in omega arith, omega arith)
+unsigned-requires c κs =
+    (let h = told-le (c .before .args .half - 1) (c .before .args .n .size) (c .at-most .ensures) in omega arith, omega arith)
 
 returns : tie.Need-returns
 returns c =
