@@ -1,6 +1,6 @@
--- The calls from C answer what the definitions say. For each call: what its contract states, of the very relation between arguments, answer and
--- lent places that it is proved to meet, is this; a contract that says less does not give it. The arguments are in the call's own order.
--- Assumes nothing.
+-- The calls from C answer what the definitions say. For each call: what its contract states, of the very relation between arguments, answer
+-- and lent places that it is proved to meet, is this; a contract that says less does not give it. The arguments are in the call's own
+-- order. Assumes nothing.
 use mathlib.Core.Path.{_≡_}
 use Prim.Native.Nat.{_-_}
 use denote.Ref.{now}
@@ -76,11 +76,13 @@ pub take-is : (κs a r e : _) → take.Post κs a r e →
     IsTake (vertex (a .0) (a .1 .0) (a .1 .1 .0) (a .1 .1 .1 .0)) (now (a .1 .1 .1 .1 .0)) (now (e .1 .1 .1 .1 .0)) r
 take-is κs a r e x = x
 
-pub take-place-is : (κs a r e : _) → take-place.Post κs a r e → r ≡ takenPlace (takenOf (vertex (a .0) (a .1 .0) (a .1 .1 .0) (a .1 .1 .1 .0)))
+pub take-place-is : (κs a r e : _) → take-place.Post κs a r e →
+    r ≡ takenPlace (takenOf (vertex (a .0) (a .1 .0) (a .1 .1 .0) (a .1 .1 .1 .0)))
 take-place-is κs a r e x = x
 
 pub light-is : (κs a r e : _) → light.Post κs a r e → IsShown (now (a .0)) (now (a .1 .0)) (now (e .1 .0)) r
 light-is κs a r e x = x
 
-pub survey-is : (κs a r e : _) → survey.Post κs a r e → IsFacts (now (a .0)) (now (a .1 .0)) (now (e .1 .0)) (now (a .1 .1 .0)) (now (e .1 .1 .0)) r
+pub survey-is : (κs a r e : _) → survey.Post κs a r e →
+    IsFacts (now (a .0)) (now (a .1 .0)) (now (e .1 .0)) (now (a .1 .1 .0)) (now (e .1 .1 .0)) r
 survey-is κs a r e x = x

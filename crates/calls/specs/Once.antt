@@ -1,6 +1,6 @@
 -- No second answer from C. For each call, and of the very relation between arguments, answer and lent places that it is proved to meet: two
--- answers to the same arguments are the same, and so is what they leave in a lent place. κs are the call's lifetimes, e and f what it leaves.
--- Assumes nothing.
+-- answers to the same arguments are the same, and so is what they leave in a lent place. κs are the call's lifetimes, e and f what it
+-- leaves. Assumes nothing.
 use mathlib.Core.Path.{_≡_, sym, _∙_}
 use denote.Ref.{now}
 use Rattle.bodhranhaze.proofs.bodhranhaze_refusal.Reads as refusal

@@ -90,7 +90,8 @@ pub mark-by : (f : Facts) {k : ℕ} → k ≡ lineOf (f .verdict) → record { l
 mark-by f e = λ i. record { line = e i; pairs = f .counts .pairs }
 
 module _ (s : List ℕ) {d d′ : List ℕ} {o : Surveyed} (x : IsSurvey s d d′ o) where
-  pub mark-refused : {r : Refusal} {n k : ℕ} → o ≡ surveyed.Refused r → n ≡ numberOf r → k ≡ refusedLine n → record { line = k; pairs = 0 } ≡ markOf s
+  pub mark-refused : {r : Refusal} {n k : ℕ} → o ≡ surveyed.Refused r → n ≡ numberOf r → k ≡ refusedLine n →
+      record { line = k; pairs = 0 } ≡ markOf s
   unfolding markOf verdictOf countedOf answered
   mark-refused {r} {k = k} q e h = go (judged s) (sym q ∙ x .answer)
     where
@@ -224,7 +225,9 @@ module _ (block : List ℕ) (at : ℕ) (l : List ℕ) (p : ℕ) (so : Sofar bloc
 
         pub sum-here : p + m .pairs + pairsOf (marksOf (drop e block)) ≡ pairsOf (marksOf block)
         unfolding pairsOf
-        sum-here = let h : pairsOf (marksOf (drop at block)) ≡ m .pairs + pairsOf (marksOf (drop e block)) = ap pairsOf marked in omega (arith, so .all)
+        sum-here =
+            let h : pairsOf (marksOf (drop at block)) ≡ m .pairs + pairsOf (marksOf (drop e block)) = ap pairsOf marked in
+            omega (arith, so .all)
 
         pub sum-fits : length block ≤ mostBytes → p + m .pairs ≤ mostBytes * mostPairs
         unfolding marksOf
@@ -238,9 +241,11 @@ module _ (block : List ℕ) (at : ℕ) (l : List ℕ) (p : ℕ) (so : Sofar bloc
               size = up-size (up l 0) (m .line) ∙ up-size l 0 ∙ so .size;
               within = end-within block at more-left e ends .1;
               each = λ k b.
-                  let h : inLine k (marksOf (drop at block)) ≡ more (counts k m) (inLine k (marksOf (drop e block))) = ap (inLine k) marked in
+                  let h : inLine k (marksOf (drop at block)) ≡ more (counts k m) (inLine k (marksOf (drop e block))) =
+                  ap (inLine k) marked in
                   ap (λ (n : ℕ). n + inLine k (marksOf (drop e block))) (both-at l (m .line) k (so .size) (line-here .0) (line-here .1))
-                  ∙ more-moves (counts k m) (getD l k 0) (inLine k (marksOf (drop e block))) (ap (λ (n : ℕ). getD l k 0 + n) (sym h) ∙ so .each k b);
+                  ∙ more-moves (counts k m) (getD l k 0) (inLine k (marksOf (drop e block)))
+                  (ap (λ (n : ℕ). getD l k 0 + n) (sym h) ∙ so .each k b);
               all = sum-here;
             }
 

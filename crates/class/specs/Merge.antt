@@ -1,5 +1,5 @@
--- Reports added: for blocks that end with a whole scene, the tally of two of them end to end is the sum of their tallies, so that the order and
--- the split do not matter; and the mean's three numbers give back the sum of pairs. Assumes nothing.
+-- Reports added: for blocks that end with a whole scene, the tally of two of them end to end is the sum of their tallies, so that the order
+-- and the split do not matter; and the mean's three numbers give back the sum of pairs. Assumes nothing.
 use mathlib.Core.Path.{_≡_, refl}
 use Prim.Native.Nat.{ℕ, zero, suc, _+_, _/_, _%_, _<_}
 use lib.Dec.{lit<}

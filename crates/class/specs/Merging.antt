@@ -1,5 +1,6 @@
--- Reports added: for blocks that end with a whole scene, the tally of two of them end to end is the sum of their tallies, so that neither the order
--- nor the split matters; and the mean's three numbers give back the sum of pairs. The proofs stand in `MergingProof`. Assumes nothing.
+-- Reports added: for blocks that end with a whole scene, the tally of two of them end to end is the sum of their tallies, so that neither
+-- the order nor the split matters; and the mean's three numbers give back the sum of pairs. The proofs stand in `MergingProof`.
+-- Assumes nothing.
 use mathlib.Core.Path.{_≡_}
 use mathlib.Core.List.{List, _++_}
 use Prim.Native.Nat.{ℕ, _+_, _*_, _<_}

@@ -65,7 +65,8 @@ made-sum f g p q =
 sum : (x y : List ℕ) → Ended x → tally (x ++ y) ≡ plus (tally x) (tally y)
 unfolding tallyOf marksOf
 sum x y e =
-    let m : marksOf (x ++ y) ≡ marksOf x ++ marksOf y = ap (map markOf) (parts .joined x y e) ∙ map-append markOf (scenesOf x) (scenesOf y) in
+    let m : marksOf (x ++ y) ≡ marksOf x ++ marksOf y = ap (map markOf) (parts .joined x y e)
+    ∙ map-append markOf (scenesOf x) (scenesOf y) in
     ap tallyOf m
     ∙ made-same (λ k. inLine k (marksOf x ++ marksOf y)) (λ k. inLine k (marksOf x) + inLine k (marksOf y))
     (λ k h. in-line-sum k (marksOf x) (marksOf y)) (pairs-sum (marksOf x) (marksOf y))

@@ -1,5 +1,5 @@
--- What the tally rests on of the kernel's answers, and is not in its contracts: a scene has no more pierced pairs than its limits allow, and a refused
--- scene has none. Assumes nothing.
+-- What the tally rests on of the kernel's answers, and is not in its contracts: a scene has no more pierced pairs than its limits allow,
+-- and a refused scene has none. Assumes nothing.
 use mathlib.Core.Path.{_≡_, refl}
 use mathlib.Core.Logic.{_⊎_, inl, inr}
 use mathlib.Core.Bool.{Bool, true, false, cond, _&&_}
@@ -8,6 +8,7 @@ use Prim.Native.Nat.{ℕ, _+_, _*_, _≤_}
 use native.Mathlib.Omega.{arith}
 use lib.Dec.{ltb, leb}
 use lib.ListN.{length, length-append}
+use Rattle.laws.specs.Runs.{bounded, only-most}
 use Rattle.scene.specs.Limits.{limits}
 use Rattle.scene.specs.Records.{vertsA, verts}
 use Rattle.judge.specs.Judge.{judged}
@@ -18,7 +19,6 @@ use Rattle.edges.specs.Edges.{joined}
 use Rattle.scene.specs.declared.Solid.{Solid}
 use Rattle.pierce.specs.Formula.{pierced}
 use Rattle.listing.specs.Hits.{Seen, faceHits, edgeHits, pairHits, pairsAt, vertexHits, solidHits, lowestInside}
-use Rattle.listing.specs.Laws.{bounded, only-most}
 use Rattle.scene.specs.View.{viewOf, solidA, solidB, solid}
 use Rattle.listing.specs.First.{firstOf}
 use Rattle.listing.specs.declared.find.Found.{Found}
@@ -43,12 +43,20 @@ module _ (s : Seen) (k : Solid) (hv : k .verts ≤ limits .mostVertices) (hf : k
   vertex-most : (u : ℕ) → length (vertexHits s k u) ≤ limits .mostVertices * limits .mostFaces
   unfolding vertexHits
   vertex-most u =
-      omega (arith, bounded (pairsAt s k u) (limits .mostFaces) (k .verts) (λ m. pair-most u (k .low + 1 + m) (joined (s .face) k u (k .low + 1 + m))))
+      omega (
+        arith,
+        bounded (pairsAt s k u) (limits .mostFaces) (k .verts)
+            (λ m. pair-most u (k .low + 1 + m) (joined (s .face) k u (k .low + 1 + m))),
+      )
 
   solid-most : length (solidHits s k) ≤ limits .mostVertices * (limits .mostVertices * limits .mostFaces)
   unfolding solidHits
   solid-most =
-      omega (arith, bounded (λ i. vertexHits s k (k .low + 1 + i)) (limits .mostVertices * limits .mostFaces) (k .verts) (λ i. vertex-most (k .low + 1 + i)))
+      omega (
+        arith,
+        bounded (λ i. vertexHits s k (k .low + 1 + i)) (limits .mostVertices * limits .mostFaces) (k .verts)
+            (λ i. vertex-most (k .low + 1 + i)),
+      )
 
 listing-most : (s : List ℕ) → judged s ≡ Accepted → length (listingIn (viewOf s)) ≤ mostPairs
 unfolding listingIn solid

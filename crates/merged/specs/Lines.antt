@@ -33,7 +33,8 @@ five T w c n1 n2 n3 n4 n5 = one (one (one (one (one T w c n1) w (c + 1) n2) w (c
 -- and with those of a mean
 abbrev pub mean : List ℕ → ℕ → Mean → List ℕ
 mean T w m =
-    countedOf (countedOf (countedOf T 87 32 (held (m .whole)) w) 80 32 (held (m .remainder)) (held (m .whole))) 81 10 (held (m .divisor)) (held (m .whole))
+    countedOf (countedOf (countedOf T 87 32 (held (m .whole)) w) 80 32 (held (m .remainder)) (held (m .whole))) 81 10 (held (m .divisor))
+    (held (m .whole))
 
 module _ (w : ℕ) (T : List ℕ) (l : Bool) (n : ℕ) where
   -- a number, and what stands behind it
@@ -109,7 +110,8 @@ module _ (w : ℕ) (T : List ℕ) (l : Bool) (n : ℕ) where
   refused-14 = record { on = number-then 176 refl [] }
 
 module _ (w : ℕ) (T : List ℕ) (l : Bool) (t : Tally) where
-  verdicts-lead : Leads (known 0 0 w T l) (verdicts t) (known 48 0 w (five T w 65 (t .scenes) (t .cross) (t .«a_in_b») (t .«b_in_a») (t .apart)) l)
+  verdicts-lead : Leads (known 0 0 w T l) (verdicts t)
+      (known 48 0 w (five T w 65 (t .scenes) (t .cross) (t .«a_in_b») (t .«b_in_a») (t .apart)) l)
   verdicts-lead =
       then (scenes w T l (t .scenes))
       (then (cross w _ l (t .cross))
@@ -153,7 +155,8 @@ module _ (w : ℕ) (T : List ℕ) (l : Bool) where
       }
 
   pub refused-lead : Leads (known 0 0 w T l) (refused Longer) (known 0 0 w T true)
-  unfolding reports readOf nextOf startOf begins onward metAt firstAt moreAt numberOf isDigit isLetter ends wholeOf countedOf decimal decimalIn
+  unfolding reports readOf nextOf startOf begins onward metAt firstAt moreAt numberOf isDigit isLetter ends wholeOf countedOf decimal
+      decimalIn
   refused-lead = record { on = λ rest. refl }
 
 -- ---- a whole report
@@ -168,6 +171,7 @@ after T w t =
     w 75 (t .«refused_6») (t .«refused_7») (t .«refused_8») (t .«refused_9») (t .«refused_14»))
     w (meanOf t)
 
-pub tallied-lead : (w : ℕ) (T : List ℕ) (l : Bool) (t : Tally) → Leads (known 0 0 w T l) (tallied t) (known 0 0 (held (meanOf t .whole)) (after T w t) l)
+pub tallied-lead : (w : ℕ) (T : List ℕ) (l : Bool) (t : Tally) →
+    Leads (known 0 0 w T l) (tallied t) (known 0 0 (held (meanOf t .whole)) (after T w t) l)
 unfolding tallied
 tallied-lead w T l t = then (verdicts-lead w T l t) (then (low-lead w _ l t) (then (high-lead w _ l t) (mean-lead w _ l (meanOf t))))

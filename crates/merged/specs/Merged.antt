@@ -1,5 +1,5 @@
--- The report of all blocks whose reports were read: the sum of their tallies; refused where one of them was; too large where a sum reaches the
--- largest number of 64 bits. Assumes nothing.
+-- The report of all blocks whose reports were read: the sum of their tallies; refused where one of them was; too large where a sum reaches
+-- the largest number of 64 bits. Assumes nothing.
 use mathlib.Core.Bool.{Bool, true, false, cond}
 use mathlib.Core.List.{List, [], _∷_}
 use Prim.Native.Nat.{ℕ}

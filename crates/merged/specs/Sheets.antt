@@ -1,5 +1,5 @@
--- Reports end to end, read back: what is merged is the sum of their tallies, whatever their order and in whatever pieces the text comes; of blocks that
--- end with a whole scene it is the tally of the blocks end to end. The proofs stand in `SheetsProof`. Assumes nothing.
+-- Reports end to end, read back: what is merged is the sum of their tallies, whatever their order and in whatever pieces the text comes; of
+-- blocks that end with a whole scene it is the tally of the blocks end to end. The proofs stand in `SheetsProof`. Assumes nothing.
 use mathlib.Core.Path.{_≡_}
 use mathlib.Core.Bool.{cond}
 use mathlib.Core.List.{List, [], _∷_, _++_}
@@ -85,7 +85,8 @@ reportsOf (x ∷ l) = reportOf x ∷ reportsOf l
 
 pub record Sheets : Type 0 where
   pub read-back : (l : List Report) → Each Whole l → sumOf (readOf reports nothing (sheets l)) ≡ told (allFrom (Tallied none) l)
-  pub blocks : (l : List (List ℕ)) → Each Kept l → sumOf (readOf reports nothing (sheets (reportsOf l))) ≡ told (Tallied (tally (endToEnd l)))
+  pub blocks : (l : List (List ℕ)) → Each Kept l →
+      sumOf (readOf reports nothing (sheets (reportsOf l))) ≡ told (Tallied (tally (endToEnd l)))
   pub order : (r s : Report) → both r s ≡ both s r
   pub split : (r s q : Report) → both (both r s) q ≡ both r (both s q)
   pub pieces : (r : Reading) (s t : List ℕ) → readOf reports r (s ++ t) ≡ readOf reports (readOf reports r s) t

@@ -70,7 +70,9 @@ held-reaches n = by (decLt n largest)
   where
     by : Dec (n < largest) → leb largest (held n) ≡ leb largest n
     by (yes h) = ap (leb largest) (at-most-low largest n (omega arith))
-    by (no h) = ap (leb largest) (at-most-high largest n (omega arith)) ∙ le-leb largest largest (omega arith) ∙ sym (le-leb largest n (omega arith))
+    by (no h) =
+        ap (leb largest) (at-most-high largest n (omega arith)) ∙ le-leb largest largest (omega arith)
+        ∙ sym (le-leb largest n (omega arith))
 
 reaches-held : (l : List ℕ) → reaches (map held l) ≡ reaches l
 unfolding reaches
@@ -113,7 +115,8 @@ tallied-all : (l : List Report) (w : ℕ) (t : Tally) → Each Whole l →
 unfolding sheetOf readOf
 tallied-all [] w t h = sum-told w t
 tallied-all (Longer ∷ l) w t h =
-    ap sumOf (refused-lead w (map held (numbersOf t)) false .on (sheets l)) ∙ longer-all l w (map held (numbersOf t)) ∙ sym (ap told (longer-stays l))
+    ap sumOf (refused-lead w (map held (numbersOf t)) false .on (sheets l)) ∙ longer-all l w (map held (numbersOf t))
+    ∙ sym (ap told (longer-stays l))
 tallied-all (Tallied u ∷ l) w t h =
     ap sumOf (tallied-lead w (map held (numbersOf t)) false u .on (sheets l)
     ∙ ap (λ (T : List ℕ). readOf reports (known 0 0 (held (meanOf u .whole)) T false) (sheets l)) (after-is t u w (h .0)))
@@ -142,7 +145,8 @@ counted-each : (l : List (List ℕ)) → Each Kept l → Each Whole (reportsOf l
 counted-each [] h = tt
 counted-each (x ∷ l) h = (subst Whole (report-is x (h .0)) (merging .counted x), counted-each l (h .1))
 
-joined : (x : List ℕ) → Ended x → (l : List (List ℕ)) → Each Kept l → allFrom (Tallied (tally x)) (reportsOf l) ≡ Tallied (tally (x ++ endToEnd l))
+joined : (x : List ℕ) → Ended x → (l : List (List ℕ)) → Each Kept l →
+    allFrom (Tallied (tally x)) (reportsOf l) ≡ Tallied (tally (x ++ endToEnd l))
 joined x e [] h = ap (λ (s : List ℕ). Tallied (tally s)) (sym (append-nil x))
 joined x e (y ∷ l) h =
     ap (λ (r : Report). allFrom (both (Tallied (tally x)) r) (reportsOf l)) (sym (report-is y (h .0)))

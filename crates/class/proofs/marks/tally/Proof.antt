@@ -25,19 +25,22 @@ part-at-requires c κs = search needs
 sub-mark-of : tie.Need-sub-mark-of Inv-loop μ-loop
 sub-mark-of c =
     let l = c .before .before .loop in
-    let w = end-within (now (c .before .before .before .before .args .block)) (l .at) (omega arith) (c .part-at .result) (c .part-at .ensures) in
+    let w = end-within (now (c .before .before .before .before .args .block)) (l .at) (omega arith) (c .part-at .result)
+    (c .part-at .ensures) in
     omega arith
 
 part-mark-of-start : tie.Need-part-mark-of-start Inv-loop μ-loop
 part-mark-of-start c =
     let l = c .before .before .loop in
-    let w = end-within (now (c .before .before .before .before .args .block)) (l .at) (omega arith) (c .part-at .result) (c .part-at .ensures) in
+    let w = end-within (now (c .before .before .before .before .args .block)) (l .at) (omega arith) (c .part-at .result)
+    (c .part-at .ensures) in
     search needs
 
 part-mark-of-end : tie.Need-part-mark-of-end Inv-loop μ-loop
 part-mark-of-end c =
     let l = c .before .before .loop in
-    let w = end-within (now (c .before .before .before .before .args .block)) (l .at) (omega arith) (c .part-at .result) (c .part-at .ensures) in
+    let w = end-within (now (c .before .before .before .before .args .block)) (l .at) (omega arith) (c .part-at .result)
+    (c .part-at .ensures) in
     search needs
 
 mark-of-requires : tie.Need-mark-of-requires Inv-loop μ-loop
