@@ -9,11 +9,11 @@ use lib.Count.{trailingZeros}
 use lib.ListN.{length, getD, set, length-set, length-append}
 use lib.Seq.{getD-set-same, getD-set-other}
 use Rattle.laws.specs.Walk.{places-none, walk-turn}
+use Rattle.laws.specs.Runs.{upTo, upTo-more, upTo-same}
 use Rattle.scene.specs.declared.Solid.{Solid}
 use Rattle.face_masks.specs.Faces.{valueOf}
 use Rattle.face_masks.specs.declared.Mask.{Mask}
-use Rattle.listing.specs.Hits.{Seen, upTo, edgeMask}
-use Rattle.listing.specs.Laws.{upTo-more, upTo-same}
+use Rattle.listing.specs.Hits.{Seen, edgeMask}
 use Rattle.table.specs.Table.{Entry, entryIn, entriesIn, each}
 use Rattle.table.specs.Edges.{entry, bitEdges, Filled}
 

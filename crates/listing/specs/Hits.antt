@@ -6,8 +6,7 @@ use mathlib.Core.List.{List, [], _∷_}
 use lib.Dec.{ltb}
 use lib.IntN.{ℤ}
 use Rattle.laws.specs.Range.{countOf, lowestOf}
-unfoldable pub use Rattle.laws.specs.Runs.{upTo}
-pub use Rattle.laws.specs.Runs.{only}
+use Rattle.laws.specs.Runs.{upTo, only}
 use Rattle.scene.specs.Limits.{limits, mostPoints}
 use Rattle.scene.specs.Arrays.{rowIn, faceIn, AllWithin, FacesWithin}
 use Rattle.scene.specs.Faces.{Vertex}

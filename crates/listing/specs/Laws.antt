@@ -1,9 +1,9 @@
--- What a mask says of an edge's hits; and the laws of runs, which stand in `laws`. Assumes nothing.
+-- What a mask says of an edge's hits. Assumes nothing.
 use mathlib.Core.Path.{_≡_, ap, _∙_}
 use mathlib.Core.Bool.{Bool}
 use Prim.Native.Nat.{ℕ, _+_}
 use Rattle.laws.specs.Mask.{mask-test, testBit}
-pub use Rattle.laws.specs.Runs.{upTo-more, upTo-same, upTo-first, bounded, only-most, count-more, count-all, each-upTo, each-only}
+use Rattle.laws.specs.Runs.{upTo-same}
 use Rattle.scene.specs.declared.Solid.{Solid}
 use Rattle.pierce.specs.Formula.{pierced}
 use Rattle.listing.specs.Pour.{maskHit, maskHits}

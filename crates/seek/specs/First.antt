@@ -8,7 +8,8 @@ use lib.Bits.{bitAnd}
 use lib.Count.{trailingZeros}
 use Rattle.links.specs.Bits.{word-first}
 use Rattle.scene.specs.declared.Solid.{Solid}
-use Rattle.listing.specs.Hits.{Seen, Hit, Own, Sound, upTo, solidHits}
+use Rattle.laws.specs.Runs.{upTo}
+use Rattle.listing.specs.Hits.{Seen, Hit, Own, Sound, solidHits}
 use Rattle.listing.specs.First.{firstOf, first-left, first-right, first-found, first-end}
 use Rattle.listing.specs.declared.find.Found.{Found}
 use Rattle.listing.specs.declared.find.Found.the-variants.{Nothing, Pair}

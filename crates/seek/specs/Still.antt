@@ -12,12 +12,13 @@ use lib.ListN.{replicate}
 use Rattle.laws.specs.Bools.{_⊕_, law, all, _≐_}
 use Rattle.laws.specs.Lists.{replicate-at}
 use Rattle.laws.specs.Mask.{mask-none, testBit}
+use Rattle.laws.specs.Runs.{upTo, only}
 use Rattle.links.specs.Bits.{test-zero}
 use Rattle.edges.specs.Edges.{joined}
 use Rattle.scene.specs.declared.Solid.{Solid}
 use Rattle.face_masks.specs.Faces.{isOdd}
 use Rattle.pierce.specs.Formula.{pierced}
-use Rattle.listing.specs.Hits.{Seen, Hit, Own, upTo, only, faceHits, edgeHits, pairHits, vertexHits, solidHits, edgeMask, isInside}
+use Rattle.listing.specs.Hits.{Seen, Hit, Own, faceHits, edgeHits, pairHits, vertexHits, solidHits, edgeMask, isInside}
 use Rattle.spread.specs.Ready.{Ready, across}
 use Rattle.spread.specs.Odds.{AreOdds}
 use Rattle.spread.specs.OddsProof.{joined-back}

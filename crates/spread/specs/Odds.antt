@@ -11,13 +11,13 @@ use lib.Dec.{eqb}
 use lib.ListN.{length, getD}
 use Rattle.laws.specs.Bools.{_⊕_}
 use Rattle.laws.specs.Mask.{maskOf, mask-same, mask-none, or-masks, place-mask, testBit}
+use Rattle.laws.specs.Runs.{upTo, upTo-more}
 use Rattle.links.specs.Links.{words, ored, ored-at, ored-size, Cleared}
 use Rattle.scene.specs.Faces.{Vertex}
 use Rattle.edges.specs.Edges.{joined}
 use Rattle.scene.specs.declared.Solid.{Solid}
 use Rattle.face_masks.specs.Faces.{isOdd}
-use Rattle.listing.specs.Hits.{Seen, Own, upTo, isInside}
-use Rattle.listing.specs.Laws.{upTo-more}
+use Rattle.listing.specs.Hits.{Seen, Own, isInside}
 use Rattle.table.specs.Table.{Entry, entryIn, entriesIn}
 
 -- p passes for one of the list

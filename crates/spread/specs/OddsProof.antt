@@ -10,11 +10,12 @@ use lib.Dec.{eqb, ltb}
 use Rattle.laws.specs.Bools.{_⊕_, law, all, _≐_}
 use Rattle.laws.specs.Mask.{mask-test, testBit}
 use Rattle.laws.specs.Range.{anyOf}
+use Rattle.laws.specs.Runs.{upTo, only}
 use Rattle.scene.specs.Faces.{isCorner, hasBoth}
 use Rattle.edges.specs.Edges.{joined}
 use Rattle.scene.specs.declared.Solid.{Solid}
 use Rattle.face_masks.specs.Faces.{isOdd}
-use Rattle.listing.specs.Hits.{Seen, Own, upTo, only, edgeMask, isInside}
+use Rattle.listing.specs.Hits.{Seen, Own, edgeMask, isInside}
 use Rattle.table.specs.Table.{Entry}
 use Rattle.table.specs.Edges.{entry, vertexEdges, solidEdges}
 use Rattle.spread.specs.Ready.{Ready, across}

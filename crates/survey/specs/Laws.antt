@@ -8,11 +8,11 @@ use native.Mathlib.Omega.{arith}
 use lib.Dec.{ltb}
 use lib.ListN.{length, length-append}
 use Rattle.laws.specs.Lists.{Each, each-left, each-right}
+use Rattle.laws.specs.Runs.{upTo, bounded, each-upTo, each-only}
 use Rattle.edges.specs.Edges.{joined}
 use Rattle.scene.specs.declared.Solid.{Solid}
-use Rattle.listing.specs.Hits.{Seen, Sound, upTo, solidHits}
+use Rattle.listing.specs.Hits.{Seen, Sound, solidHits}
 use Rattle.face_masks.specs.Faces.{width}
-use Rattle.listing.specs.Laws.{bounded, each-upTo, each-only}
 use Rattle.table.specs.Table.{Entry, entryIn, entriesIn, entryHits, tableHits}
 use Rattle.table.specs.Entries.{entry-most}
 use Rattle.table.specs.Edges.{entry, vertexEdges, solidEdges, Filled}

@@ -7,11 +7,12 @@ use lib.Dec.{ltb}
 use lib.ListN.{length, getD}
 use Rattle.laws.specs.Lists.{run}
 use Rattle.laws.specs.Walk.{places}
+use Rattle.laws.specs.Runs.{upTo, only}
 use Rattle.scene.specs.Limits.{limits}
 use Rattle.edges.specs.Edges.{joined, neighbours}
 use Rattle.scene.specs.declared.Solid.{Solid}
 use Rattle.pierce.specs.Closed.{Closed}
-use Rattle.listing.specs.Hits.{Seen, Sound, Own, upTo, only, edgeMask}
+use Rattle.listing.specs.Hits.{Seen, Sound, Own, edgeMask}
 use Rattle.table.specs.Table.{Entry, entriesIn, each}
 
 module _ (s : Seen) (k : Solid) where

@@ -9,17 +9,17 @@ use lib.Count.{ones, trailingZeros}
 use lib.ListN.{length}
 use lib.Pow.{pow-add}
 use Rattle.laws.specs.Mask.{digit, testBit, test-low, test-high}
+use Rattle.laws.specs.Runs.{upTo-same, bounded, only-most, upTo-join}
 use Rattle.links.specs.Bits.{word-bits, word-first, test-zero}
 use Rattle.face_masks.specs.Faces.{width, valueOf}
 use Rattle.face_masks.specs.declared.Mask.{Mask}
 use Rattle.listing.specs.Hits.{Hit}
-use Rattle.listing.specs.Laws.{upTo-same, bounded, only-most}
 use Rattle.listing.specs.Pour.{maskHit, maskHits}
 use Rattle.listing.specs.First.{firstOf, first-none, first-found}
 use Rattle.listing.specs.declared.find.Found.the-variants.{Nothing, Pair}
 use Rattle.table.specs.Table.{Entry, entryHits}
 use Rattle.table.specs.Sums.{sumOf, ones-sum}
-use Rattle.table.specs.Runs.{upTo-join, upTo-none, upTo-length, only-length}
+use Rattle.table.specs.Runs.{upTo-none, upTo-length, only-length}
 
 -- two words have room for twice as many digits
 pub words-fit : (n a b : ℕ) → a < 2 ^ n → b < 2 ^ n → a + 2 ^ n * b < 2 ^ (n + n)

@@ -11,6 +11,7 @@ use lib.Pow.{high}
 use Rattle.laws.specs.Mask.{maskOf, mask-lt, mask-join, mask-none, mask-same, testBit}
 use Rattle.laws.specs.Range.{fold, over, anyOf}
 use Rattle.laws.specs.Walk.{mask-places}
+use Rattle.laws.specs.Runs.{upTo, only, upTo-same, upTo-join}
 use Rattle.links.specs.Bits.{test-beyond}
 use Rattle.links.specs.Links.{outside}
 use Rattle.scene.specs.Faces.{Vertex, isCorner, hasBoth}
@@ -19,11 +20,11 @@ use Rattle.edges.specs.Edges as words
 use Rattle.edges.specs.Edges.{joined, neighbours, Corners}
 use Rattle.scene.specs.declared.Solid.{Solid}
 use Rattle.face_masks.specs.Faces.{width}
-use Rattle.listing.specs.Hits.{Seen, Hit, Sound, upTo, only, edgeMask, edgeHits, pairHits, vertexHits, solidHits}
-use Rattle.listing.specs.Laws.{upTo-same, edge-hits}
+use Rattle.listing.specs.Hits.{Seen, Hit, Sound, edgeMask, edgeHits, pairHits, vertexHits, solidHits}
+use Rattle.listing.specs.Laws.{edge-hits}
 use Rattle.listing.specs.Pour.{maskHit}
 use Rattle.table.specs.Table.{Entry, entryIn, entriesIn, entryHits, each, tableHits}
-use Rattle.table.specs.Runs.{upTo-join, upTo-none, each-upTo, each-one, each-only, each-passing}
+use Rattle.table.specs.Runs.{upTo-none, each-upTo, each-one, each-only, each-passing}
 use Rattle.table.specs.Edges.{entry, vertexEdges, solidEdges, bitEdges, Higher}
 
 -- ---- who is joined

@@ -6,11 +6,12 @@ use Prim.Native.Nat.{ℕ, suc, _+_, _-_, _≤_, _<_}
 use native.Mathlib.Omega.{arith}
 use lib.ListN.{length, length-append}
 use Rattle.laws.specs.Mask.{digit}
+use Rattle.laws.specs.Runs.{upTo, upTo-join}
 use Rattle.scene.specs.declared.Solid.{Solid}
-use Rattle.listing.specs.Hits.{Seen, upTo}
+use Rattle.listing.specs.Hits.{Seen}
 use Rattle.table.specs.Table.{Entry, mostEdges}
 use Rattle.table.specs.Sums.{sumOf}
-use Rattle.table.specs.Runs.{upTo-join, upTo-length, only-length}
+use Rattle.table.specs.Runs.{upTo-length, only-length}
 use Rattle.table.specs.Edges.{entry, vertexEdges, solidEdges, Within}
 use Rattle.table.specs.Pairs.{pairSum}
 use Rattle.table.specs.Counted.{isEdge, edges-where}

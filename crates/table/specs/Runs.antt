@@ -8,20 +8,12 @@ use native.Mathlib.Omega.{arith}
 use lib.ListN.{length, length-append}
 use Rattle.laws.specs.Mask.{digit, testBit}
 use Rattle.laws.specs.Walk.{places, passing, placed, mask-places}
+use Rattle.laws.specs.Runs.{upTo, only, upTo-first, upTo-same}
 use Rattle.links.specs.Bits.{word-bits}
-use Rattle.listing.specs.Hits.{upTo, only}
-use Rattle.listing.specs.Laws.{upTo-first, upTo-same}
 use Rattle.table.specs.Table.{each}
 use Rattle.table.specs.Sums.{sumOf}
 
 module _ {A : Type 0} where
-  pub upTo-join : (g : ℕ → List A) (m n : ℕ) → upTo g (m + n) ≡ upTo g m ++ upTo (λ j. g (m + j)) n
-  unfolding upTo
-  upTo-join g m zero = let e : m + 0 ≡ m = omega arith in rw e (sym (append-nil (upTo g m)))
-  upTo-join g m (suc n) =
-      let e : m + suc n ≡ suc (m + n) = omega arith in
-      rw e (ap (λ (l : List A). l ++ g (m + n)) (upTo-join g m n) ∙ append-assoc (upTo g m) (upTo (λ j. g (m + j)) n) (g (m + n)))
-
   pub upTo-none : (g : ℕ → List A) (n : ℕ) → ((i : ℕ) → i < n → g i ≡ []) → upTo g n ≡ []
   unfolding upTo
   upTo-none g zero h = refl

@@ -5,7 +5,8 @@ use lib.ListN.{getD}
 use Rattle.scene.specs.Limits.{limits}
 use Rattle.face_masks.specs.Faces.{width, valueOf}
 use Rattle.face_masks.specs.declared.Mask.{Mask}
-use Rattle.listing.specs.Hits.{Hit, upTo}
+use Rattle.laws.specs.Runs.{upTo}
+use Rattle.listing.specs.Hits.{Hit}
 use Rattle.listing.specs.Pour.{maskHits}
 
 -- the edges of a solid that a table has room for: each lies in two faces at least

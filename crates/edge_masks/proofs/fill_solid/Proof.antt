@@ -3,7 +3,8 @@ use Prim.Native.Nat.{_+_, _-_, _≤_}
 use mathlib.Core.Path.{_≡_}
 use native.Mathlib.Omega.{arith}
 use denote.Ref.{now}
-use Rattle.listing.specs.Hits.{seenIn, upTo}
+use Rattle.laws.specs.Runs.{upTo}
+use Rattle.listing.specs.Hits.{seenIn}
 use Rattle.table.specs.Edges.{vertexEdges, solidEdges, Filled}
 use Rattle.table.specs.Room.{room}
 use Rattle.edge_masks.specs.Store.{filled-none, filled-more}

@@ -7,8 +7,7 @@ use denote.Ref.{now}
 use lib.Count.{ones}
 use lib.ListN.{length}
 use Rattle.face_masks.specs.Faces.{width}
-use Rattle.listing.specs.Hits.{upTo}
-use Rattle.listing.specs.Laws.{count-more, count-all}
+use Rattle.laws.specs.Runs.{upTo, count-more, count-all}
 use Rattle.table.specs.Table.{entryIn, entryHits, tableHits}
 use Rattle.table.specs.Entries.{entry-most, entry-ones}
 use borrow.Author.Needs.{needs}
