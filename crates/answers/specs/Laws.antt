@@ -38,7 +38,8 @@ words-are m ones h {l} {at} {l′} {p} x =
 
 -- of o, what `record_refusal` answered
 module _ (s : List ℕ) (k : ℕ) {o : Judged} (j : o ≡ refusal s k) {l : List ℕ} {at : ℕ} {l′ : List ℕ} {p : ℕ} where
-  pub shown-refused : {r : Refusal} → o ≡ Refused r → Put l at (line (refusedLine r)) l′ p → Put l at (line (shownLine (refusal s k) (shown s k))) l′ p
+  pub shown-refused : {r : Refusal} → o ≡ Refused r → Put l at (line (refusedLine r)) l′ p →
+      Put l at (line (shownLine (refusal s k) (shown s k))) l′ p
   shown-refused e x = by-case (λ (i : Judged). shownLine i (shown s k)) (sym j ∙ e) x
 
   pub shown-all : {t : List ℕ} → o ≡ Accepted → t ≡ shown s k → Put l at (line (recordLine t)) l′ p →
@@ -50,7 +51,8 @@ pub fill-none : (l : List ℕ) → take 0 l ≡ filled 0
 unfolding filled
 fill-none l = refl
 
-pub fill-more : (l : List ℕ) (i : ℕ) {b : ℕ} → i < length l → take i l ≡ filled i → b ≡ pattern i → take (i + 1) (set l i b) ≡ filled (i + 1)
+pub fill-more : (l : List ℕ) (i : ℕ) {b : ℕ} → i < length l → take i l ≡ filled i → b ≡ pattern i →
+    take (i + 1) (set l i b) ≡ filled (i + 1)
 unfolding filled
 fill-more l i {b} h so-far e =
     let k : 0 + i ≡ i = omega arith in
@@ -63,7 +65,8 @@ fill-all l i n e h k so-far =
     sym (take-all i l h) ∙ so-far ∙ ap filled q
 
 -- the front of the places is what the listing left, behind it they are as they were filled
-pub lent-is : (s : List ℕ) (places : ℕ) (d : List ℕ) {n : ℕ} {f front : List ℕ} {r : Listed} → f ≡ filled (length d) → n ≡ min places (length f) →
+pub lent-is : (s : List ℕ) (places : ℕ) (d : List ℕ) {n : ℕ} {f front : List ℕ} {r : Listed} → f ≡ filled (length d) →
+    n ≡ min places (length f) →
     length f ≡ length d → length front ≡ length (take n f) → IsListed s (take n f) front r → IsLent s places d (front ++ drop n f) r
 lent-is s places d {n} {f} {front} {r} e k len same x =
     let m : min places (length d) ≡ n = omega arith in
@@ -79,9 +82,11 @@ lent-is s places d {n} {f} {front} {r} e k len same x =
     }
 
 -- the line, the rows and the last line, one after the other
-pub lent-put : (a : Listed) (list : List ℕ) {l : List ℕ} {at : ℕ} {m₁ : List ℕ} {q : ℕ} {m₂ : List ℕ} {part : Part} {m₃ : List ℕ} {p : ℕ} {n k : ℕ} {b : Bool} →
+pub lent-put : (a : Listed) (list : List ℕ) {l : List ℕ} {at : ℕ} {m₁ : List ℕ} {q : ℕ} {m₂ : List ℕ} {part : Part} {m₃ : List ℕ} {p : ℕ}
+    {n k : ℕ} {b : Bool} →
     n ≡ rowsOf a → k ≡ min n (length list / 3) → b ≡ areTouched list (3 * k) → Put l at (line (listedLine a)) m₁ q →
-    IsRows (rowsIn list n) m₁ q m₂ part → Put m₂ (part .end) (line (keptLine (not b))) m₃ p → Put l at (lentText (length l - at) a list) m₃ p
+    IsRows (rowsIn list n) m₁ q m₂ part → Put m₂ (part .end) (line (keptLine (not b))) m₃ p →
+    Put l at (lentText (length l - at) a list) m₃ p
 unfolding lentText behind
 lent-put a list {l} {at} {m₁} {q} {m₂} {part} {m₃} {p} {n} {b} e h t x y z =
     let room : length m₁ - q ≡ length l - at - length (line (listedLine a)) = omega (arith, x .kept, x .place) in

@@ -1,4 +1,5 @@
--- A listing into lent places: they are filled before it, and afterwards its rows are shown, and whether it left the others alone. Assumes nothing.
+-- A listing into lent places: they are filled before it, and afterwards its rows are shown, and whether it left the others alone.
+-- Assumes nothing.
 use Prim.Native.Nat.{ℕ, _-_, _*_, _/_, _%_, min}
 use mathlib.Core.Path.{_≡_}
 use mathlib.Core.Bool.{Bool, not}

@@ -1,4 +1,5 @@
--- The lines of answers that are not of one enum: a mask by its number, a record with its refusal, the counts above a listing. Assumes nothing.
+-- The lines of answers that are not of one enum: a mask by its number, a record with its refusal, the counts above a listing.
+-- Assumes nothing.
 use Prim.Native.Nat.{ℕ, _/_, _%_, _^_}
 use mathlib.Core.List.{List, [], _∷_}
 use Rattle.judge.specs.declared.Judged.{Judged}

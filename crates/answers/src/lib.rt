@@ -1,5 +1,5 @@
-// What each question about a scene is answered with, as a line in a lent buffer at a place; the answer is the place behind. Every byte is told by
-// the scene and the question.
+// What each question about a scene is answered with, as a line in a lent buffer at a place; the answer is the place behind. Every byte is
+// told by the scene and the question.
 ghost use Rattle.render.specs.Text.{ascii, line};
 ghost use Rattle.render.specs.Put.{Put};
 ghost use Rattle.judge.specs.Judge.{judged};
@@ -48,7 +48,8 @@ pub fn pierces(
     out: &mut [u8],
     at: usize,
 ) -> usize
-    ensures { λ p. ⌜ Put (now (out .entry)) at (line (answerLine (ascii "pierces") (piercesOf (now (s .entry)) u v f))) (now (out .exit)) p ⌝ }
+    ensures { λ p. ⌜ Put (now (out .entry)) at (line (answerLine (ascii "pierces") (piercesOf (now (s .entry)) u v f)))
+        (now (out .exit)) p ⌝ }
 {
     let x = points::pierces(engine, s, u, v, f);
     said::pierces(out, at, x)
@@ -79,7 +80,8 @@ pub fn mask(
 }
 
 pub fn enclosed(engine: Engine, s: &[u8], i: usize, out: &mut [u8], at: usize) -> usize
-    ensures { λ p. ⌜ Put (now (out .entry)) at (line (answerLine (ascii "enclosed") (enclosedOf (now (s .entry)) i))) (now (out .exit)) p ⌝ }
+    ensures { λ p. ⌜ Put (now (out .entry)) at (line (answerLine (ascii "enclosed") (enclosedOf (now (s .entry)) i)))
+        (now (out .exit)) p ⌝ }
 {
     let x = masks::enclosed(engine, s, i);
     said::enclosed(out, at, x)
@@ -101,7 +103,8 @@ pub fn count(engine: Engine, s: &[u8], out: &mut [u8], at: usize) -> usize
 
 // A record's bytes.
 pub fn shown(s: &[u8], k: usize, out: &mut [u8], at: usize) -> usize
-    ensures { λ p. ⌜ Put (now (out .entry)) at (line (shownLine (refusal (now (s .entry)) k) (shown (now (s .entry)) k))) (now (out .exit)) p ⌝ }
+    ensures { λ p. ⌜ Put (now (out .entry)) at (line (shownLine (refusal (now (s .entry)) k) (shown (now (s .entry)) k)))
+        (now (out .exit)) p ⌝ }
 {
     let j = record::record_refusal(s, k);
     match j {

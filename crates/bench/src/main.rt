@@ -1,4 +1,5 @@
-// Opens a bench from two scene files and makes the moves of the command line: each answer is a line, and the last line has both groups' counts.
+// Opens a bench from two scene files and makes the moves of the command line: each answer is a line, and the last line has both groups'
+// counts.
 ghost use Prim.Native.Nat.{_+_, _<_};
 use benches::Answer;
 use benches::Answered;

@@ -1,5 +1,5 @@
--- The header of the scene at a block's front: that of its first six bytes, which the judge refuses with 3 exactly where the header is sound.
--- Assumes nothing.
+-- The header of the scene at a block's front: that of its first six bytes, which the judge refuses with 3 exactly where the header is
+-- sound. Assumes nothing.
 use mathlib.Core.Path.{_≡_, refl, sym, ap, ap₂, _∙_}
 use mathlib.Core.Bool.{Bool, true, false, cond, not, _&&_}
 use mathlib.Core.List.{List}

@@ -1,5 +1,5 @@
--- What the scenes of a block are, in the words of the request; what a reader hands out; and the scenes of two blocks end to end. The proofs stand
--- in `PartsProof`. Assumes nothing.
+-- What the scenes of a block are, in the words of the request; what a reader hands out; and the scenes of two blocks end to end. The proofs
+-- stand in `PartsProof`. Assumes nothing.
 use mathlib.Core.Path.{_≡_}
 use mathlib.Core.Bool.{true, false}
 use mathlib.Core.List.{List, [], _∷_, _++_}
@@ -36,7 +36,8 @@ pub record Scenes (s : List ℕ) : Type 0 where
 -- a reader, asked again and again while a byte is left, hands out ss
 pub data Runs : Reader → List (List ℕ) → Type 0 where
   over : {r : Reader} → length (now (r .block)) ≤ r .at → Runs r []
-  then : {r r′ : Reader} {s : RefT (List ℕ)} {ss : List (List ℕ)} → r .at < length (now (r .block)) → Handed r s r′ → Runs r′ ss → Runs r (now s ∷ ss)
+  then : {r r′ : Reader} {s : RefT (List ℕ)} {ss : List (List ℕ)} → r .at < length (now (r .block)) → Handed r s r′ → Runs r′ ss →
+      Runs r (now s ∷ ss)
 
 -- each scene of the block is whole, so that another block may follow
 abbrev pub Ended : List ℕ → Type 0
@@ -45,6 +46,7 @@ Ended block = Each (λ s. whole s ≡ true) (scenesOf block)
 pub record Parts : Type 1 where
   pub scenes : (s : List ℕ) → Scenes s
   -- a new reader hands out the scenes of its block, and nothing else
-  pub read : (block : RefT (List ℕ)) (r : Reader) (ss : List (List ℕ)) → (r .block ≡ block) × (r .at ≡ 0) → Runs r ss → ss ≡ scenesOf (now block)
+  pub read : (block : RefT (List ℕ)) (r : Reader) (ss : List (List ℕ)) → (r .block ≡ block) × (r .at ≡ 0) → Runs r ss →
+      ss ≡ scenesOf (now block)
   -- two blocks end to end
   pub joined : (x y : List ℕ) → Ended x → scenesOf (x ++ y) ≡ scenesOf x ++ scenesOf y

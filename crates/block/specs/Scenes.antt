@@ -1,4 +1,5 @@
--- The scenes of a block one by one: at the end there is none, and else there is the one at the front and then those behind it. Assumes nothing.
+-- The scenes of a block one by one: at the end there is none, and else there is the one at the front and then those behind it.
+-- Assumes nothing.
 use mathlib.Core.Path.{_≡_, refl, sym, ap, _∙_}
 use mathlib.Core.Bool.{Bool, true, false, cond, _&&_}
 use mathlib.Core.List.{List, [], _∷_}

@@ -32,7 +32,8 @@ pairsOf s = answered (λ _. 0) (judged s) (length (listingIn (viewOf s)))
 unfoldable pub insideOf : List ℕ → ℕ → ℕ
 insideOf s k = answered (λ _. 0) (judged s) (answered (λ _. 0) (insideFault k) (insideIn (viewOf s) k))
 
--- the number of pairs; d, what the lent list held, is kept where the scene is refused or there is no room, and else d′ has the listing in front
+-- the number of pairs; d, what the lent list held, is kept where the scene is refused or there is no room, and else d′ has the listing in
+-- front
 pub record IsListing (s d d′ : List ℕ) (r : ℕ) : Type 0 where
   pub answer : r ≡ pairsOf s
   pub held : d′ ≡ answered (λ _. d) (judged s) (heldIn (viewOf s) d)
@@ -66,20 +67,24 @@ pub pairs-are : (s : List ℕ) {o x : Listed} {n : ℕ} →
     o ≡ answered listed.Refused (judged s) (listed.Count (length (listingIn (viewOf s)))) → o ≡ x → n ≡ counted x →
     n ≡ pairsOf s
 unfolding pairsOf
-pairs-are s e q p = by-case counted e q p ∙ number-of counted listed.Refused (λ r. refl) (judged s) (listed.Count (length (listingIn (viewOf s))))
+pairs-are s e q p =
+    by-case counted e q p ∙ number-of counted listed.Refused (λ r. refl) (judged s) (listed.Count (length (listingIn (viewOf s))))
 
 pub inside-is : (s : List ℕ) (k : ℕ) {o x : Enclosing} {n : ℕ} → o ≡ kernel.insideOf s k → o ≡ x → n ≡ enclosed x → n ≡ insideOf s k
 unfolding insideOf kernel.insideOf enclosingIn
 inside-is s k e q p =
     by-case enclosed e q p ∙ number-of enclosed enclosing.Refused (λ r. refl) (judged s) (enclosingIn (viewOf s) k)
-    ∙ ap (answered (λ _. 0) (judged s)) (number-of enclosed enclosing.Refused (λ r. refl) (insideFault k) (enclosing.Count (insideIn (viewOf s) k)))
+    ∙ ap (answered (λ _. 0) (judged s))
+    (number-of enclosed enclosing.Refused (λ r. refl) (insideFault k) (enclosing.Count (insideIn (viewOf s) k)))
 
 -- a listing that was not refused is of an accepted scene
-pub listed-are : (s d : List ℕ) {o : Listed} {n : ℕ} → o ≡ answered listed.Refused (judged s) (listedIn (viewOf s) d) → o ≡ listed.Count n → n ≡ pairsOf s
+pub listed-are : (s d : List ℕ) {o : Listed} {n : ℕ} → o ≡ answered listed.Refused (judged s) (listedIn (viewOf s) d) →
+    o ≡ listed.Count n → n ≡ pairsOf s
 unfolding answered pairsOf listedIn
 listed-are s d {n} e q = go (judged s) (listFault (viewOf s) d) (sym q ∙ e)
   where
-    go : (j k : Judged) → listed.Count n ≡ answered listed.Refused j (answered listed.Refused k (listed.Count (length (listingIn (viewOf s))))) →
+    go : (j k : Judged) →
+        listed.Count n ≡ answered listed.Refused j (answered listed.Refused k (listed.Count (length (listingIn (viewOf s))))) →
         n ≡ answered (λ _. 0) j (length (listingIn (viewOf s)))
     go Accepted Accepted p = ap counted p
     go Accepted (Refused r) p = cc

@@ -25,7 +25,8 @@ use Rattle.bodhranhaze.specs.Calls.{refusalNumber, refusalPlace}
 
 -- what is told of a refused scene: its refusal alone
 abbrev pub nothingKnown : Refusal → Facts
-nothingKnown r = record { verdict = verdict.Refused r; counts = record { pairs = 0; «a_in_b» = 0; «b_in_a» = 0 }; «a_inside» = 0; «b_inside» = 0 }
+nothingKnown r =
+    record { verdict = verdict.Refused r; counts = record { pairs = 0; «a_in_b» = 0; «b_in_a» = 0 }; «a_inside» = 0; «b_inside» = 0 }
 
 unfoldable pub factsOf : List ℕ → Facts
 factsOf s = answered nothingKnown (judged s) (factsIn (viewOf s))
@@ -37,7 +38,8 @@ surveyFault s d = andThen (judged s) (listFault (viewOf s) d)
 -- the eight numbers, and what stood behind them
 abbrev pub told : (number place : ℕ) → Facts → List ℕ → List ℕ
 told number place f d =
-    number ∷ place ∷ verdictNumber (f .verdict) ∷ f .counts .pairs ∷ f .counts .«a_in_b» ∷ f .counts .«b_in_a» ∷ f .«a_inside» ∷ f .«b_inside» ∷ drop 8 d
+    number ∷ place ∷ verdictNumber (f .verdict) ∷ f .counts .pairs ∷ f .counts .«a_in_b» ∷ f .counts .«b_in_a» ∷ f .«a_inside» ∷
+    f .«b_inside» ∷ drop 8 d
 
 -- by a refusal or none
 pub record Told (j : Judged) (f : Facts) (d d′ : List ℕ) (r : ℕ) : Type 0 where
@@ -73,9 +75,12 @@ pub eight-told : (d : List ℕ) (number place : ℕ) (f : Facts) {v : ℕ} {d′
     d′ ≡ told number place f d
 eight-told d number place f l e p =
     p ∙ put-eight d number place _ _ _ _ _ _ l
-    ∙ ap (λ (v : ℕ). number ∷ place ∷ v ∷ f .counts .pairs ∷ f .counts .«a_in_b» ∷ f .counts .«b_in_a» ∷ f .«a_inside» ∷ f .«b_inside» ∷ drop 8 d) e
+    ∙ ap
+    (λ (v : ℕ). number ∷ place ∷ v ∷ f .counts .pairs ∷ f .counts .«a_in_b» ∷ f .counts .«b_in_a» ∷ f .«a_inside» ∷
+    f .«b_inside» ∷ drop 8 d) e
 
-pub told-so : {j : Judged} {f : Facts} (d : List ℕ) {d′ : List ℕ} {n p : ℕ} → n ≡ refusalNumber j → p ≡ refusalPlace j → d′ ≡ told n p f d → Told j f d d′ n
+pub told-so : {j : Judged} {f : Facts} (d : List ℕ) {d′ : List ℕ} {n p : ℕ} → n ≡ refusalNumber j → p ≡ refusalPlace j →
+    d′ ≡ told n p f d → Told j f d d′ n
 told-so {f = f} d e q h = record { number = e; facts = h ∙ ap₂ (λ (n p : ℕ). told n p f d) e q }
 
 -- of a list with so many places
@@ -119,7 +124,8 @@ module _ (s d f : List ℕ) where
               ∙ chosen f (told (refusalNumber fault) (refusalPlace fault) (factsOf s) f) e;
         }
 
-    pub facts-refused : {r : Refusal} → o ≡ surveyed.Refused r → {g : Facts} → g ≡ nothingKnown r → Told (Refused r) g f f′ n → IsFacts s d d′ f f′ n
+    pub facts-refused : {r : Refusal} → o ≡ surveyed.Refused r → {g : Facts} → g ≡ nothingKnown r → Told (Refused r) g f f′ n →
+        IsFacts s d d′ f f′ n
     unfolding answered andThen surveyFault factsOf
     facts-refused {r} q {g} e t = let w = go (judged s) (sym q ∙ x .answer) in by-judge (w .0) (e ∙ w .1) t
       where

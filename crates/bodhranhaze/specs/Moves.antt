@@ -20,7 +20,8 @@ pub record IsAnswered (fault : Judged) (s t s′ : List ℕ) (r : ℕ) : Type 0 
   pub held : s′ ≡ keptOr fault s t
 
 -- by the case x that the change's answer o came out as
-pub answered-by : {fault o x : Judged} (s t : List ℕ) {l : List ℕ} {n : ℕ} → IsChanged fault s t l o → o ≡ x → n ≡ refusalNumber x → IsAnswered fault s t l n
+pub answered-by : {fault o x : Judged} (s t : List ℕ) {l : List ℕ} {n : ℕ} → IsChanged fault s t l o → o ≡ x → n ≡ refusalNumber x →
+    IsAnswered fault s t l n
 answered-by s t h q p = record { answer = p ∙ ap refusalNumber (sym q ∙ h .answer); held = h .held }
 
 -- the row of four numbers, each read back from its bits

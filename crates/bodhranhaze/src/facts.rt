@@ -68,8 +68,8 @@ fn room_for(n: usize, places: usize) -> Judged
     Judged::Accepted
 }
 
-// The number of the refusal: 13 before all others where there are not eight places for facts; the scene's own; or 10, with all facts told, where the
-// list has no room. What has no room keeps its contents.
+// The number of the refusal: 13 before all others where there are not eight places for facts; the scene's own; or 10, with all facts told,
+// where the list has no room. What has no room keeps its contents.
 #[no_mangle]
 pub extern "C" fn bodhranhaze_survey(s: &[u8], list: &mut [u16], facts: &mut [u64]) -> usize
     ensures { λ r. ⌜ IsFacts (now (s .entry)) (now (list .entry)) (now (list .exit)) (now (facts .entry)) (now (facts .exit)) r ⌝ }

@@ -1,5 +1,5 @@
-// The questions to a scene, for C, asked of the plain engine: numbers for the answers, and 0 where a refused scene has none. include/bodhranhaze.h
-// declares them and says what the caller must keep.
+// The questions to a scene, for C, asked of the plain engine: numbers for the answers, and 0 where a refused scene has none.
+// include/bodhranhaze.h declares them and says what the caller must keep.
 ghost use mathlib.Core.Path.{_≡_};
 ghost use Rattle.judge.specs.Judge.{judged};
 ghost use Rattle.questions.specs.Answers.{verdictNumber, verdictOf};

@@ -1,4 +1,5 @@
-// Changes to a scene in place, for C: 0 where the scene was changed; else the number of a refusal, the scene's own first, and no byte is changed.
+// Changes to a scene in place, for C: 0 where the scene was changed; else the number of a refusal, the scene's own first, and no byte is
+// changed.
 ghost use Prim.Native.Nat.{_-_};
 ghost use Rattle.scene.specs.Write.{rowPut};
 ghost use Rattle.session.specs.Session.{turnedIn};
@@ -49,7 +50,8 @@ pub extern "C" fn bodhranhaze_move_far(s: &mut [u8], x: i64, y: i64, z: i64, w: 
 // A face, its first and third corners swapped.
 #[no_mangle]
 pub extern "C" fn bodhranhaze_reverse(s: &mut [u8], f: usize) -> usize
-    ensures { λ r. ⌜ IsAnswered (reverseFault (now (s .entry)) f) (now (s .entry)) (turnedIn (now (s .entry)) (now (s .entry)) (f - 1)) (now (s .exit)) r ⌝ }
+    ensures { λ r. ⌜ IsAnswered (reverseFault (now (s .entry)) f) (now (s .entry)) (turnedIn (now (s .entry)) (now (s .entry)) (f - 1))
+        (now (s .exit)) r ⌝ }
 {
     let j = place::reverse(s, f);
     match j {

@@ -1,5 +1,5 @@
--- c0 worked out in doubles, and that for four vertices that are taken it is the c0 of their rows, exactly: each product and sum on the way is a
--- whole number below 2 ^ 53, by the limits of a scene. Assumes nothing.
+-- c0 worked out in doubles, and that for four vertices that are taken it is the c0 of their rows, exactly: each product and sum on the way
+-- is a whole number below 2 ^ 53, by the limits of a scene. Assumes nothing.
 use mathlib.Core.Path.{_≡_, sym, ap, _∙_, subst}
 use mathlib.Core.List.{List, [], _∷_}
 use Prim.Native.Nat.{ℕ}

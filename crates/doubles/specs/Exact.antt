@@ -63,7 +63,8 @@ module _ (l : List Entry) where
   small e t =
       le-of-lt (lt-of-le-of-lt (below (values l) (limits l) (λ i. (entry l i) .within) e) (ltb→lt (bound (limits l) e) (2 ^ 53) t))
 
-  parts : (n : ℕ) (e f : Expr) → T (andb (ltb n (2 ^ 53)) (andb (tame (limits l) e) (tame (limits l) f))) → T (ltb n (2 ^ 53)) × Tame e × Tame f
+  parts : (n : ℕ) (e f : Expr) → T (andb (ltb n (2 ^ 53)) (andb (tame (limits l) e) (tame (limits l) f))) →
+      T (ltb n (2 ^ 53)) × Tame e × Tame f
   parts n e f t =
       let a = ltb n (2 ^ 53) in
       let b = tame (limits l) e in
@@ -76,16 +77,20 @@ module _ (l : List Entry) where
   exact (⊝ e) t = neg-is (run (doubles l) e) (eval (values l) e) (exact e t)
   exact (e ⊕ f) t =
       let h = parts (bound (limits l) (e ⊕ f)) e f t in
-      add-is (run (doubles l) e) (run (doubles l) f) (eval (values l) e) (eval (values l) f) (exact e (h .1)) (exact f (h .2)) (small (e ⊕ f) (h .0))
+      add-is (run (doubles l) e) (run (doubles l) f) (eval (values l) e) (eval (values l) f) (exact e (h .1)) (exact f (h .2))
+      (small (e ⊕ f) (h .0))
   exact (e ⊖ f) t =
       let h = parts (bound (limits l) (e ⊖ f)) e f t in
-      sub-is (run (doubles l) e) (run (doubles l) f) (eval (values l) e) (eval (values l) f) (exact e (h .1)) (exact f (h .2)) (small (e ⊖ f) (h .0))
+      sub-is (run (doubles l) e) (run (doubles l) f) (eval (values l) e) (eval (values l) f) (exact e (h .1)) (exact f (h .2))
+      (small (e ⊖ f) (h .0))
   exact (e ⊗ f) t =
       let h = parts (bound (limits l) (e ⊗ f)) e f t in
-      mul-is (run (doubles l) e) (run (doubles l) f) (eval (values l) e) (eval (values l) f) (exact e (h .1)) (exact f (h .2)) (small (e ⊗ f) (h .0))
+      mul-is (run (doubles l) e) (run (doubles l) f) (eval (values l) e) (eval (values l) f) (exact e (h .1)) (exact f (h .2))
+      (small (e ⊗ f) (h .0))
 
   -- with zero added it is the number's own double, never minus zero
-  pub settled : (e : Expr) → T (tame (limits l) e) → add binary64 (run (doubles l) e) (fin false 0 (pos 0)) ≡ ofInt binary64 (eval (values l) e)
+  pub settled : (e : Expr) → T (tame (limits l) e) →
+      add binary64 (run (doubles l) e) (fin false 0 (pos 0)) ≡ ofInt binary64 (eval (values l) e)
   settled e t = plus-zero (run (doubles l) e) (eval (values l) e) (exact e t)
 
   pub settled-is : (e : Expr) → T (tame (limits l) e) → T (ltb (bound (limits l) e) (2 ^ 53)) →

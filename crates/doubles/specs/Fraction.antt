@@ -1,9 +1,10 @@
--- Which doubles are whole numbers, by tests that the machine makes: below 2 ^ 53 in size a double is whole exactly when the number that it is cut to is
--- the same double; from there on every finite double is whole. Assumes nothing.
+-- Which doubles are whole numbers, by tests that the machine makes: below 2 ^ 53 in size a double is whole exactly when the number that it
+-- is cut to is the same double; from there on every finite double is whole. Assumes nothing.
 use mathlib.Core.Path.{_≡_, refl, sym, _∙_, ap, ap₂, subst}
 use mathlib.Core.Bool.{Bool, true, false, not, cond, _&&_, _||_, Bool·beq}
 use Prim.Native.Nat.{ℕ, zero, suc, _+_, _-_, _*_, _/_, _%_, _^_, _≤_, _<_}
-use native.Mathlib.Nat.{add-zero, mul-one, zero-mul, mul-pos, mul-right-comm, mod-one, zero-mod, sub-self, zero-lt-suc, le-refl, le-of-lt, lt-of-lt-of-le}
+use native.Mathlib.Nat.{add-zero, mul-one, zero-mul, mul-pos, mul-right-comm, mod-one, zero-mod, sub-self}
+use native.Mathlib.Nat.{zero-lt-suc, le-refl, le-of-lt, lt-of-lt-of-le}
 use native.Mathlib.Nat.{lt-irrefl, mul-le-mul-right, min-eq-left, div-lt-iff-lt-mul, div-add-mod', mul-mod-left, eq-of-mul-eq-mul-right}
 use native.Mathlib.Omega.{arith}
 use lib.Dec.{T, ltb, leb, eqb, ltb→lt, lt→ltb, eqb→eq, lit≤}
@@ -56,10 +57,12 @@ none s R D h e =
 less-itself : (s : Bool) (A c : ℕ) → 0 < c → eq (sum binary64 s A (not s) A c) ZERO ≡ true
 unfolding sum
 less-itself false A c h =
-    ap (λ (b : Bool). eq (cond b (round binary64 true (A - A) c) (round binary64 (false && ltb A A) (A - A) c)) ZERO) (le-ltb A A (le-refl A))
+    ap (λ (b : Bool). eq (cond b (round binary64 true (A - A) c) (round binary64 (false && ltb A A) (A - A) c)) ZERO)
+    (le-ltb A A (le-refl A))
     ∙ none (false && ltb A A) (A - A) c h (sub-self A)
 less-itself true A c h =
-    ap (λ (b : Bool). eq (cond b (round binary64 false (A - A) c) (round binary64 (true && ltb A A) (A - A) c)) ZERO) (le-ltb A A (le-refl A))
+    ap (λ (b : Bool). eq (cond b (round binary64 false (A - A) c) (round binary64 (true && ltb A A) (A - A) c)) ZERO)
+    (le-ltb A A (le-refl A))
     ∙ none (true && ltb A A) (A - A) c h (sub-self A)
 
 pub finite-test : (x : Float) → eq (sub binary64 x x) ZERO ≡ isFinite x

@@ -66,7 +66,8 @@ module _ (x : Float) (most : ℕ) (h : most < 2 ^ 53) {test : Bool} (f : test �
   under : isWhole x ≡ true → lt x (neg limit) ≡ ltZ (valueOf x) (negℤ (pos most))
   under t = lt-is x (neg limit) (valueOf x) (negℤ (pos most)) (whole-is x (yes t)) (neg-is limit (pos most) limit-is)
 
-  is : {a b : Bool} → isWhole x ≡ a → leb (natAbs (valueOf x)) most ≡ b → readingOf x most ≡ cond a (cond b (Within (valueOf x)) Outside) NotWhole
+  is : {a b : Bool} → isWhole x ≡ a → leb (natAbs (valueOf x)) most ≡ b →
+      readingOf x most ≡ cond a (cond b (Within (valueOf x)) Outside) NotWhole
   is p q = λ i. cond (p i) (cond (q i) (Within (valueOf x)) Outside) NotWhole
 
   pub not-whole : test ≡ false → NotWhole ≡ readingOf x most

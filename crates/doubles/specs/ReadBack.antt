@@ -1,5 +1,5 @@
--- The nine bytes of a record read back, by the definitions of a scene: wherever a file has them at a vertex's record, it has the mark there and
--- that vertex's row is the one written. Assumes nothing.
+-- The nine bytes of a record read back, by the definitions of a scene: wherever a file has them at a vertex's record, it has the mark there
+-- and that vertex's row is the one written. Assumes nothing.
 use mathlib.Core.Path.{_≡_, ap, _∙_}
 use mathlib.Core.List.{List}
 use Prim.Native.Nat.{ℕ, _+_, _-_, _/_, _%_, _<_}
@@ -55,7 +55,8 @@ module _ (s : List ℕ) (j : ℕ) (r : Row) (h : Stands s (pointStart j) r) wher
       (next (k + 4 + 1) 5 (omega arith) (omega arith)) in
       let z = coordinate-read s (k + 6) (r .z) (omega (arith, b .z)) (next (k + 6) 6 (omega arith) (omega arith))
       (next (k + 6 + 1) 7 (omega arith) (omega arith)) in
-      let w : weightAt s (k + 8) ≡ r .w = ap (signed 128) (next (k + 8) 8 (omega arith) (omega arith)) ∙ signed-unsigned 128 (r .w) (omega (arith, b .w)) in
+      let w : weightAt s (k + 8) ≡ r .w = ap (signed 128) (next (k + 8) 8 (omega arith) (omega arith))
+      ∙ signed-unsigned 128 (r .w) (omega (arith, b .w)) in
       (λ i. record { x = x i; y = y i; z = z i; w = w i })
 
 -- the record of a vertex that is taken

@@ -37,7 +37,8 @@ module _ (v : Vertex) (d : List ℕ) {t : Taken} (e : t ≡ takenOf v) where
         record {
           answer = ap (λ (b : Bool). cond b Written (Refused (OfScene (Buffer 9)))) (sym (lt-leb 9 (length d) h))
               ∙ ap (λ (t : Taken). recordedBy t (length d)) (sym q ∙ e);
-          held = ap (λ (b : Bool). cond b (vertexBytes r ++ drop 9 d) d) (sym (lt-leb 9 (length d) h)) ∙ ap (λ (t : Taken). leftBy t d) (sym q ∙ e);
+          held = ap (λ (b : Bool). cond b (vertexBytes r ++ drop 9 d) d) (sym (lt-leb 9 (length d) h))
+              ∙ ap (λ (t : Taken). leftBy t d) (sym q ∙ e);
         }
 
     pub writes : {d′ : List ℕ} → 9 ≤ length d → d′ ≡ vertexBytes r ++ drop 9 d → IsRecord v d d′ Written
@@ -45,7 +46,8 @@ module _ (v : Vertex) (d : List ℕ) {t : Taken} (e : t ≡ takenOf v) where
         record {
           answer = ap (λ (b : Bool). cond b Written (Refused (OfScene (Buffer 9)))) (sym (le-leb 9 (length d) h))
               ∙ ap (λ (t : Taken). recordedBy t (length d)) (sym q ∙ e);
-          held = w ∙ ap (λ (b : Bool). cond b (vertexBytes r ++ drop 9 d) d) (sym (le-leb 9 (length d) h)) ∙ ap (λ (t : Taken). leftBy t d) (sym q ∙ e);
+          held = w ∙ ap (λ (b : Bool). cond b (vertexBytes r ++ drop 9 d) d) (sym (le-leb 9 (length d) h))
+              ∙ ap (λ (t : Taken). leftBy t d) (sym q ∙ e);
         }
 
 -- no second answer, and no second contents

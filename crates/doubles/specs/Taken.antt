@@ -1,5 +1,5 @@
--- What is taken of a vertex in doubles, and what is refused: each of x, y, z, weight in turn, 15 where it is no whole number, then 5 or 6 where
--- it is outside its limits; the place is 1 to 4. Minus zero is zero. Assumes nothing.
+-- What is taken of a vertex in doubles, and what is refused: each of x, y, z, weight in turn, 15 where it is no whole number, then 5 or 6
+-- where it is outside its limits; the place is 1 to 4. Minus zero is zero. Assumes nothing.
 use mathlib.Core.Bool.{cond}
 use Prim.Native.Nat.{ℕ, zero, suc}
 use lib.Dec.{leb}

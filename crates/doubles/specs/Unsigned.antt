@@ -72,7 +72,8 @@ narrow z n half h t l =
     let a = again {N = n} {z = z} (record { size = h }) (ltb→lt n (2 ^ 63) l) .size in omega (arith, ltb→lt n half t)
 
 as-it-is : (half : ℕ) (z : ℤ) {n k : ℕ} → natAbs z ≤ n → k ≡ unsigned half (reread z) → T (ltb n (2 ^ 63)) → k ≡ unsigned half z
-as-it-is half z {n} h e t = let p : reread z ≡ z = reads {N = n} {z = z} (record { size = h }) (ltb→lt n (2 ^ 63) t) in e ∙ ap (λ (k : ℤ). unsigned half k) p
+as-it-is half z {n} h e t =
+    let p : reread z ≡ z = reads {N = n} {z = z} (record { size = h }) (ltb→lt n (2 ^ 63) t) in e ∙ ap (λ (k : ℤ). unsigned half k) p
 
 -- ---- the nine stores
 

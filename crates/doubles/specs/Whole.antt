@@ -112,7 +112,8 @@ apart : (t : Bool) (p q c : ℕ) → 0 < c → natAbs (signed (not t) p +ℤ sig
 apart t p q c h l = go (ltb (p * c) (q * c)) (ltb→lt (p * c) (q * c)) (nltb→le (p * c) (q * c))
   where
     go : (b : Bool) → (T b → p * c < q * c) → (T (not b) → q * c ≤ p * c)
-        → Is (cond b (round binary64 t (q * c - p * c) c) (round binary64 (not t && ltb (q * c) (p * c)) (p * c - q * c) c)) (signed (not t) p +ℤ signed t q)
+        → Is (cond b (round binary64 t (q * c - p * c) c) (round binary64 (not t && ltb (q * c) (p * c)) (p * c - q * c) c))
+        (signed (not t) p +ℤ signed t q)
     go true y n =
         let e : signed (not t) p +ℤ signed t q ≡ signed t (q - p) = cancel t p q (le-of-lt (lt-of-mul-lt-mul-right c (y tt))) in
         subst (λ (z : ℤ). Is (round binary64 t (q * c - p * c) c) z) (sym e)
@@ -125,12 +126,15 @@ apart t p q c h l = go (ltb (p * c) (q * c)) (ltb→lt (p * c) (q * c)) (nltb→
         (rounded (not t && ltb (q * c) (p * c)) (p * c - q * c) c (p - q) h (sub-mul p q c)
         (subst (λ (i : ℕ). i ≤ 2 ^ 53) (ap natAbs e ∙ signed-abs (not t) (p - q)) l))
 
-alike : (s : Bool) (p q c : ℕ) → 0 < c → natAbs (signed s p +ℤ signed s q) ≤ 2 ^ 53 → Is (round binary64 s (p * c + q * c) c) (signed s p +ℤ signed s q)
+alike : (s : Bool) (p q c : ℕ) → 0 < c → natAbs (signed s p +ℤ signed s q) ≤ 2 ^ 53 →
+    Is (round binary64 s (p * c + q * c) c) (signed s p +ℤ signed s q)
 alike s p q c h l =
     subst (λ (z : ℤ). Is (round binary64 s (p * c + q * c) c) z) (signed-add s p q)
-    (rounded s (p * c + q * c) c (p + q) h (sym (add-mul p q c)) (subst (λ (i : ℕ). i ≤ 2 ^ 53) (ap natAbs (sym (signed-add s p q)) ∙ signed-abs s (p + q)) l))
+    (rounded s (p * c + q * c) c (p + q) h (sym (add-mul p q c))
+    (subst (λ (i : ℕ). i ≤ 2 ^ 53) (ap natAbs (sym (signed-add s p q)) ∙ signed-abs s (p + q)) l))
 
-sum-is : (s t : Bool) (p q c : ℕ) → 0 < c → natAbs (signed s p +ℤ signed t q) ≤ 2 ^ 53 → Is (sum binary64 s (p * c) t (q * c) c) (signed s p +ℤ signed t q)
+sum-is : (s t : Bool) (p q c : ℕ) → 0 < c → natAbs (signed s p +ℤ signed t q) ≤ 2 ^ 53 →
+    Is (sum binary64 s (p * c) t (q * c) c) (signed s p +ℤ signed t q)
 unfolding sum
 sum-is false false p q c h l = alike false p q c h l
 sum-is true true p q c h l = alike true p q c h l
@@ -145,7 +149,8 @@ add-is (fin s m e) (fin t n d) a b v w l =
     let c = down e * down d in
     let z : signed s p +ℤ signed t q ≡ a +ℤ b = ap₂ _+ℤ_ (v .2) (w .2) in
     let A : m * up e * down d ≡ p * c = ap (λ (k : ℕ). k * down d) (v .1) ∙ mul-assoc p (down e) (down d) in
-    let B : n * up d * down e ≡ q * c = ap (λ (k : ℕ). k * down e) (w .1) ∙ mul-right-comm q (down d) (down e) ∙ mul-assoc q (down e) (down d) in
+    let B : n * up d * down e ≡ q * c = ap (λ (k : ℕ). k * down e) (w .1) ∙ mul-right-comm q (down d) (down e)
+    ∙ mul-assoc q (down e) (down d) in
     subst (λ (k : ℕ). Is (sum binary64 s k t (n * up d * down e) c) (a +ℤ b)) (sym A)
     (subst (λ (k : ℕ). Is (sum binary64 s (p * c) t k c) (a +ℤ b)) (sym B)
     (subst (λ (k : ℤ). Is (sum binary64 s (p * c) t (q * c) c) k) z
@@ -164,7 +169,8 @@ sub-is x y a b v w l = add-is x (neg y) a (negℤ b) v (neg-is y b w) l
 pub ofInt-is : (z : ℤ) → T (ltb (natAbs z) (2 ^ 53)) → Is (ofInt binary64 z) z
 unfolding ofInt
 ofInt-is (pos n) t = of-value (round binary64 false n 1) false n (round-whole binary64 false n (le-of-lt (ltb→lt n (2 ^ 53) t)))
-ofInt-is (negsuc n) t = of-value (round binary64 true (suc n) 1) true (suc n) (round-whole binary64 true (suc n) (le-of-lt (ltb→lt (suc n) (2 ^ 53) t)))
+ofInt-is (negsuc n) t =
+    of-value (round binary64 true (suc n) 1) true (suc n) (round-whole binary64 true (suc n) (le-of-lt (ltb→lt (suc n) (2 ^ 53) t)))
 
 -- Two doubles that are one whole number differ at most in the sign of a zero. With zero added they are one double: that of the number.
 settle : (s : Bool) (p c : ℕ) → 0 < c → sum binary64 s (p * c) false 0 c ≡ ofInt binary64 (signed s p)
@@ -224,7 +230,8 @@ lt-is (fin s m e) (fin t n d) a b v w =
     let q = w .0 in
     let c = down e * down d in
     let A : m * up e * down d ≡ p * c = ap (λ (k : ℕ). k * down d) (v .1) ∙ mul-assoc p (down e) (down d) in
-    let B : n * up d * down e ≡ q * c = ap (λ (k : ℕ). k * down e) (w .1) ∙ mul-right-comm q (down d) (down e) ∙ mul-assoc q (down e) (down d) in
+    let B : n * up d * down e ≡ q * c = ap (λ (k : ℕ). k * down e) (w .1) ∙ mul-right-comm q (down d) (down e)
+    ∙ mul-assoc q (down e) (down d) in
     ap₂ (λ (i j : ℕ). below s i t j) A B ∙ below-is s t p q c (mul-pos (down-pos e) (down-pos d)) ∙ ap₂ ltZ (v .2) (w .2)
 
 -- ---- which doubles are whole numbers, by a test, and which numbers those are
@@ -242,8 +249,12 @@ valueOf (fin s m e) = signed s (m * up e / down e)
 -- the test passes exactly at the whole numbers
 pub whole-is : (x : Float) → T (isWhole x) → Is x (valueOf x)
 whole-is (fin s m e) t =
-    let k = m * up e in
-    (k / down e, sym (div-add-mod' k (down e)) ∙ ap (λ (i : ℕ). k / down e * down e + i) (eqb→eq (k % down e) 0 t) ∙ add-zero (k / down e * down e), refl)
+    let k = m * up e in (
+      k / down e,
+      sym (div-add-mod' k (down e)) ∙ ap (λ (i : ℕ). k / down e * down e + i) (eqb→eq
+          (k % down e) 0 t) ∙ add-zero (k / down e * down e),
+      refl,
+    )
 
 pub is-whole : (x : Float) (z : ℤ) → Is x z → (isWhole x ≡ true) × (valueOf x ≡ z)
 is-whole (fin s m e) z v = (

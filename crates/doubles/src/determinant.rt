@@ -3,8 +3,8 @@ ghost use mathlib.Core.Path.{_≡_};
 ghost use Rattle.doubles.specs.Determinant.{c0Of};
 use crate::Vertex;
 
-// The determinant by the minors of the first two rows and of the last two. Of four vertices that are taken, every product and sum on the way is
-// a whole number below 2^53, and the answer is c0. Zero is added last, so that a zero is never minus zero.
+// The determinant by the minors of the first two rows and of the last two. Of four vertices that are taken, every product and sum on the
+// way is a whole number below 2^53, and the answer is c0. Zero is added last, so that a zero is never minus zero.
 pub fn c0(a: Vertex, b: Vertex, c: Vertex, d: Vertex) -> f64
     ensures { λ r. ⌜ r ≡ c0Of a b c d ⌝ }
 {

@@ -32,7 +32,8 @@ pub fn read(x: f64, most: usize) -> Reading
     }
 }
 
-// Whether x is a whole number. Below 2^53 in size the number that it is cut to must be the same; from there on every finite double is whole.
+// Whether x is a whole number. Below 2^53 in size the number that it is cut to must be the same; from there on every finite double is
+// whole.
 fn is_whole(x: f64) -> bool
     ensures { λ r. ⌜ r ≡ isWhole x ⌝ }
 {

@@ -40,7 +40,8 @@ faceWords f = ascii "3" ∷ decimal (f .p - 1) ∷ decimal (f .q - 1) ∷ decima
 abbrev pub drawn : Table → List ℕ
 drawn t =
     keywordLine (weighted (t .rows))
-    ++ (countsLine (size t) (length (t .faces)) ++ (text (map (rowWords (weighted (t .rows))) (t .rows)) ++ text (map faceWords (t .faces))))
+    ++ (countsLine (size t) (length (t .faces))
+    ++ (text (map (rowWords (weighted (t .rows))) (t .rows)) ++ text (map faceWords (t .faces))))
 
 -- the face within the solid whose vertices come behind m points
 abbrev pub lowered : ℕ → Face → Face

@@ -19,7 +19,8 @@ use Rattle.scene.specs.Tables.{tablesOf, row, face}
 use Rattle.scene.specs.View.{viewOf, solid}
 use Rattle.scene.specs.declared.Row.{Row}
 use Rattle.scene.specs.declared.Solid.{Solid}
-use Rattle.drawing.specs.Drawing.{isOne, weighted, keywordLine, countsLine, rowWords, faceWords, lowered, rowsIn, facesIn, tableIn, drawn, drawnOf}
+use Rattle.drawing.specs.Drawing.{isOne, weighted, keywordLine, countsLine, rowWords, faceWords, lowered, rowsIn, facesIn, tableIn}
+use Rattle.drawing.specs.Drawing.{drawn, drawnOf}
 
 -- ---- a weight
 
@@ -92,7 +93,8 @@ module _ {A : Type 0} (f : A → Words) (g : ℕ → A) (k : ℕ) where
   unfolding text
   one-more i =
       ap (λ (xs : List A). text (map f xs)) (sym (run-append g k i 1)) ∙ ap text (map-append f (run g k i) (run g (k + i) 1))
-      ∙ text-append (map f (run g k i)) (map f (run g (k + i) 1)) ∙ ap (λ (t : List ℕ). text (map f (run g k i)) ++ t) (append-nil (line (f (g (k + i)))))
+      ∙ text-append (map f (run g k i)) (map f (run g (k + i) 1))
+      ∙ ap (λ (t : List ℕ). text (map f (run g k i)) ++ t) (append-nil (line (f (g (k + i)))))
 
   pub lines-more : (i : ℕ) {l : List ℕ} {at : ℕ} {m n : List ℕ} {p q : ℕ} {x : A} →
       Put l at (text (map f (run g k i))) m p → x ≡ g (k + i) → Put m p (line (f x)) n q →

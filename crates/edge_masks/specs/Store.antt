@@ -33,13 +33,15 @@ module _ (l : List ℕ) (j x y : ℕ) where
   module _ (h : 2 * j + 1 < length l) where
     pair-first : getD (pairSet l j x y) (2 * j) 0 ≡ x
     unfolding pairSet
-    pair-first = getD-set-other (set l (2 * j) x) (2 * j + 1) (2 * j) y 0 (λ e. omega (arith, e)) ∙ getD-set-same l (2 * j) x 0 (omega arith)
+    pair-first =
+        getD-set-other (set l (2 * j) x) (2 * j + 1) (2 * j) y 0 (λ e. omega (arith, e)) ∙ getD-set-same l (2 * j) x 0 (omega arith)
 
     pair-second : getD (pairSet l j x y) (2 * j + 1) 0 ≡ y
     unfolding pairSet
     pair-second = getD-set-same (set l (2 * j) x) (2 * j + 1) y 0 (omega (arith, length-set l (2 * j) x))
 
-same-entry : {a b c d m n : ℕ} → a ≡ b → c ≡ d → m ≡ n → _≡_ {A = Entry} (record { low = a; high = c; mask = m }) (record { low = b; high = d; mask = n })
+same-entry : {a b c d m n : ℕ} → a ≡ b → c ≡ d → m ≡ n →
+    _≡_ {A = Entry} (record { low = a; high = c; mask = m }) (record { low = b; high = d; mask = n })
 same-entry p q r i = record { low = p i; high = q i; mask = r i }
 
 module _ (ends masks : List ℕ) (j u v : ℕ) (m : Mask) (he : 2 * j + 1 < length ends) (hm : 2 * j + 1 < length masks) where
@@ -80,7 +82,8 @@ module _ (s : Seen) (k : Solid) (u : ℕ) where
         entries = ap (λ (l : List Entry). entriesIn ends masks at ++ l) e;
       }
 
-  pub edges-turn : (w : ℕ) → 0 < w → w < 2 ^ 64 → bitEdges s k u w ≡ entry s k u (u + 1 + trailingZeros 64 w) ∷ bitEdges s k u (bitAnd w (w - 1))
+  pub edges-turn : (w : ℕ) → 0 < w → w < 2 ^ 64 →
+      bitEdges s k u w ≡ entry s k u (u + 1 + trailingZeros 64 w) ∷ bitEdges s k u (bitAnd w (w - 1))
   unfolding each
   edges-turn w some h = ap (each (λ t. entry s k u (u + 1 + t) ∷ [])) (walk-turn 64 w some h)
 
@@ -90,7 +93,8 @@ module _ (s : Seen) (k : Solid) (u : ℕ) where
 
   pub filling-turn : (w : ℕ) (m : Mask) {whole : List Entry} {at c v x y : ℕ} {ends masks e1 m1 e2 m2 : List ℕ} → 0 < w → w < 2 ^ 64 →
       2 * c + 1 < length ends → 2 * c + 1 < length masks → v ≡ u + 1 + trailingZeros 64 w → valueOf m ≡ edgeMask s k u v →
-      Filling (bitEdges s k u w) whole at ends masks e1 m1 c → x ≡ u → y ≡ v → e2 ≡ pairSet e1 c x y → m2 ≡ pairSet m1 c (m .low) (m .high) →
+      Filling (bitEdges s k u w) whole at ends masks e1 m1 c → x ≡ u → y ≡ v → e2 ≡ pairSet e1 c x y →
+      m2 ≡ pairSet m1 c (m .low) (m .high) →
       Filling (bitEdges s k u (bitAnd w (w - 1))) whole at ends masks e2 m2 (c + 1)
   filling-turn w m {whole} {at} {c} {v} {x} {y} {ends} {masks} {e1} {m1} {e2} {m2} some h he hm ev em f ex ey px pm =
       let pe : e2 ≡ pairSet e1 c u v = px ∙ ap₂ (pairSet e1 c) ex ey in
@@ -104,7 +108,8 @@ module _ (s : Seen) (k : Solid) (u : ℕ) where
         masks-size = pair-size m1 c (m .low) (m .high) pm ∙ f .masks-size;
         entries =
             ap (λ (l : List Entry). l ++ rest)
-            (ap₂ (λ (a b : List ℕ). entriesIn a b (c + 1)) pe pm ∙ entries-put e1 m1 c u v m (omega (arith, f .ends-size)) (omega (arith, f .masks-size)))
+            (ap₂ (λ (a b : List ℕ). entriesIn a b (c + 1)) pe pm
+            ∙ entries-put e1 m1 c u v m (omega (arith, f .ends-size)) (omega (arith, f .masks-size)))
             ∙ append-assoc (entriesIn e1 m1 c) (record { low = u; high = v; mask = valueOf m } ∷ []) rest
             ∙ ap (λ (e : Entry). entriesIn e1 m1 c ++ (e ∷ rest)) new
             ∙ ap (λ (l : List Entry). entriesIn e1 m1 c ++ l) (sym t) ∙ f .entries;
@@ -114,7 +119,8 @@ module _ (s : Seen) (k : Solid) (u : ℕ) where
   unfolding each
   edges-none e = ap (bitEdges s k u) e ∙ ap (each (λ t. entry s k u (u + 1 + t) ∷ [])) (places-none 64 0)
 
-  pub filling-end : {w : ℕ} {whole : List Entry} {at c : ℕ} {ends masks e1 m1 : List ℕ} → w ≡ 0 → Filling (bitEdges s k u w) whole at ends masks e1 m1 c →
+  pub filling-end : {w : ℕ} {whole : List Entry} {at c : ℕ} {ends masks e1 m1 : List ℕ} → w ≡ 0 →
+      Filling (bitEdges s k u w) whole at ends masks e1 m1 c →
       Filled whole at ends masks e1 m1 c
   filling-end {w} {whole} {at} {c} {ends} {masks} {e1} {m1} e f =
       let none : bitEdges s k u w ≡ [] = edges-none e in

@@ -30,7 +30,8 @@ same-number low i m h = go (ℕ-discrete i (low + 1 + m))
 module _ (low n : ℕ) where
   bit-is : (i : ℕ) → low < i → i ≤ low + n → bitOf low i ≡ maskOf (λ m. eqb i (low + 1 + m)) n
   bit-is i h k =
-      sym (mask-one (i - (low + 1)) n (omega arith)) ∙ mask-same (λ m. eqb m (i - (low + 1))) (λ m. eqb i (low + 1 + m)) n (λ m b. same-number low i m h)
+      sym (mask-one (i - (low + 1)) n (omega arith))
+      ∙ mask-same (λ m. eqb m (i - (low + 1))) (λ m. eqb i (low + 1 + m)) n (λ m b. same-number low i m h)
 
   -- the word has a bit for each vertex that the face has with u
   pub face-word : (u : ℕ) (f : Face) → FaceOf low (low + n) f → faceWord low u f ≡ maskOf (λ m. hasBoth u (low + 1 + m) f) n
@@ -63,12 +64,14 @@ module _ (face : ℕ → Face) (a low n u : ℕ) where
 
   pub upto-start : 0 ≡ upto a
   unfolding anyOf over
-  upto-start = sym (mask-none (λ m. anyOf (λ f. hasBoth u (low + 1 + m) (face f)) a a) n (λ m b. nothing (λ f. hasBoth u (low + 1 + m) (face f))))
+  upto-start =
+      sym (mask-none (λ m. anyOf (λ f. hasBoth u (low + 1 + m) (face f)) a a) n (λ m b. nothing (λ f. hasBoth u (low + 1 + m) (face f))))
     where
       nothing : (p : ℕ → Bool) → fold (λ k rest. p k || rest) false a (a - a) ≡ false
       nothing p = let e : a - a ≡ 0 = omega arith in rw e
 
-  pub upto-more : (i : ℕ) {w v : ℕ} → a ≤ i → FaceOf low (low + n) (face i) → w ≡ upto i → v ≡ faceWord low u (face i) → bitOr w v ≡ upto (i + 1)
+  pub upto-more : (i : ℕ) {w v : ℕ} → a ≤ i → FaceOf low (low + n) (face i) → w ≡ upto i → v ≡ faceWord low u (face i) →
+      bitOr w v ≡ upto (i + 1)
   upto-more i h ok e d =
       ap₂ bitOr e (d ∙ face-word low n u (face i) ok) ∙ or-masks _ _ n
       ∙ mask-same _ _ n (λ m b. sym (any-more (λ f. hasBoth u (low + 1 + m) (face f)) a i h))

@@ -1,4 +1,5 @@
--- The faces of a solid that pass a test, as one number and as a mask of two words: the oddness of its ones, its digits and its first face. Assumes nothing.
+-- The faces of a solid that pass a test, as one number and as a mask of two words: the oddness of its ones, its digits and its first face.
+-- Assumes nothing.
 use mathlib.Core.Path.{_≡_, sym, ap, ap₂, _∙_}
 use mathlib.Core.Logic.{_≢_}
 use mathlib.Core.Bool.{Bool, true, false, not, _||_}
@@ -48,7 +49,8 @@ no-face m e t = eqb-true m 0 (not-false (eqb m 0) (sym e ∙ t))
 -- ---- by its two words: faces 1 to 64 are in the first, the rest in the second
 
 pub mask-words : (passes : Face → Bool) (face : ℕ → Face) (first count : ℕ) {low high : ℕ} → 64 < count →
-    low ≡ maskBy passes face first 64 → high ≡ maskBy passes face (first + 64) (count - 64) → low + 2 ^ 64 * high ≡ maskBy passes face first count
+    low ≡ maskBy passes face first 64 → high ≡ maskBy passes face (first + 64) (count - 64) →
+    low + 2 ^ 64 * high ≡ maskBy passes face first count
 mask-words passes face first count h p q =
     ap₂ (λ (x y : ℕ). x + 2 ^ 64 * y) p (q ∙ ap (λ (g : ℕ → Bool). maskOf g (count - 64)) shifted)
     ∙ sym (mask-join (λ k. passes (face (first + 1 + k))) 64 (count - 64)) ∙ ap (maskBy passes face first) (omega arith)
@@ -92,6 +94,8 @@ module _ (m : Mask) where
 
 -- ---- of a list of faces
 
-pub odd-faces : (passes : Face → Bool) (face : ℕ → Face) (first count : ℕ) → isOdd (maskBy passes face first count) ≡ odd passes (run face (first + 1) count)
+pub odd-faces : (passes : Face → Bool) (face : ℕ → Face) (first count : ℕ) →
+    isOdd (maskBy passes face first count) ≡ odd passes (run face (first + 1) count)
 unfolding isOdd
-odd-faces passes face first count = ap (λ (r : ℕ). eqb r 1) (mask-odd passes face (first + 1) count) ∙ digit-one (odd passes (run face (first + 1) count))
+odd-faces passes face first count =
+    ap (λ (r : ℕ). eqb r 1) (mask-odd passes face (first + 1) count) ∙ digit-one (odd passes (run face (first + 1) count))

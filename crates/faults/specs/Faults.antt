@@ -45,7 +45,8 @@ module _ {l : List ℕ} {at : ℕ} {m : List ℕ} {p : ℕ} (a b : List ℕ) (k 
   read-put : {x : Reading} → o ≡ x → Put l at (spottedBy x a b k) m p → Put l at (inTexts a b k) m p
   read-put e x = put-as (ap (λ (r : Reading). spottedBy r a b k) (sym e ∙ q)) x
 
-  pub in-second : {e j : ℕ} → o ≡ reading.At e → j ≡ k - length a → Put l at (spotted (ascii "second text, line") b j) m p → Put l at (inTexts a b k) m p
+  pub in-second : {e j : ℕ} → o ≡ reading.At e → j ≡ k - length a → Put l at (spotted (ascii "second text, line") b j) m p →
+      Put l at (inTexts a b k) m p
   in-second e d x = read-put e (put-as (ap (λ (j : ℕ). spotted (ascii "second text, line") b j) d) x)
 
   pub in-first : {e : ℕ} → o ≡ reading.Outside e → Put l at (spotted (ascii "first text, line") a k) m p → Put l at (inTexts a b k) m p
@@ -54,5 +55,6 @@ module _ {l : List ℕ} {at : ℕ} {m : List ℕ} {p : ℕ} (a b : List ℕ) (k 
   pub in-first-face : {e : ℕ} → o ≡ reading.Sides e → Put l at (spotted (ascii "first text, line") a k) m p → Put l at (inTexts a b k) m p
   in-first-face e x = read-put e x
 
-pub fault-put : {l : List ℕ} {at : ℕ} {m : List ℕ} {p : ℕ} (a b : List ℕ) {o x : Fault} → o ≡ x → Put l at (wordsOf a b x) m p → Put l at (wordsOf a b o) m p
+pub fault-put : {l : List ℕ} {at : ℕ} {m : List ℕ} {p : ℕ} (a b : List ℕ) {o x : Fault} → o ≡ x → Put l at (wordsOf a b x) m p →
+    Put l at (wordsOf a b o) m p
 fault-put a b e x = put-as (ap (wordsOf a b) (sym e)) x

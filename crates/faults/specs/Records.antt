@@ -97,5 +97,6 @@ module _ {l : List ℕ} {at : ℕ} {m : List ℕ} {p : ℕ} (a b : List ℕ) {k 
   pub point-put : (i : ℕ) → k ≡ i - 1 → Put l at (pieceIn a b k) m p → Put l at (pieceIn a b (i - 1)) m p
   point-put i e x = put-as (ap (pieceIn a b) e) x
 
-  pub refusal-put : {n : ℕ} (r : Refusal) → n ≡ numberOf r → k ≡ placeOf r → Put l at (thingOf a b n k ++ ruleOf n) m p → Put l at (refusalOf a b r) m p
+  pub refusal-put : {n : ℕ} (r : Refusal) → n ≡ numberOf r → k ≡ placeOf r → Put l at (thingOf a b n k ++ ruleOf n) m p →
+      Put l at (refusalOf a b r) m p
   refusal-put r e d x = put-as (ap₂ (λ (n k : ℕ). thingOf a b n k ++ ruleOf n) e d) x

@@ -51,7 +51,8 @@ module _ (s : List ℕ) (i n : ℕ) {w : ℕ} where
   unfolding columnAfter
   column-stop inv h = sym (ap (columnAfter n) (drop-of-length-le s h)) ∙ inv
 
-  pub column-next : {m : ℕ} → columnAfter n (drop i s) ≡ w → i < length s → m ≡ columnBehind n (getD s i 0) → columnAfter m (drop (i + 1) s) ≡ w
+  pub column-next : {m : ℕ} → columnAfter n (drop i s) ≡ w → i < length s → m ≡ columnBehind n (getD s i 0) →
+      columnAfter m (drop (i + 1) s) ≡ w
   unfolding columnAfter
   column-next inv h p =
       ap₂ (λ (k j : ℕ). columnAfter k (drop j s)) p (add-one i) ∙ sym (ap (columnAfter n) (drop-cons s i 0 h)) ∙ inv

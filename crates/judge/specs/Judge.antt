@@ -100,7 +100,8 @@ endFault s = rule (eqb (twoAt s (endStart s)) markEN) (Mark (lastRecord s)) Acce
 
 -- record k: a point, a face, or EN
 unfoldable pub recordFault : Limits → List ℕ → ℕ → Judged
-recordFault l s k = cond (ltb k (2 + verts s)) (pointFault l s (k - 1)) (cond (ltb k (lastRecord s)) (faceFault s (k - (2 + verts s))) (endFault s))
+recordFault l s k =
+    cond (ltb k (2 + verts s)) (pointFault l s (k - 1)) (cond (ltb k (lastRecord s)) (faceFault s (k - (2 + verts s))) (endFault s))
 
 unfoldable pub recordsFault : Limits → List ℕ → Judged
 recordsFault l s = firstFault (recordFault l s) 1 (lastRecord s + 1)

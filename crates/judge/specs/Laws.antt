@@ -1,4 +1,5 @@
--- The laws of the judge's searches and of its rules, in the form in which a loop's turn, a call's answer and a branch arrive. Assumes nothing.
+-- The laws of the judge's searches and of its rules, in the form in which a loop's turn, a call's answer and a branch arrive.
+-- Assumes nothing.
 use Prim.Native.Nat.{ℕ, _+_, _<_, _≤_}
 use mathlib.Core.Path.{_≡_, refl, sym, ap, _∙_}
 use mathlib.Core.Bool.{Bool, true, false, not}

@@ -1,5 +1,5 @@
--- What a rule, a chain and a search of the judge say, as facts: accepted exactly when each is, refused exactly when the first that refuses does.
--- Assumes nothing.
+-- What a rule, a chain and a search of the judge say, as facts: accepted exactly when each is, refused exactly when the first that refuses
+-- does. Assumes nothing.
 use mathlib.Core.Path.{_≡_, refl, sym, ap, _∙_, subst}
 use mathlib.Core.Logic.{_⊎_, inl, inr, ⊎-elim, _↔_, Iff·rfl}
 use mathlib.Core.Bool.{Bool, true}
@@ -87,7 +87,8 @@ module _ (f : ℕ → Judged) where
     to-first zero a p = absurd (never p)
     to-first (suc n) a p =
         ⊎-elim (here-first a (a + suc n) (omega arith))
-        (λ c. later-first a (a + suc n) (c .0) (subst (λ (e : ℕ). First f (suc a) e r) (omega arith) (to-first n (suc a) (c .1)))) (then-refused _ _ r .0 p)
+        (λ c. later-first a (a + suc n) (c .0) (subst (λ (e : ℕ). First f (suc a) e r) (omega arith) (to-first n (suc a) (c .1))))
+        (then-refused _ _ r .0 p)
 
     from-first : (n a : ℕ) → First f a (a + n) r → rest a n ≡ Refused r
     from-first zero a q = absurd (omega (arith, q .from, q .to))
@@ -111,8 +112,10 @@ module _ (f : ℕ → Judged) where
     pub first-refused : (a e : ℕ) → (firstFault f a e ≡ Refused r) ↔ First f a e r
     unfolding firstOf over
     first-refused a e = (
-      λ p. let q = to-first (e - a) a p in record { at = q .at; from = q .from; to = omega (arith, q .from, q .to); here = q .here; before = q .before },
-      λ q. from-first (e - a) a (record { at = q .at; from = q .from; to = omega (arith, q .from, q .to); here = q .here; before = q .before }),
+      λ p. let q = to-first (e - a) a p in
+          record { at = q .at; from = q .from; to = omega (arith, q .from, q .to); here = q .here; before = q .before },
+      λ q. from-first (e - a) a
+          (record { at = q .at; from = q .from; to = omega (arith, q .from, q .to); here = q .here; before = q .before }),
     )
 
   pub first-iff : (a e : ℕ) → (firstFault f a e ≡ Accepted) ↔ ((i : ℕ) → a ≤ i → i < e → f i ≡ Accepted)

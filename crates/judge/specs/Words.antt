@@ -1,5 +1,5 @@
--- A word for each vertex of a solid: bit w of the word of v is set exactly when v and w are corners of an odd number of its faces together. One pass
--- over the faces turns the bits; the vertices that are used are a word of their own. Assumes nothing.
+-- A word for each vertex of a solid: bit w of the word of v is set exactly when v and w are corners of an odd number of its faces together.
+-- One pass over the faces turns the bits; the vertices that are used are a word of their own. Assumes nothing.
 use Prim.Native.Nat.{ℕ, suc, _+_, _/_, _%_, _^_, _<_}
 use mathlib.Core.Path.{_≡_, refl, sym, ap, ap₂, _∙_}
 use mathlib.Core.Logic.{_≢_}
@@ -65,15 +65,18 @@ pub record TurnsFace (s : List ℕ) (i : ℕ) (before after : List ℕ) : Type 0
   pub size : length after ≡ length before
   pub at : (v : ℕ) → v < places → getD after v 0 ≡ bitXor (getD before v 0) (cond (isCornerOf s v i) (cornersWord s i) 0)
 
-pub three-places : (s : List ℕ) (i : ℕ) {x y z : ℕ} → CornersIn s i → x ≡ 2 ^ cornerAt s i 0 → y ≡ 2 ^ cornerAt s i 1 → z ≡ 2 ^ cornerAt s i 2 →
+pub three-places : (s : List ℕ) (i : ℕ) {x y z : ℕ} → CornersIn s i → x ≡ 2 ^ cornerAt s i 0 → y ≡ 2 ^ cornerAt s i 1 →
+    z ≡ 2 ^ cornerAt s i 2 →
     bitOr (bitOr x y) z ≡ cornersWord s i
 unfolding cornersWord isCornerOf isCorner
 three-places s i h ex ey ez =
-    ap₂ bitOr (ap₂ bitOr (ex ∙ place-mask _ places (h .p)) (ey ∙ place-mask _ places (h .q)) ∙ or-masks _ _ places) (ez ∙ place-mask _ places (h .r))
+    ap₂ bitOr (ap₂ bitOr (ex ∙ place-mask _ places (h .p)) (ey ∙ place-mask _ places (h .q)) ∙ or-masks _ _ places)
+    (ez ∙ place-mask _ places (h .r))
     ∙ or-masks _ _ places
     ∙ mask-same _ _ places
     (λ k b.
-    law (all λ a. all λ b. all λ c. (a || b) || c ≐ a || (b || c)) tt (eqb (cornerAt s i 0) k) (eqb (cornerAt s i 1) k) (eqb (cornerAt s i 2) k))
+    law (all λ a. all λ b. all λ c. (a || b) || c ≐ a || (b || c)) tt (eqb (cornerAt s i 0) k) (eqb (cornerAt s i 1) k)
+    (eqb (cornerAt s i 2) k))
 
 module _ (words : List ℕ) (p t : ℕ) (h : p < length words) where
   turned-at : (v : ℕ) → getD (turned words p t) v 0 ≡ bitXor (getD words v 0) (cond (eqb p v) t 0)
@@ -82,7 +85,8 @@ module _ (words : List ℕ) (p t : ℕ) (h : p < length words) where
     where
       go : Dec (v ≡ p) → getD (turned words p t) v 0 ≡ bitXor (getD words v 0) (cond (eqb p v) t 0)
       go (yes e) = rw (e, eq-eqb p p refl) (getD-set-same words p (bitXor (getD words p 0) t) 0 h)
-      go (no d) = rw (ne-eqb p v (λ e. d (sym e))) (getD-set-other words p v (bitXor (getD words p 0) t) 0 d ∙ sym (xor-zero-r (getD words v 0)))
+      go (no d) =
+          rw (ne-eqb p v (λ e. d (sym e))) (getD-set-other words p v (bitXor (getD words p 0) t) 0 d ∙ sym (xor-zero-r (getD words v 0)))
 
 pub turned-size : (words : List ℕ) (p t : ℕ) {after : List ℕ} → after ≡ turned words p t → length words ≡ places → length after ≡ places
 unfolding turned
@@ -90,11 +94,13 @@ turned-size words p t e h = ap length e ∙ length-set words p (bitXor (getD wor
 
 -- of three different corners, v is one at most
 once : (m t v : ℕ) (p q r : ℕ) → p ≢ q → q ≢ r → r ≢ p →
-    bitXor (bitXor (bitXor m (cond (eqb p v) t 0)) (cond (eqb q v) t 0)) (cond (eqb r v) t 0) ≡ bitXor m (cond (eqb p v || (eqb q v || eqb r v)) t 0)
+    bitXor (bitXor (bitXor m (cond (eqb p v) t 0)) (cond (eqb q v) t 0)) (cond (eqb r v) t 0) ≡ bitXor m
+    (cond (eqb p v || (eqb q v || eqb r v)) t 0)
 once m t v p q r pq qr rp = go (ℕ-discrete p v) (ℕ-discrete q v) (ℕ-discrete r v)
   where
     go : Dec (p ≡ v) → Dec (q ≡ v) → Dec (r ≡ v) →
-        bitXor (bitXor (bitXor m (cond (eqb p v) t 0)) (cond (eqb q v) t 0)) (cond (eqb r v) t 0) ≡ bitXor m (cond (eqb p v || (eqb q v || eqb r v)) t 0)
+        bitXor (bitXor (bitXor m (cond (eqb p v) t 0)) (cond (eqb q v) t 0)) (cond (eqb r v) t 0) ≡ bitXor m
+        (cond (eqb p v || (eqb q v || eqb r v)) t 0)
     go (yes a) (yes b) c = absurd (pq (a ∙ sym b))
     go (yes a) (no b) (yes c) = absurd (rp (c ∙ sym a))
     go (yes a) (no b) (no c) = rw (eq-eqb p v a, ne-eqb q v b, ne-eqb r v c) (xor-zero-r _ ∙ xor-zero-r _)
@@ -104,7 +110,8 @@ once m t v p q r pq qr rp = go (ℕ-discrete p v) (ℕ-discrete q v) (ℕ-discre
     go (no a) (no b) (no c) = rw (ne-eqb p v a, ne-eqb q v b, ne-eqb r v c) (xor-zero-r _ ∙ xor-zero-r _)
 
 pub turns-face : (s : List ℕ) (i : ℕ) (words : List ℕ) {w1 w2 w3 : List ℕ} {p q r t : ℕ} → CornersIn s i → length words ≡ places →
-    p ≡ cornerAt s i 0 → q ≡ cornerAt s i 1 → r ≡ cornerAt s i 2 → t ≡ cornersWord s i → w1 ≡ turned words p t → w2 ≡ turned w1 q t → w3 ≡ turned w2 r t →
+    p ≡ cornerAt s i 0 → q ≡ cornerAt s i 1 → r ≡ cornerAt s i 2 → t ≡ cornersWord s i → w1 ≡ turned words p t → w2 ≡ turned w1 q t →
+    w3 ≡ turned w2 r t →
     TurnsFace s i words w3
 unfolding isCornerOf isCorner
 turns-face s i words {w1} {w2} {w3} {p} {q} {r} {t} h long ep eq er et e1 e2 e3 =
@@ -118,7 +125,8 @@ turns-face s i words {w1} {w2} {w3} {p} {q} {r} {t} h long ep eq er et e1 e2 e3 
           ∙ ap (λ (x : ℕ). bitXor x (cond (eqb r v) t 0))
           (ap (λ (w : List ℕ). getD w v 0) e2
           ∙ turned-at w1 q t (omega (arith, l1, h .q)) v
-          ∙ ap (λ (x : ℕ). bitXor x (cond (eqb q v) t 0)) (ap (λ (w : List ℕ). getD w v 0) e1 ∙ turned-at words p t (omega (arith, h .p)) v))
+          ∙ ap (λ (x : ℕ). bitXor x (cond (eqb q v) t 0))
+          (ap (λ (w : List ℕ). getD w v 0) e1 ∙ turned-at words p t (omega (arith, h .p)) v))
           ∙ once (getD words v 0) t v p q r (λ e. h .pq (sym ep ∙ e ∙ eq)) (λ e. h .qr (sym eq ∙ e ∙ er)) (λ e. h .rp (sym er ∙ e ∙ ep))
           ∙ (λ j. bitXor (getD words v 0) (cond (eqb (ep j) v || (eqb (eq j) v || eqb (er j) v)) (et j) 0));
     }
@@ -140,7 +148,8 @@ words-none s a =
 pub used-none : (s : List ℕ) (a : ℕ) → 0 ≡ usedWord s a 0
 unfolding usedWord anyOf
 used-none s a =
-    sym (mask-none (λ v. anyOf (isCornerOf s v) a (a + 0)) places (λ v b. over-stop (λ k rest. isCornerOf s v k || rest) false a (a + 0) (omega arith)))
+    sym (mask-none (λ v. anyOf (isCornerOf s v) a (a + 0)) places
+    (λ v b. over-stop (λ k rest. isCornerOf s v k || rest) false a (a + 0) (omega arith)))
 
 odd-more : (b : Bool) (n : ℕ) → eqb (more b n % 2) 1 ≡ eqb (n % 2) 1 ⊕ b
 odd-more true n = go (ℕ-discrete (n % 2) 1)
@@ -155,13 +164,15 @@ unfolding isEdge isCornerOf hasBoth
 oddly-more s a k v w =
     let e : a + (k + 1) ≡ a + k + 1 = omega arith in
     rw e
-    (ap (λ (n : ℕ). eqb (n % 2) 1) (count-more (isEdge s v w) a (a + k) (omega arith)) ∙ odd-more (isEdge s v w (a + k)) (countOf (isEdge s v w) a (a + k)))
+    (ap (λ (n : ℕ). eqb (n % 2) 1) (count-more (isEdge s v w) a (a + k) (omega arith))
+    ∙ odd-more (isEdge s v w (a + k)) (countOf (isEdge s v w) a (a + k)))
 
 chosen : (c : Bool) (g : ℕ → Bool) → cond c (maskOf g places) 0 ≡ maskOf (λ w. c && g w) places
 chosen true g = refl
 chosen false g = sym (mask-none (λ w. false) places (λ w b. refl))
 
-pub words-more : (s : List ℕ) (a k : ℕ) {before after : List ℕ} → AreWords s a k before → TurnsFace s (a + k) before after → AreWords s a (k + 1) after
+pub words-more : (s : List ℕ) (a k : ℕ) {before after : List ℕ} → AreWords s a k before → TurnsFace s (a + k) before after →
+    AreWords s a (k + 1) after
 unfolding wordOf cornersWord
 words-more s a k w m =
     record {

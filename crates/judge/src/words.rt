@@ -1,4 +1,5 @@
-// Which vertices of a solid are together in an odd number of its faces, as a word for each vertex, and which are used: one pass over the faces.
+// Which vertices of a solid are together in an odd number of its faces, as a word for each vertex, and which are used: one pass over the
+// faces.
 ghost use mathlib.Core.Path.{_≡_};
 ghost use Prim.Native.Nat.{ℕ, _+_, _/_, _%_, _^_, _<_};
 ghost use lib.Dec.{eqb};

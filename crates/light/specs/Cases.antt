@@ -56,7 +56,8 @@ module _ (s l : List ℕ) {b : Bool} (e : b ≡ isFull l) where
         held = ap (λ (b : Bool). cond b l (more l (lightNumber (colourOf (verdictOf s))))) (sym p ∙ e);
       }
 
-  pub counted : {r : Light} {k : ℕ} {l′ : List ℕ} → b ≡ false → r ≡ colourOf (verdictOf s) → k ≡ lightNumber r → l′ ≡ more l k → IsLight s l l′ r
+  pub counted : {r : Light} {k : ℕ} {l′ : List ℕ} → b ≡ false → r ≡ colourOf (verdictOf s) → k ≡ lightNumber r → l′ ≡ more l k →
+      IsLight s l l′ r
   unfolding lightOf leftOf
   counted p q n w =
       record {

@@ -1,5 +1,5 @@
--- What the fit light answers, and what it leaves of the sixteen lent bytes: four counts of four bytes, low byte first, in the order of the colours.
--- Assumes nothing.
+-- What the fit light answers, and what it leaves of the sixteen lent bytes: four counts of four bytes, low byte first, in the order of the
+-- colours. Assumes nothing.
 use mathlib.Core.Path.{_≡_}
 use mathlib.Core.Bool.{Bool, not, cond, _||_}
 use mathlib.Core.List.{List}

@@ -1,5 +1,5 @@
--- Over any calls each count grows by how often its colour was answered; from sixteen zeros it is how often. The first million calls are answered
--- with a colour, and those after them with 16. One scene has one colour. Assumes nothing.
+-- Over any calls each count grows by how often its colour was answered; from sixteen zeros it is how often. The first million calls are
+-- answered with a colour, and those after them with 16. One scene has one colour. Assumes nothing.
 use mathlib.Core.Path.{_≡_, refl, sym, _∙_, ap, subst}
 use mathlib.Core.Logic.{_⊎_, inl, inr}
 use mathlib.Core.Bool.{Bool, true, false, not, cond, _||_}
@@ -164,7 +164,8 @@ each-counted (s ∷ ss) l e h =
     let i = each-counted ss (leftOf s l) (step s l e 0 (omega arith) .1) (omega arith) in
     omega arith
 
-filled : (ss : List (List ℕ)) (l : List ℕ) → length l ≡ 16 → total l ≤ 1000000 → 1000000 ≤ total l + length ss → total (after ss l) ≡ 1000000
+filled : (ss : List (List ℕ)) (l : List ℕ) → length l ≡ 16 → total l ≤ 1000000 → 1000000 ≤ total l + length ss →
+    total (after ss l) ≡ 1000000
 filled [] l e h g = omega arith
 filled (s ∷ ss) l e h g = go (isFull l) refl (filled ss)
   where

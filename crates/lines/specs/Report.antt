@@ -99,7 +99,8 @@ module _ (s : List ℕ) {l m : List ℕ} {e : ℕ} where
   head-refused {r} p q h = head-by s (sym p ∙ q) (one-line (refusedLine r) h) refl
 
   -- the counts and the verdict as they were read
-  pub head-told : judged s ≡ Accepted → {h : Scene} {v : Verdict} {c : Counts} → h ≡ countsOf s → v ≡ verdictIn (viewOf s) → c ≡ countsIn (viewOf s) →
+  pub head-told : judged s ≡ Accepted → {h : Scene} {v : Verdict} {c : Counts} → h ≡ countsOf s → v ≡ verdictIn (viewOf s) →
+      c ≡ countsIn (viewOf s) →
       Put l 0 (text (headLines h v c)) m e → IsHead s l m (record { end = e; rows = c .pairs })
   unfolding answered verdictOf
   head-told ok {h} {v} {c} is-h is-v is-c x =
@@ -193,11 +194,13 @@ unfolding IsLent
 lent-is p = p .held
 
 -- of an accepted scene's listing, poured off its survey
-module _ (s : List ℕ) (ok : judged s ≡ Accepted) (from : ℕ) {d d′ : List ℕ} {n : ℕ} (poured : PouredIf (listingIn (viewOf s)) from false d d′ n) where
+module _ (s : List ℕ) (ok : judged s ≡ Accepted) (from : ℕ) {d d′ : List ℕ} {n : ℕ}
+    (poured : PouredIf (listingIn (viewOf s)) from false d d′ n) where
   poured-part : IsPart s from d d′ (listed.Count n)
   poured-part = part-told s d (sym ok) from refl poured
 
-  pub rows-read : {l m : List ℕ} {r : Part} {k : ℕ} → k ≡ n - from → IsRows (rowsIn d′ k) l 0 m r → IsRows (partRows s from (length d / 3)) l 0 m r
+  pub rows-read : {l m : List ℕ} {r : Part} {k : ℕ} → k ≡ n - from → IsRows (rowsIn d′ k) l 0 m r →
+      IsRows (partRows s from (length d / 3)) l 0 m r
   rows-read e x = rows-listed s from poured-part refl e x
 
   pub lent-read : IsLent s from d d′

@@ -1,4 +1,5 @@
--- A word by its bits: what two words joined have, a word below 2 ^ n as the mask of its own bits, its lowest one and how many. Assumes nothing.
+-- A word by its bits: what two words joined have, a word below 2 ^ n as the mask of its own bits, its lowest one and how many.
+-- Assumes nothing.
 use mathlib.Core.Path.{_≡_, refl, sym, ap, ap₂, _∙_}
 use mathlib.Core.Bool.{Bool, true, false, _&&_, _||_}
 use mathlib.Core.Logic.{_⊎_, inl, inr}

@@ -1,5 +1,5 @@
--- A table of one word for each point: at each vertex of a solid its neighbours. One pass over the faces joins each face's corners to the words of
--- its corners. Assumes nothing.
+-- A table of one word for each point: at each vertex of a solid its neighbours. One pass over the faces joins each face's corners to the
+-- words of its corners. Assumes nothing.
 use mathlib.Core.Path.{_≡_, refl, sym, ap, _∙_}
 use mathlib.Core.Logic.{_≢_}
 use mathlib.Core.Bool.{false, cond, _||_}
@@ -50,12 +50,14 @@ pub record Linked (face : ℕ → Face) (k : Solid) (before after : List ℕ) : 
 pub cleared-none : (low : ℕ) (l : List ℕ) → Cleared low 0 l l
 cleared-none low l = record { size = refl; own = λ u h. absurd (omega arith); other = λ u h. refl }
 
-pub cleared-more : (low i : ℕ) {before l : List ℕ} → low + 1 + i < length before → Cleared low i before l → Cleared low (i + 1) before (set l (low + 1 + i) 0)
+pub cleared-more : (low i : ℕ) {before l : List ℕ} → low + 1 + i < length before → Cleared low i before l →
+    Cleared low (i + 1) before (set l (low + 1 + i) 0)
 cleared-more low i {before} {l} fits c =
     record {
       size = length-set l (low + 1 + i) 0 ∙ c .size;
       own = λ u h. own u h (ℕ-discrete u (low + 1 + i));
-      other = λ u h. getD-set-other l (low + 1 + i) u 0 0 (λ e. h (omega arith, omega arith)) ∙ c .other u (λ v. h (omega arith, omega arith));
+      other = λ u h. getD-set-other l (low + 1 + i) u 0 0 (λ e. h (omega arith, omega arith))
+          ∙ c .other u (λ v. h (omega arith, omega arith));
     }
   where
     own : (u : ℕ) → Vertex low (low + (i + 1)) u → Dec (u ≡ low + 1 + i) → getD (set l (low + 1 + i) 0) u 0 ≡ 0
@@ -79,11 +81,13 @@ ored-size l p t e = ap length e ∙ length-set l p (bitOr (getD l p 0) t)
 
 -- of three different corners, v is one at most
 once : (m t v : ℕ) (p q r : ℕ) → p ≢ q → q ≢ r → r ≢ p →
-    bitOr (bitOr (bitOr m (cond (eqb p v) t 0)) (cond (eqb q v) t 0)) (cond (eqb r v) t 0) ≡ bitOr m (cond (eqb p v || (eqb q v || eqb r v)) t 0)
+    bitOr (bitOr (bitOr m (cond (eqb p v) t 0)) (cond (eqb q v) t 0)) (cond (eqb r v) t 0) ≡ bitOr m
+    (cond (eqb p v || (eqb q v || eqb r v)) t 0)
 once m t v p q r pq qr rp = go (ℕ-discrete p v) (ℕ-discrete q v) (ℕ-discrete r v)
   where
     go : Dec (p ≡ v) → Dec (q ≡ v) → Dec (r ≡ v) →
-        bitOr (bitOr (bitOr m (cond (eqb p v) t 0)) (cond (eqb q v) t 0)) (cond (eqb r v) t 0) ≡ bitOr m (cond (eqb p v || (eqb q v || eqb r v)) t 0)
+        bitOr (bitOr (bitOr m (cond (eqb p v) t 0)) (cond (eqb q v) t 0)) (cond (eqb r v) t 0) ≡ bitOr m
+        (cond (eqb p v || (eqb q v || eqb r v)) t 0)
     go (yes a) (yes b) c = absurd (pq (a ∙ sym b))
     go (yes a) (no b) (yes c) = absurd (rp (c ∙ sym a))
     go (yes a) (no b) (no c) = rw (eq-eqb p v a, ne-eqb q v b, ne-eqb r v c) (or-zero-r _ ∙ or-zero-r _)
@@ -92,9 +96,11 @@ once m t v p q r pq qr rp = go (ℕ-discrete p v) (ℕ-discrete q v) (ℕ-discre
     go (no a) (no b) (yes c) = rw (ne-eqb p v a, ne-eqb q v b, eq-eqb r v c) (ap (λ (x : ℕ). bitOr x t) (or-zero-r _ ∙ or-zero-r m))
     go (no a) (no b) (no c) = rw (ne-eqb p v a, ne-eqb q v b, ne-eqb r v c) (or-zero-r _ ∙ or-zero-r _)
 
-pub links-face : (low : ℕ) (f : Face) (l : List ℕ) {l1 l2 l3 : List ℕ} {x y z : ℕ} → FaceOf low (low + width) f → FaceWithin limits f → length l ≡ words →
+pub links-face : (low : ℕ) (f : Face) (l : List ℕ) {l1 l2 l3 : List ℕ} {x y z : ℕ} → FaceOf low (low + width) f → FaceWithin limits f →
+    length l ≡ words →
     x ≡ bitOf low (f .p) → y ≡ bitOf low (f .q) → z ≡ bitOf low (f .r) →
-    l1 ≡ ored l (f .p) (bitOr (bitOr x y) z) → l2 ≡ ored l1 (f .q) (bitOr (bitOr x y) z) → l3 ≡ ored l2 (f .r) (bitOr (bitOr x y) z) → LinksFace low f l l3
+    l1 ≡ ored l (f .p) (bitOr (bitOr x y) z) → l2 ≡ ored l1 (f .q) (bitOr (bitOr x y) z) → l3 ≡ ored l2 (f .r) (bitOr (bitOr x y) z) →
+    LinksFace low f l l3
 unfolding faceWord isCorner
 links-face low f l {l1} {l2} {l3} {x} {y} {z} ok fit long ex ey ez e1 e2 e3 =
     let t : ℕ = bitOr (bitOr x y) z in
@@ -108,7 +114,8 @@ links-face low f l {l1} {l2} {l3} {x} {y} {z} ok fit long ex ey ez e1 e2 e3 =
           ∙ ap (λ (w : ℕ). bitOr w (cond (eqb (f .r) v) t 0))
           (ap (λ (w : List ℕ). getD w v 0) e2
           ∙ ored-at l1 (f .q) t (omega (arith, s1, fit .q)) v
-          ∙ ap (λ (w : ℕ). bitOr w (cond (eqb (f .q) v) t 0)) (ap (λ (w : List ℕ). getD w v 0) e1 ∙ ored-at l (f .p) t (omega (arith, fit .p)) v))
+          ∙ ap (λ (w : ℕ). bitOr w (cond (eqb (f .q) v) t 0))
+          (ap (λ (w : List ℕ). getD w v 0) e1 ∙ ored-at l (f .p) t (omega (arith, fit .p)) v))
           ∙ once (getD l v 0) t v (f .p) (f .q) (f .r) (ok .proper .pq) (ok .proper .qr) (ok .proper .rp)
           ∙ (λ j. bitOr (getD l v 0) (cond (eqb (f .p) v || (eqb (f .q) v || eqb (f .r) v)) (bitOr (bitOr (ex j) (ey j)) (ez j)) 0));
     }
@@ -119,7 +126,11 @@ links-face low f l {l1} {l2} {l3} {x} {y} {z} ok fit long ex ey ez e1 e2 e3 =
 pub outside : (low n u : ℕ) (f : Face) → FaceOf low (low + n) f → (Vertex low (low + n) u → ⊥) → isCorner u f ≡ false
 unfolding isCorner
 outside low n u f ok h =
-    rw (ne-eqb (f .p) u (λ e. h (rw (← e) (ok .p))), ne-eqb (f .q) u (λ e. h (rw (← e) (ok .q))), ne-eqb (f .r) u (λ e. h (rw (← e) (ok .r))))
+    rw (
+      ne-eqb (f .p) u (λ e. h (rw (← e) (ok .p))),
+      ne-eqb (f .q) u (λ e. h (rw (← e) (ok .q))),
+      ne-eqb (f .r) u (λ e. h (rw (← e) (ok .r))),
+    )
 
 no-word : (low u : ℕ) (f : Face) → isCorner u f ≡ false → faceWord low u f ≡ 0
 unfolding faceWord
@@ -143,10 +154,12 @@ module _ (face : ℕ → Face) (low n first : ℕ) where
       record {
         size = m .size ∙ s .size;
         own = λ u h. at u ∙ upto-more face (first + 1) low width u i a (in-word _ _ fits ok) (s .own u h) refl;
-        other = λ u h. at u ∙ ap (bitOr (getD l u 0)) (no-word low u (face i) (outside low n u (face i) ok h)) ∙ or-zero-r (getD l u 0) ∙ s .other u h;
+        other = λ u h. at u ∙ ap (bitOr (getD l u 0)) (no-word low u (face i) (outside low n u (face i) ok h))
+            ∙ or-zero-r (getD l u 0) ∙ s .other u h;
       }
 
-pub linking-all : (face : ℕ → Face) (k : Solid) (i : ℕ) {l before after : List ℕ} → i ≡ k .first + 1 + k .count → Cleared (k .low) (k .verts) l before →
+pub linking-all : (face : ℕ → Face) (k : Solid) (i : ℕ) {l before after : List ℕ} → i ≡ k .first + 1 + k .count →
+    Cleared (k .low) (k .verts) l before →
     Linking face (k .low) (k .verts) (k .first) i before after → Linked face k l after
 unfolding neighbours joined
 linking-all face k i e c s =

@@ -42,7 +42,8 @@ module _ (x y z w : Word) where
   row-three p q r t = rw (p, q, r, t)
 
   -- each number is read from its bits
-  pub row-four : {a b c d : ℤ} → SFits w64 a → SFits w64 b → SFits w64 c → SFits w64 d → x ≡ Number a → y ≡ Number b → z ≡ Number c → w ≡ Number d →
+  pub row-four : {a b c d : ℤ} → SFits w64 a → SFits w64 b → SFits w64 c → SFits w64 d → x ≡ Number a → y ≡ Number b →
+      z ≡ Number c → w ≡ Number d →
       entries.Row (record { x = reread a; y = reread b; z = reread c; w = reread d }) ≡ rowOf x y z w
   unfolding rowOf
   row-four {a} {b} {c} {d} fa fb fc fd p q r t =
@@ -62,7 +63,8 @@ module _ (x y z w : Entries) where
   unfolding mapOf
   map-two p q r = rw (p, q, r)
 
-  pub map-three : {a b c : Row} → x ≡ entries.Row a → y ≡ entries.Row b → z ≡ entries.Row c → w ≡ entries.Wrong → asked.Wrong ≡ mapOf x y z w
+  pub map-three : {a b c : Row} → x ≡ entries.Row a → y ≡ entries.Row b → z ≡ entries.Row c → w ≡ entries.Wrong →
+      asked.Wrong ≡ mapOf x y z w
   unfolding mapOf
   map-three p q r t = rw (p, q, r, t)
 
@@ -75,4 +77,10 @@ pub image-fits : {s : List ℕ} {m : Map} {d d′ : List ℕ} {o : Imaged} {n : 
 unfolding imageBytes
 image-fits {s} {m} {d} {d′} {n = n} h e =
     let w = wrote s m d d′ n (subst (IsImage s m d d′) e h) in
-    omega (arith, w .long, ap length (w .held), length-append (imageBytes m s) (drop (length s) d), filled-length (imageRow m s) (verts s + 1) s)
+    omega (
+      arith,
+      w .long,
+      ap length (w .held),
+      length-append (imageBytes m s) (drop (length s) d),
+      filled-length (imageRow m s) (verts s + 1) s,
+    )

@@ -1,4 +1,5 @@
-// Writes the image of the scene on standard input under the map on the command line. A refusal is said on standard error, and no byte is written.
+// Writes the image of the scene on standard input under the map on the command line. A refusal is said on standard error, and no byte is
+// written.
 mod asked;
 mod line;
 

@@ -1,5 +1,5 @@
-// off FIRST SECOND X Y Z W writes the scene of two object files and a far point; off --write K writes solid K of the scene on standard input
-// as an object text. What is refused is told on standard error.
+// off FIRST SECOND X Y Z W writes the scene of two object files and a far point; off --write K writes solid K of the scene on standard
+// input as an object text. What is refused is told on standard error.
 use check::same;
 use items::numbers::Number;
 use items::numbers::is_whole;

@@ -1,5 +1,5 @@
--- An edge beside a face: five different points of a scene. Every four of them, and of them and a helper, can be asked for their sign. Assumes
--- nothing.
+-- An edge beside a face: five different points of a scene. Every four of them, and of them and a helper, can be asked for their sign.
+-- Assumes nothing.
 use mathlib.Core.Path.{_≡_, sym, subst}
 use mathlib.Core.Logic.{_≢_}
 use Prim.Native.Nat.{ℕ, _+_, _-_, _≤_, _<_}
@@ -20,10 +20,12 @@ abbrev pub BesideAll : (n u v : ℕ) → (ℕ → Face) → (first count : ℕ) 
 BesideAll n u v face first count = (k : ℕ) → k < count → Beside n u v (face (first + 1 + k))
 
 -- the first m of them, and those behind
-pub beside-low : {n u v : ℕ} (face : ℕ → Face) (first m : ℕ) {count : ℕ} → m ≤ count → BesideAll n u v face first count → BesideAll n u v face first m
+pub beside-low : {n u v : ℕ} (face : ℕ → Face) (first m : ℕ) {count : ℕ} → m ≤ count → BesideAll n u v face first count →
+    BesideAll n u v face first m
 beside-low face first m l h k b = h k (omega arith)
 
-pub beside-high : {n u v : ℕ} (face : ℕ → Face) (first m : ℕ) {count : ℕ} → BesideAll n u v face first count → BesideAll n u v face (first + m) (count - m)
+pub beside-high : {n u v : ℕ} (face : ℕ → Face) (first m : ℕ) {count : ℕ} → BesideAll n u v face first count →
+    BesideAll n u v face (first + m) (count - m)
 beside-high {n} {u} {v} face first m h k b =
     let e : first + 1 + (m + k) ≡ first + m + 1 + k = omega arith in
     subst (λ (i : ℕ). Beside n u v (face i)) e (h (m + k) (omega arith))

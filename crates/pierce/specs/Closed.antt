@@ -1,5 +1,5 @@
--- Closed tables: each edge lies in an even number of the faces, so that what is the same along a side and back sums to nothing over all sides of
--- all faces. The rule of edges makes a table closed. Assumes nothing.
+-- Closed tables: each edge lies in an even number of the faces, so that what is the same along a side and back sums to nothing over all
+-- sides of all faces. The rule of edges makes a table closed. Assumes nothing.
 use mathlib.Core.Path.{_≡_, refl, sym, ap₂, _∙_}
 use mathlib.Core.Logic.{_⊎_, inl, inr, ⊎-elim, _≢_, _↔_}
 use mathlib.Core.Bool.{Bool, true, false, _&&_, _||_, or-true}
@@ -102,7 +102,8 @@ closed-sum g fs h c =
     fs h
     ∙ spread (λ e. g (e .low) (e .high)) fs
     ∙ even-sum sameEdge sameEdge-self sameEdge-sound (edges fs) (λ e. g (e .low) (e .high))
-    (λ e t. sym (spread (sameEdge e) fs) ∙ sym (odd-each (hasEdge e) (round (λ i j. sameEdge e (edge i j))) (λ f b. once e f (b .proper)) fs h) ∙ c e)
+    (λ e t. sym (spread (sameEdge e) fs)
+    ∙ sym (odd-each (hasEdge e) (round (λ i j. sameEdge e (edge i j))) (λ f b. once e f (b .proper)) fs h) ∙ c e)
 
 -- ---- the rule of edges
 
@@ -133,7 +134,8 @@ has-both i j d f = (to, from)
   where
     to : hasEdge (edge i j) f ≡ true → Both i j f
     to e =
-        of-three (sameEdge (edge i j) (edge (f .p) (f .q))) (sameEdge (edge i j) (edge (f .q) (f .r))) (sameEdge (edge i j) (edge (f .r) (f .p)))
+        of-three (sameEdge (edge i j) (edge (f .p) (f .q))) (sameEdge (edge i j) (edge (f .q) (f .r)))
+        (sameEdge (edge i j) (edge (f .r) (f .p)))
         (λ t. ⊎-elim (λ h. (inl (h .0), inr (inl (h .1)))) (λ h. (inr (inl (h .1)), inl (h .0))) (same-two i j (f .p) (f .q) t))
         (λ t. ⊎-elim (λ h. (inr (inl (h .0)), inr (inr (h .1)))) (λ h. (inr (inr (h .1)), inr (inl (h .0)))) (same-two i j (f .q) (f .r) t))
         (λ t. ⊎-elim (λ h. (inr (inr (h .0)), inl (h .1))) (λ h. (inl (h .1), inr (inr (h .0)))) (same-two i j (f .r) (f .p) t))
@@ -161,11 +163,13 @@ has-both i j d f = (to, from)
 
 edge-even : (fs : List Face) (i j : ℕ) → i ≢ j → EdgeOk fs i j → odd (hasEdge (edge i j)) fs ≡ false
 edge-even fs i j d h =
-    sym (odd-count (hasEdge (edge i j)) fs) ∙ not-odd (count (hasEdge (edge i j)) fs) (even-iff (Both i j) (hasEdge (edge i j)) (has-both i j d) fs .1 h)
+    sym (odd-count (hasEdge (edge i j)) fs)
+    ∙ not-odd (count (hasEdge (edge i j)) fs) (even-iff (Both i j) (hasEdge (edge i j)) (has-both i j d) fs .1 h)
 
 -- an edge of no face lies in none; an edge of a face is covered by the rule
 module _ (all : List Face) (e : Edge) where
-  edge-covered : (fs : List Face) → Each Proper fs → Each (Sides (EdgeOk all)) fs → (odd (hasEdge e) fs ≡ false) ⊎ (odd (hasEdge e) all ≡ false)
+  edge-covered : (fs : List Face) → Each Proper fs → Each (Sides (EdgeOk all)) fs →
+      (odd (hasEdge e) fs ≡ false) ⊎ (odd (hasEdge e) all ≡ false)
   edge-covered [] p h = inl refl
   edge-covered (f ∷ fs) p h = by (hasEdge e f) refl (edge-covered fs (p .1) (h .1))
     where

@@ -1,5 +1,5 @@
--- Piercing by five signs: the ends lie on different sides of the face, and its three sides pass the edge alike. Formula (13) is the same with
--- every helper, and so with the lowest. Assumes nothing.
+-- Piercing by five signs: the ends lie on different sides of the face, and its three sides pass the edge alike. Formula (13) is the same
+-- with every helper, and so with the lowest. Assumes nothing.
 use mathlib.Core.Path.{_≡_, ap}
 use mathlib.Core.Bool.{Bool, not, _&&_}
 use Prim.Native.Nat.{ℕ, _≤_}

@@ -1,5 +1,5 @@
--- Piercing by formula (13), as document 01 reads it: the helper, the formula, and the edge that pierces a face. The sign of four points is any
--- function, true for a positive sign; `pierced` has that of a scene's rows. Assumes nothing.
+-- Piercing by formula (13), as document 01 reads it: the helper, the formula, and the edge that pierces a face. The sign of four points is
+-- any function, true for a positive sign; `pierced` has that of a scene's rows. Assumes nothing.
 use mathlib.Core.Bool.{Bool, true, not, _&&_}
 use mathlib.Core.List.{List, [], _∷_}
 use Prim.Native.Nat.{ℕ, _+_}

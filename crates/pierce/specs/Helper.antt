@@ -97,9 +97,11 @@ module _ (n u v : ℕ) (f : Face) where
   one-of-six = free 6 five (omega arith)
 
   pub helper-most : 6 ≤ n → helper n u v f ≤ 6
-  helper-most l = omega (arith, lowest (one-of-six .number) (one-of-six .none) (omega (arith, one-of-six .within)) .upto, one-of-six .within)
+  helper-most l =
+      omega (arith, lowest (one-of-six .number) (one-of-six .none) (omega (arith, one-of-six .within)) .upto, one-of-six .within)
 
-  helps : (h : ℕ) → NoneOf five h → Upto n h → Five (Upto n) u v (f .p) (f .q) (f .r) → Six (Upto n) u v (helper n u v f) (f .p) (f .q) (f .r)
+  helps : (h : ℕ) → NoneOf five h → Upto n h → Five (Upto n) u v (f .p) (f .q) (f .r) →
+      Six (Upto n) u v (helper n u v f) (f .p) (f .q) (f .r)
   unfolding canHelp
   helps h o i d =
       let x = lowest h o i in

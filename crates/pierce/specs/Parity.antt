@@ -1,5 +1,5 @@
--- Parity: the three sides of a triangle together pierce the faces of a closed solid an even number of times, so that what is counted on the way
--- from u to v is counted on the way by w, but for an even number. Of formula (13) with the lowest helper. Assumes nothing.
+-- Parity: the three sides of a triangle together pierce the faces of a closed solid an even number of times, so that what is counted on the
+-- way from u to v is counted on the way by w, but for an even number. Of formula (13) with the lowest helper. Assumes nothing.
 use mathlib.Core.Path.{_≡_, sym, ap, ap₂, _∙_}
 use mathlib.Core.Logic.{_≢_}
 use mathlib.Core.Bool.{Bool, true, false, not, true≢false}
@@ -49,7 +49,8 @@ turn t = search ne-sym
 swap : {n low high u v w : ℕ} → Triangle n low high u v w → Triangle n low high u w v
 swap t = search ne-sym
 
-six : {n low high u v w : ℕ} → high ≤ n → Triangle n low high u v w → (f : Face) → FaceOf low high f → Six (Upto n) u v w (f .p) (f .q) (f .r)
+six : {n low high u v w : ℕ} → high ≤ n → Triangle n low high u v w → (f : Face) → FaceOf low high f →
+    Six (Upto n) u v w (f .p) (f .q) (f .r)
 six l t f h = search (ne-sym, in-scene, apart)
 
 -- three numbers of which none or two are odd
@@ -117,7 +118,8 @@ module _ (n : ℕ) (s : ℕ → ℕ → ℕ → ℕ → Bool) (rules : Rules (Up
     pub mask-parity : (u v w : ℕ) → Triangle n low high u v w → (ones (mask u v) + ones (mask v w) + ones (mask w u)) % 2 ≡ 0
     mask-parity u v w t =
         let fs = run face (first + 1) count in
-        sum-even (odd (pierces n s u v) fs) (odd (pierces n s v w) fs) (odd (pierces n s w u) fs) (ones (mask u v)) (ones (mask v w)) (ones (mask w u))
+        sum-even (odd (pierces n s u v) fs) (odd (pierces n s v w) fs) (odd (pierces n s w u) fs) (ones (mask u v)) (ones (mask v w))
+        (ones (mask w u))
         (mask-odd (pierces n s u v) face (first + 1) count)
         (mask-odd (pierces n s v w) face (first + 1) count)
         (mask-odd (pierces n s w u) face (first + 1) count)

@@ -19,7 +19,8 @@ use Rattle.pierce.specs.Against.{maskAgainst, enclosed}
 use Rattle.pierce.specs.Parity.{Solid, Triangle, mask-parity, mask-route}
 
 module _ (n : ℕ) (row : ℕ → Row) (weighted : Weighted n row) where
-  pub scene-five : (u v : ℕ) (f : Face) → 6 ≤ n → Five (Upto n) u v (f .p) (f .q) (f .r) → pierced n row u v f ≡ hitsFace (positiveAt row) u v f
+  pub scene-five : (u v : ℕ) (f : Face) → 6 ≤ n → Five (Upto n) u v (f .p) (f .q) (f .r) →
+      pierced n row u v f ≡ hitsFace (positiveAt row) u v f
   scene-five = by-five n (positiveAt row) (rules n row weighted)
 
   module _ {low high : ℕ} (face : ℕ → Face) (first count : ℕ) (solid : Solid n low high (run face (first + 1) count)) where
@@ -33,5 +34,6 @@ module _ (n : ℕ) (row : ℕ → Row) (weighted : Weighted n row) where
     scene-route = mask-route n (positiveAt row) (rules n row weighted) face first count solid
 
     -- by the far point: u to v pierces an odd number of faces exactly where one of u and v is enclosed and the other is not
-    pub scene-enclosed : (u v : ℕ) → Triangle n low high u v n → isOdd (mask u v) ≡ enclosed n row face u first count ⊕ enclosed n row face v first count
+    pub scene-enclosed : (u v : ℕ) → Triangle n low high u v n →
+        isOdd (mask u v) ≡ enclosed n row face u first count ⊕ enclosed n row face v first count
     scene-enclosed u v = scene-route u v n

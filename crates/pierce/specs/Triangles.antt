@@ -8,8 +8,8 @@ use Rattle.laws.specs.Bools.{_⊕_, all, _⇒_, _≐_, law}
 use Rattle.orient.specs.Signs.{Four, Six, ne-sym, mixed, Rules}
 use Rattle.pierce.specs.Five.{five, hits}
 
--- abc and pqr. A, B, C are the signs of pqr with a, b, c; P, Q, R those of abc with p, q, r; the rest those of a side of each. The rule of three
--- terms at the six pairs of corners of one triangle is enough.
+-- abc and pqr. A, B, C are the signs of pqr with a, b, c; P, Q, R those of abc with p, q, r; the rest those of a side of each. The rule of
+-- three terms at the six pairs of corners of one triangle is enough.
 two-triangles : (A B C P Q R abpq abqr abrp bcpq bcqr bcrp capq caqr carp : Bool) →
     T (mixed (P ⊕ abqr) (Q ⊕ abrp) (R ⊕ abpq)) → T (mixed (P ⊕ bcqr) (Q ⊕ bcrp) (R ⊕ bcpq)) → T (mixed (P ⊕ caqr) (Q ⊕ carp) (R ⊕ capq)) →
     T (mixed (A ⊕ bcpq) (B ⊕ capq) (C ⊕ abpq)) → T (mixed (A ⊕ bcqr) (B ⊕ caqr) (C ⊕ abqr)) → T (mixed (A ⊕ bcrp) (B ⊕ carp) (C ⊕ abrp)) →
@@ -31,7 +31,12 @@ module _ (In : ℕ → Type 0) (s : ℕ → ℕ → ℕ → ℕ → Bool) (rules
 
   pairs : (a b c d : ℕ) → Four In a b c d → s c d a b ≡ s a b c d
   pairs a b c d h =
-      rw (rules .swap2 c a d b (search ne-sym), rules .swap3 c a b d (search ne-sym), rules .swap1 a c b d (search ne-sym), rules .swap2 a b c d h)
+      rw (
+        rules .swap2 c a d b (search ne-sym),
+        rules .swap3 c a b d (search ne-sym),
+        rules .swap1 a c b d (search ne-sym),
+        rules .swap2 a b c d h,
+      )
       (simp Bool·not-not)
 
   -- the rule of three terms at the pair b, c, and at c, a, by the signs of a, b, c

@@ -20,6 +20,7 @@ fiveSigns row u v f =
     let against : ℕ → ℕ → Bool = λ s t. positiveAt row u v s t in
     (above u ⊕ above v) && not (mixed (against (f .p) (f .q)) (against (f .q) (f .r)) (against (f .r) (f .p)))
 
-pub five-pierce : (n : ℕ) (row : ℕ → Row) → Weighted n row → (u v : ℕ) (f : Face) → 6 ≤ n → Beside n u v f → fiveSigns row u v f ≡ pierced n row u v f
+pub five-pierce : (n : ℕ) (row : ℕ → Row) → Weighted n row → (u v : ℕ) (f : Face) → 6 ≤ n → Beside n u v f →
+    fiveSigns row u v f ≡ pierced n row u v f
 unfolding fiveSigns hits
 five-pierce n row w u v f l d = sym (scene-five n row w u v f l d)

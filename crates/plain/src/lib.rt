@@ -10,8 +10,8 @@ use orient::positive_at;
 use scene::Face;
 use scene::Rows;
 
-// The edge from u to v pierces the face, in a scene of n points: the ends lie on different sides of the face's plane, and the edge's signs against
-// the three sides, taken round the face, are all alike. No sign is asked for that cannot change the answer.
+// The edge from u to v pierces the face, in a scene of n points: the ends lie on different sides of the face's plane, and the edge's signs
+// against the three sides, taken round the face, are all alike. No sign is asked for that cannot change the answer.
 pub fn pierces(rows: &Rows, n: usize, u: usize, v: usize, f: Face) -> bool
     requires points { ⌜ AllWithin limits (rowIn (now rows)) × (u ≤ mostPoints limits) × (v ≤ mostPoints limits) × FaceWithin limits f ⌝ }
     requires edge { ⌜ Weighted n (rowIn (now rows)) × Beside n u v f ⌝ }

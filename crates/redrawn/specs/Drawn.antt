@@ -16,7 +16,8 @@ use Rattle.scene.specs.declared.Face.{Face}
 use Rattle.items.specs.Items.{separates, begins, comments, gap, word, startOf, wordEnd, after}
 use Rattle.texts.specs.Form.{isOff, isThree, isFour, keyword, numbersOf}
 use Rattle.drawing.specs.Drawing.{isOne, weighted, keywordLine, countsLine, rowWords, faceWords, drawn}
-use Rattle.redrawn.specs.Words.{Word, Worded, Rest, behind, Tells, none, a-newline, decimal-worded, signed-worded, Line, lines-tell, text-tells}
+use Rattle.redrawn.specs.Words.{Word, Worded, Rest, behind, Tells, none, a-newline, decimal-worded}
+use Rattle.redrawn.specs.Words.{signed-worded, Line, lines-tell, text-tells}
 use Rattle.redrawn.specs.Redrawn.{per, Shown, Cornered, Denotes, told}
 
 -- ---- the keyword
@@ -100,13 +101,16 @@ drawing-back t h =
     let shapes = text (map faceWords (t .faces)) in
     let body = text (map (rowWords four) (t .rows)) ++ shapes in
     let faces-tell : Tells shapes (flatMap faceWords (t .faces) ++ []) =
-    subst (λ (l : List ℕ). Tells l (flatMap faceWords (t .faces) ++ [])) (append-nil shapes) (text-tells faceWords face-line (t .faces) none) in
+    subst (λ (l : List ℕ). Tells l (flatMap faceWords (t .faces) ++ [])) (append-nil shapes)
+    (text-tells faceWords face-line (t .faces) none) in
     let all-tell = lines-tell (decimal (size t) ∷ decimal (length (t .faces)) ∷ decimal 0 ∷ []) (counts-line (size t) (length (t .faces)))
     (text-tells (rowWords four) (row-line four) (t .rows) faces-tell) in
-    let counts-same : line (decimal (size t) ∷ decimal (length (t .faces)) ∷ decimal 0 ∷ []) ++ body ≡ countsLine (size t) (length (t .faces)) ++ body =
+    let counts-same : line (decimal (size t) ∷ decimal (length (t .faces)) ∷ decimal 0 ∷ []) ++ body ≡ countsLine (size t)
+    (length (t .faces)) ++ body =
     ap (λ (w : Word). line (decimal (size t) ∷ decimal (length (t .faces)) ∷ w ∷ []) ++ body) (sym zero-is) in
     let words : List Word =
-    decimal (size t) ∷ decimal (length (t .faces)) ∷ decimal 0 ∷ (flatMap (rowWords four) (t .rows) ++ (flatMap faceWords (t .faces) ++ [])) in
+    decimal (size t) ∷ decimal (length (t .faces)) ∷ decimal 0 ∷
+    (flatMap (rowWords four) (t .rows) ++ (flatMap faceWords (t .faces) ++ [])) in
     let k = keyword-told four (countsLine (size t) (length (t .faces)) ++ body) in
     told (drawn t) four (k .0) t (shown four (t .rows) refl) h
     (subst (λ (l : List ℕ). Rest l words) (sym (k .1)) (behind a-newline (subst (λ (l : List ℕ). Tells l words) counts-same all-tell)))

@@ -16,7 +16,8 @@ use Rattle.scene.specs.declared.Row.{Row}
 use Rattle.scene.specs.declared.Face.{Face}
 use Rattle.items.specs.Items.{startOf, endOf, after}
 use Rattle.items.specs.Numbers.{wholeFrom}
-use Rattle.texts.specs.Form.{goOn, wholes, faceFrom, facesFrom, endFrom, numbersOf, verticesOf, facesOf, facesThen, verticesThen, countsThen, formOf}
+use Rattle.texts.specs.Form.{goOn, wholes, faceFrom, facesFrom, endFrom, numbersOf, verticesOf, facesOf, facesThen, verticesThen}
+use Rattle.texts.specs.Form.{countsThen, formOf}
 use Rattle.texts.specs.declared.Reading.{Reading}
 use Rattle.texts.specs.declared.Reading.the-variants.{At, Outside}
 use Rattle.solids.specs.Solid.{past, weightFrom, rowFrom, rowOf, cornersFrom, faceOf, solidOf}
@@ -53,7 +54,8 @@ module _ (s : List ℕ) where
     pub read : (n : ℕ) → wholes true (per four + n) s at ≡ wholes true n s (past s at (per four))
     pub rest : Rest (drop (past s at (per four)) s) ws
 
-  pub next-vertex : (four : Bool) (at : ℕ) (r : Row) (ws : List Word) → Shown four r → Rest (drop at s) (rowWords four r ++ ws) → Vertex four at r ws
+  pub next-vertex : (four : Bool) (at : ℕ) (r : Row) (ws : List Word) → Shown four r → Rest (drop at s) (rowWords four r ++ ws) →
+      Vertex four at r ws
   unfolding rowFrom weightFrom
   next-vertex true at r ws h x =
       let a = next-signed s at (r .x) _ x in
@@ -97,7 +99,9 @@ module _ (s : List ℕ) where
   pub next-triangle : (at : ℕ) (f : Face) (ws : List Word) → Cornered f → Rest (drop at s) (faceWords f ++ ws) → Triangle at f ws
   unfolding cornersFrom faceFrom wholes
   next-triangle at f ws h x =
-      let o = next-count s at 3 _ (subst (λ (w : Word). Rest (drop at s) (w ∷ decimal (f .p - 1) ∷ decimal (f .q - 1) ∷ decimal (f .r - 1) ∷ ws)) three-is x) in
+      let o =
+      next-count s at 3
+      _ (subst (λ (w : Word). Rest (drop at s) (w ∷ decimal (f .p - 1) ∷ decimal (f .q - 1) ∷ decimal (f .r - 1) ∷ ws)) three-is x) in
       let a = next-count s (past s at 1) (f .p - 1) _ (o .rest) in
       let b = next-count s (past s at 2) (f .q - 1) _ (a .rest) in
       let c = next-count s (past s at 3) (f .r - 1) ws (b .rest) in
@@ -156,7 +160,8 @@ module _ (s : List ℕ) where
     pub read : facesFrom (length fs) s (faceAt i) ≡ At (faceAt (i + length fs))
     pub rest : Rest (drop (faceAt (i + length fs)) s) us
 
-  pub faces-told : (fs : List Face) (i : ℕ) (us : List Word) → Each Cornered fs → Rest (drop (faceAt i) s) (flatMap faceWords fs ++ us) → Faces i fs us
+  pub faces-told : (fs : List Face) (i : ℕ) (us : List Word) → Each Cornered fs →
+      Rest (drop (faceAt i) s) (flatMap faceWords fs ++ us) → Faces i fs us
   unfolding flatMap facesFrom faceOf
   faces-told [] i us h x =
       let e : i ≡ i + 0 = omega arith in
@@ -187,9 +192,11 @@ per-some : (four : Bool) → eqb (per four) 0 ≡ false
 per-some true = refl
 per-some false = refl
 
-module _ (s : List ℕ) (four : Bool) (np : numbersOf s ≡ per four) (t : Table) (shown : Each (Shown four) (t .rows)) (cornered : Each Cornered (t .faces))
+module _ (s : List ℕ) (four : Bool) (np : numbersOf s ≡ per four) (t : Table) (shown : Each (Shown four) (t .rows))
+    (cornered : Each Cornered (t .faces))
     (x : Rest (drop (after s 1) s)
-    (decimal (size t) ∷ decimal (length (t .faces)) ∷ decimal 0 ∷ (flatMap (rowWords four) (t .rows) ++ (flatMap faceWords (t .faces) ++ [])))) where
+    (decimal (size t) ∷ decimal (length (t .faces)) ∷ decimal 0 ∷
+    (flatMap (rowWords four) (t .rows) ++ (flatMap faceWords (t .faces) ++ [])))) where
   pub told : Denotes s t
   unfolding formOf wholes endFrom
   told =
@@ -198,11 +205,13 @@ module _ (s : List ℕ) (four : Bool) (np : numbersOf s ≡ per four) (t : Table
       let c = next-count s (after s 3) 0 (flatMap (rowWords four) (t .rows) ++ (flatMap faceWords (t .faces) ++ [])) (b .rest) in
       let zero-behind : 4 ≡ 4 + 0 * per four = omega arith in
       let v = vertices-told s four np (t .rows) 0 (flatMap faceWords (t .faces) ++ []) shown
-      (subst (λ (n : ℕ). Rest (drop (after s n) s) (flatMap (rowWords four) (t .rows) ++ (flatMap faceWords (t .faces) ++ []))) zero-behind (c .rest)) in
+      (subst (λ (n : ℕ). Rest (drop (after s n) s) (flatMap (rowWords four) (t .rows) ++ (flatMap faceWords (t .faces) ++ []))) zero-behind
+      (c .rest)) in
       let many : verticesOf s * numbersOf s ≡ size t * per four = ap₂ (λ (m n : ℕ). m * n) (a .size) np in
       let behind-vertices : after s (4 + (0 + size t) * per four) ≡ faceAt s 0 =
       (let e : 4 + (0 + size t) * per four ≡ 4 + verticesOf s * numbersOf s + 0 * 4 = omega arith in ap (after s) e) in
-      let f = faces-told s (t .faces) 0 [] cornered (subst (λ (n : ℕ). Rest (drop n s) (flatMap faceWords (t .faces) ++ [])) behind-vertices (v .rest)) in
+      let f = faces-told s (t .faces) 0 [] cornered
+      (subst (λ (n : ℕ). Rest (drop n s) (flatMap faceWords (t .faces) ++ [])) behind-vertices (v .rest)) in
       let counted : wholes false 3 s (after s 1) ≡ At (after s 4) = rw (a .whole, b .whole, c .whole) in
       let rows-read : wholes true (verticesOf s * numbersOf s) s (after s 4) ≡ At (faceAt s 0) =
       ap₂ (λ (n k : ℕ). wholes true n s (after s k)) many zero-behind ∙ v .read ∙ ap At behind-vertices in

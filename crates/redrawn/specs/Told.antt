@@ -45,7 +45,8 @@ module _ (s : List ℕ) (i e : ℕ) (w : Word) (spelt : slice i e s ≡ w) where
   head-is h =
       let k : i < e = omega (arith, inside 0 h) in
       let z : i + 0 ≡ i = omega arith in
-      sym (getD-take e s i 0 k) ∙ ap (λ (j : ℕ). getD (take e s) j 0) (sym z) ∙ sym (getD-drop i (take e s) 0 0) ∙ ap (λ (l : List ℕ). getD l 0 0) spelt
+      sym (getD-take e s i 0 k) ∙ ap (λ (j : ℕ). getD (take e s) j 0) (sym z) ∙ sym (getD-drop i (take e s) 0 0)
+      ∙ ap (λ (l : List ℕ). getD l 0 0) spelt
 
   -- its digits start m bytes behind i
   module _ (g : Bool) (m n : ℕ) (b : bodyOf g s i ≡ i + m) (d : drop m w ≡ decimal n) where
@@ -95,7 +96,8 @@ module _ (s : List ℕ) (i e : ℕ) (w : Word) (spelt : slice i e s ≡ w) where
   number-told (pos n) d =
       let some : 0 < length w = omega (arith, ap length d, decimal-some n) in
       let q : minusAt true s i ≡ false =
-      starts s i e w spelt some (ap (λ (l : List ℕ). eqb (getD l 0 0) 45) d ∙ first-digit (decimal n) (decimal-digits n) (decimal-some n)) in
+      starts s i e w spelt some (ap (λ (l : List ℕ). eqb (getD l 0 0) 45) d
+      ∙ first-digit (decimal n) (decimal-digits n) (decimal-some n)) in
       let b : bodyOf true s i ≡ i + 0 = body s i e w spelt q ∙ (omega arith) in
       (whole-is s i e w spelt true 0 n b d, ap₂ made q (size-is s i e w spelt true 0 n b d))
   number-told (negsuc k) d =

@@ -47,7 +47,8 @@ unfolding separates
 not-blank c h = rw (ne-eqb c 32 (λ e. omega arith), ne-eqb c 10 (λ e. omega arith), ne-eqb c 35 (λ e. omega arith))
 
 pub decimal-worded : (n : ℕ) → Worded (decimal n)
-decimal-worded n = record { some = decimal-some n; bare = each-map (λ c h. not-blank c (omega (arith, h .least))) (decimal n) (decimal-digits n) }
+decimal-worded n =
+    record { some = decimal-some n; bare = each-map (λ c h. not-blank c (omega (arith, h .least))) (decimal n) (decimal-digits n) }
 
 pub signed-worded : (z : ℤ) → Worded (signedDecimal z)
 unfolding signedDecimal
@@ -62,10 +63,12 @@ pub record Line (l : List Word) : Type 0 where
   pub is : l ≡ first ∷ others
   pub worded : Each Worded l
 
-line-tells : (w : Word) (ws : List Word) → Each Worded (w ∷ ws) → {t : List ℕ} {us : List Word} → Tells t us → Tells (line (w ∷ ws) ++ t) ((w ∷ ws) ++ us)
+line-tells : (w : Word) (ws : List Word) → Each Worded (w ∷ ws) → {t : List ℕ} {us : List Word} → Tells t us →
+    Tells (line (w ∷ ws) ++ t) ((w ∷ ws) ++ us)
 line-tells w [] h {t} {us} x = subst (λ (l : List ℕ). Tells l (w ∷ us)) (sym (append-assoc w (10 ∷ []) t)) (more (h .0) a-newline x)
 line-tells w (v ∷ vs) h {t} {us} x =
-    subst (λ (l : List ℕ). Tells l (w ∷ (v ∷ vs) ++ us)) (sym (append-assoc w (32 ∷ line (v ∷ vs)) t)) (more (h .0) a-space (line-tells v vs (h .1) x))
+    subst (λ (l : List ℕ). Tells l (w ∷ (v ∷ vs) ++ us)) (sym (append-assoc w (32 ∷ line (v ∷ vs)) t))
+    (more (h .0) a-space (line-tells v vs (h .1) x))
 
 pub lines-tell : (l : List Word) → Line l → {t : List ℕ} {us : List Word} → Tells t us → Tells (line l ++ t) (l ++ us)
 lines-tell l h {t} {us} x =
@@ -99,7 +102,8 @@ gap-none : (w : Word) → Worded w → (t : List ℕ) → gap false (w ++ t) ≡
 gap-none [] h t = absurd (omega (arith, h .some))
 gap-none (c ∷ w) h t = gap-word c (w ++ t) (h .bare .0)
 
-word-length : (w : Word) → Each (λ (c : ℕ). separates c ≡ false) w → (c : ℕ) (t : List ℕ) → separates c ≡ true → word (w ++ (c ∷ t)) ≡ length w
+word-length : (w : Word) → Each (λ (c : ℕ). separates c ≡ false) w → (c : ℕ) (t : List ℕ) → separates c ≡ true →
+    word (w ++ (c ∷ t)) ≡ length w
 unfolding word
 word-length [] h c t e = rw e
 word-length (b ∷ w) h c t e = rw (h .0, word-length w (h .1) c t e)
@@ -112,7 +116,8 @@ pub record Item (s : List ℕ) (at : ℕ) (w : Word) (ws : List Word) : Type 0 w
 drop-take : (i n : ℕ) (s : List ℕ) → drop i (take (i + n) s) ≡ take n (drop i s)
 drop-take zero n s = let e : 0 + n ≡ n = omega arith in ap (λ (k : ℕ). take k s) e
 drop-take (suc i) n [] = ap (drop (suc i)) (take-nil {A = ℕ} (suc i + n)) ∙ sym (take-nil {A = ℕ} n)
-drop-take (suc i) n (x ∷ s) = let e : suc i + n ≡ suc (i + n) = omega arith in ap (λ (k : ℕ). drop (suc i) (take k (x ∷ s))) e ∙ drop-take i n s
+drop-take (suc i) n (x ∷ s) =
+    let e : suc i + n ≡ suc (i + n) = omega arith in ap (λ (k : ℕ). drop (suc i) (take k (x ∷ s))) e ∙ drop-take i n s
 
 pub next-item : (s : List ℕ) (at : ℕ) (w : Word) (ws : List Word) → Rest (drop at s) (w ∷ ws) → Item s at w ws
 unfolding startOf wordEnd

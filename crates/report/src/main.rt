@@ -21,8 +21,9 @@ use table::ENDS;
 use table::Ends;
 use table::Masks;
 
-// What is held at once, 64 KiB: the 4,096 bytes that `io` takes; the scene, where one byte more than the longest tells that the input is too long; the
-// survey's tables, two bytes for an end and eight for a word, of both solids; a sixth of the longest listing, two bytes for each number; and the text.
+// What is held at once, 64 KiB: the 4,096 bytes that `io` takes; the scene, where one byte more than the longest tells that the input is
+// too long; the survey's tables, two bytes for an end and eight for a word, of both solids; a sixth of the longest listing, two bytes for
+// each number; and the text.
 const HELD: usize = 65536;
 
 const IO: usize = 4096;

@@ -79,7 +79,8 @@ or-three : (a b c : Bool) → ((a || b) || c) ≡ (a || (b || c))
 or-three true b c = refl
 or-three false b c = refl
 
-pub marks-both : (low n : ℕ) (e : Entry) (l : List ℕ) {l1 l2 : List ℕ} {x y a b : ℕ} {o : Bool} → n ≤ 64 → low + n < words → length l ≡ words → EndsIn low n e →
+pub marks-both : (low n : ℕ) (e : Entry) (l : List ℕ) {l1 l2 : List ℕ} {x y a b : ℕ} {o : Bool} → n ≤ 64 → low + n < words →
+    length l ≡ words → EndsIn low n e →
     o ≡ isOdd (e .mask) → o ≡ true → x ≡ e .low → y ≡ e .high → a ≡ 2 ^ (y - (low + 1)) → b ≡ 2 ^ (x - (low + 1)) →
     l1 ≡ ored l x a → l2 ≡ ored l1 y b → MarksEntry low n e l l2
 unfolding marks
@@ -122,7 +123,8 @@ marked-more low n j ends masks k m =
       at = λ u h.
           m .at u h (λ i. anyIn (marks u (low + 1 + i)) (entriesIn ends masks j)) (k .at u h)
           ∙ mask-same _ _ 64
-          (λ i b. ap (λ (t : Bool). anyIn (marks u (low + 1 + i)) (entriesIn ends masks j) || t) (or-none (marks u (low + 1 + i) (entryIn ends masks j)))
+          (λ i b. ap (λ (t : Bool). anyIn (marks u (low + 1 + i)) (entriesIn ends masks j) || t)
+          (or-none (marks u (low + 1 + i) (entryIn ends masks j)))
           ∙ sym (any-append (marks u (low + 1 + i)) (entriesIn ends masks j) (entryIn ends masks j ∷ []))
           ∙ ap (anyIn (marks u (low + 1 + i))) (sym (upTo-more (λ j. entryIn ends masks j ∷ []) j)));
     }

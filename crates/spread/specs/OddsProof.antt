@@ -34,7 +34,8 @@ module _ {A : Type 0} (p : A → Bool) (g : ℕ → List A) where
   any-found i (suc n) h e = any-append p (upTo g n) (g n) ∙ by (ℕ-discrete i n) (any-found i n)
     where
       by : Dec (i ≡ n) → (i < n → anyIn p (g i) ≡ true → anyIn p (upTo g n) ≡ true) → (anyIn p (upTo g n) || anyIn p (g n)) ≡ true
-      by (yes d) before = ap (λ (b : Bool). anyIn p (upTo g n) || b) (ap (λ (j : ℕ). anyIn p (g j)) (sym d) ∙ e) ∙ or-true (anyIn p (upTo g n))
+      by (yes d) before =
+          ap (λ (b : Bool). anyIn p (upTo g n) || b) (ap (λ (j : ℕ). anyIn p (g j)) (sym d) ∙ e) ∙ or-true (anyIn p (upTo g n))
       by (no d) before = ap (λ (b : Bool). b || anyIn p (g n)) (before (omega arith) e)
 
   any-nowhere : (n : ℕ) → ((i : ℕ) → i < n → anyIn p (g i) ≡ false) → anyIn p (upTo g n) ≡ false
@@ -73,7 +74,8 @@ module _ (s : Seen) (k : Solid) where
       (λ i b. any-nowhere (marks u v) _ (k .verts)
       (λ m c. one-or-none (marks u v) (entry s k (k .low + 1 + i) (k .low + 1 + m))
       (ltb (k .low + 1 + i) (k .low + 1 + m) && joined (s .face) k (k .low + 1 + i) (k .low + 1 + m))
-      (λ e. h (k .low + 1 + i) (k .low + 1 + m) (ltb-true (k .low + 1 + i) (k .low + 1 + m) (and-left (ltb (k .low + 1 + i) (k .low + 1 + m)) _ e)))))
+      (λ e. h (k .low + 1 + i) (k .low + 1 + m)
+      (ltb-true (k .low + 1 + i) (k .low + 1 + m) (and-left (ltb (k .low + 1 + i) (k .low + 1 + m)) _ e)))))
 
   -- the edge of u and v passes
   found : (u v : ℕ) → Own s k u → Own s k v → u < v → joined (s .face) k u v ≡ true → isOdd (edgeMask s k u v) ≡ true →
@@ -89,7 +91,8 @@ module _ (s : Seen) (k : Solid) where
       (ap₂ (λ (x y : ℕ). anyIn (marks u v) (only (ltb x y && joined (s .face) k x y) (entry s k x y ∷ []))) eu ev
       ∙ rw (lt-ltb u v l, j, o, eq-eqb u u refl, eq-eqb v v refl)))
 
-  edge-odd : (u v : ℕ) → Own s k u → Own s k v → u < v → joined (s .face) k u v ≡ true → anyIn (marks u v) (solidEdges s k) ≡ isOdd (edgeMask s k u v)
+  edge-odd : (u v : ℕ) → Own s k u → Own s k v → u < v → joined (s .face) k u v ≡ true →
+      anyIn (marks u v) (solidEdges s k) ≡ isOdd (edgeMask s k u v)
   unfolding marks
   edge-odd u v hu hv l j = by (isOdd (edgeMask s k u v)) refl
     where
@@ -108,7 +111,8 @@ module _ (s : Seen) (k : Solid) where
   pub joined-back : (u v : ℕ) → joined (s .face) k u v ≡ joined (s .face) k v u
   unfolding joined hasBoth
   joined-back u v i =
-      anyOf (λ f. law (all λ a. all λ b. a && b ≐ b && a) tt (isCorner u (s .face f)) (isCorner v (s .face f)) i) (k .first + 1) (k .first + 1 + k .count)
+      anyOf (λ f. law (all λ a. all λ b. a && b ≐ b && a) tt (isCorner u (s .face f)) (isCorner v (s .face f)) i) (k .first + 1)
+      (k .first + 1 + k .count)
 
   marks-back : (u v : ℕ) → _≡_ {A = Entry → Bool} (marks u v) (marks v u)
   unfolding marks

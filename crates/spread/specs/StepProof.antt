@@ -1,4 +1,5 @@
--- One step of the walk: the neighbours of the vertex that is passed become known, what is known stays right, and less is left. Assumes nothing.
+-- One step of the walk: the neighbours of the vertex that is passed become known, what is known stays right, and less is left.
+-- Assumes nothing.
 use mathlib.Core.Path.{_≡_, refl, sym, ap, ap₂, _∙_}
 use mathlib.Core.Bool.{Bool, true, false, cond, true≢false, _&&_, _||_}
 use mathlib.Core.List.{List}
@@ -87,7 +88,8 @@ module _ (s : Seen) (k : Solid) (ready : Ready s k) (links odds : List ℕ) (are
 
   link-bit : (m : ℕ) → m < k .verts → testBit (getD links u 0) m ≡ joined (s .face) k u (k .low + 1 + m)
   unfolding neighbours
-  link-bit m h = ap (λ (w : ℕ). testBit w m) (are-links u own) ∙ mask-test (λ m. joined (s .face) k u (k .low + 1 + m)) 64 m (omega (arith, few))
+  link-bit m h =
+      ap (λ (w : ℕ). testBit w m) (are-links u own) ∙ mask-test (λ m. joined (s .face) k u (k .low + 1 + m)) 64 m (omega (arith, few))
 
   new-small : new < 2 ^ k .verts
   new-small =
@@ -95,7 +97,9 @@ module _ (s : Seen) (k : Solid) (ready : Ready s k) (links odds : List ℕ) (are
       (or-lt (k .verts) (getD links u 0) (t .known) link-small (r .known-in)) (r .known-in)
 
   new-bit : (m : ℕ) → testBit new m ≡ (testBit (getD links u 0) m || testBit (t .known) m) ⊕ testBit (t .known) m
-  new-bit m = test-xor (bitOr (getD links u 0) (t .known)) (t .known) m ∙ ap (λ (b : Bool). b ⊕ testBit (t .known) m) (test-or (getD links u 0) (t .known) m)
+  new-bit m =
+      test-xor (bitOr (getD links u 0) (t .known)) (t .known) m
+      ∙ ap (λ (b : Bool). b ⊕ testBit (t .known) m) (test-or (getD links u 0) (t .known) m)
 
   abbrev enclosed : ℕ → Bool
   enclosed m = isInside s k (k .low + 1 + m)
@@ -114,7 +118,8 @@ module _ (s : Seen) (k : Solid) (ready : Ready s k) (links odds : List ℕ) (are
       left-bit m h ∙ ap₂ _⊕_ (r .rest m h e) (ne-eqb i m (λ q. true≢false (sym (both .0) ∙ ap (testBit (t .known)) q ∙ e)))
 
   right-kept : (m : ℕ) → m < k .verts →
-      testBit (bitOr (t .inside) (turned new (bitAnd new (getD odds u 0)) (testBit (t .inside) i))) m ≡ (testBit (bitOr (t .known) new) m && enclosed m)
+      testBit (bitOr (t .inside) (turned new (bitAnd new (getD odds u 0)) (testBit (t .inside) i))) m
+      ≡ (testBit (bitOr (t .known) new) m && enclosed m)
   right-kept m h =
       test-or (t .inside) (turned new (bitAnd new (getD odds u 0)) (testBit (t .inside) i)) m
       ∙ ap₂ _||_ (r .right m h)

@@ -30,8 +30,8 @@ module _ (s : Seen) (k : Solid) where
     pub same : r .left ≡ t .left
     pub some : 0 < bitAnd (r .known) (r .left)
 
--- the vertex that is passed next, of those known and left; the neighbours that it makes known, of its word of links; and those of them that are
--- enclosed, of its word of odd edges
+-- the vertex that is passed next, of those known and left; the neighbours that it makes known, of its word of links; and those of them that
+-- are enclosed, of its word of odd edges
 abbrev pub passed : Spread → ℕ
 passed t = trailingZeros 64 (bitAnd (t .known) (t .left))
 

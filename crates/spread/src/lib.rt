@@ -1,5 +1,5 @@
-// The vertices of a solid that the other one encloses, along its edges: one mask toward the far point for each part, and the rest by the oddness
-// of the edges' masks.
+// The vertices of a solid that the other one encloses, along its edges: one mask toward the far point for each part, and the rest by the
+// oddness of the edges' masks.
 ghost use mathlib.Core.Path.{_≡_};
 ghost use Prim.Native.Nat.{_+_, _-_, _^_, _<_};
 ghost use Rattle.laws.specs.Mask.{testBit};

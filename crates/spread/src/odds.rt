@@ -22,7 +22,8 @@ fn wide(x: u16) -> usize
 
 // The ends of edge j, where its mask is odd, are marked in each other's words.
 fn mark_entry(ends: &Ends, masks: &Masks, j: usize, low: usize, verts: usize, odds: &mut Words)
-    requires { ⌜ (j < mostEdges) × (verts ≤ 64) × (low + verts < words) × (length (now odds) ≡ words) × EndsIn low verts (entryIn (now ends) (now masks) j) ⌝ }
+    requires { ⌜ (j < mostEdges) × (verts ≤ 64) × (low + verts < words) × (length (now odds) ≡ words) × EndsIn low verts
+        (entryIn (now ends) (now masks) j) ⌝ }
     ensures { λ _. ⌜ MarksEntry low verts (entryIn (now (ends .entry)) (now (masks .entry)) j) (now (odds .entry)) (now (odds .exit)) ⌝ }
 {
     if !is_odd(mask_at(masks, j)) {

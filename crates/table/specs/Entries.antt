@@ -29,11 +29,13 @@ words-fit n a b h k =
 
 module _ (u v first : ℕ) where
   -- a mask of two words
-  pub hits-join : (a b : ℕ) → a < 2 ^ 64 → maskHits (a + 2 ^ 64 * b) u v first width ≡ maskHits a u v first 64 ++ maskHits b u v (first + 64) 64
+  pub hits-join : (a b : ℕ) → a < 2 ^ 64 →
+      maskHits (a + 2 ^ 64 * b) u v first width ≡ maskHits a u v first 64 ++ maskHits b u v (first + 64) 64
   hits-join a b h =
       upTo-join (λ i. maskHit (testBit (a + 2 ^ 64 * b) i) u v (first + 1 + i)) 64 64
       ∙ ap₂ _++_ (upTo-same _ _ 64 (λ i l. ap (λ (t : Bool). maskHit t u v (first + 1 + i)) (test-low 64 a b i l)))
-      (upTo-same _ _ 64 (λ i l. ap₂ (λ (t : Bool) (f : ℕ). maskHit t u v f) (test-high 64 a b (64 + i) h (omega arith) ∙ ap (testBit b) (behind i)) (next i)))
+      (upTo-same _ _ 64 (λ i l. ap₂ (λ (t : Bool) (f : ℕ). maskHit t u v f)
+      (test-high 64 a b (64 + i) h (omega arith) ∙ ap (testBit b) (behind i)) (next i)))
     where
       behind : (i : ℕ) → 64 + i - 64 ≡ i
       behind i = omega arith
@@ -42,7 +44,8 @@ module _ (u v first : ℕ) where
       next i = omega arith
 
   pub hits-most : (w n : ℕ) → length (maskHits w u v first n) ≤ n
-  hits-most w n = omega (arith, bounded (λ j. maskHit (testBit w j) u v (first + 1 + j)) 1 n (λ j. only-most (testBit w j) _ 1 (omega arith)))
+  hits-most w n =
+      omega (arith, bounded (λ j. maskHit (testBit w j) u v (first + 1 + j)) 1 n (λ j. only-most (testBit w j) _ 1 (omega arith)))
 
   -- as many as the mask has ones
   pub hits-length : (n : ℕ) {w : ℕ} → w < 2 ^ n → length (maskHits w u v first n) ≡ ones w
@@ -51,7 +54,8 @@ module _ (u v first : ℕ) where
       ∙ same n ∙ sym (ones-sum (testBit w) n) ∙ ap ones (word-bits n h)
     where
       same : (n : ℕ) → sumOf (λ j. length (maskHit (testBit w j) u v (first + 1 + j))) n ≡ sumOf (λ j. digit (testBit w j)) n
-      same n = ap (λ (g : ℕ → ℕ). sumOf g n) (λ i j. only-length {A = Hit} (testBit w j) (record { low = u; high = v; face = first + 1 + j }) i)
+      same n =
+          ap (λ (g : ℕ → ℕ). sumOf g n) (λ i j. only-length {A = Hit} (testBit w j) (record { low = u; high = v; face = first + 1 + j }) i)
 
   none-before : (w n : ℕ) → ((i : ℕ) → i < n → testBit w i ≡ false) → [] ≡ maskHits w u v first n
   none-before w n h = sym (upTo-none _ n (λ i b. ap (λ (t : Bool). maskHit t u v (first + 1 + i)) (h i b)))
@@ -85,11 +89,13 @@ module _ (first : ℕ) (e : Entry) where
   unfolding entryHits
   entry-none h = hits-none (e .low) (e .high) first width h
 
-  pub entry-first : e .mask < 2 ^ width → 0 < e .mask → Pair (e .low) (e .high) (first + 1 + trailingZeros width (e .mask)) ≡ firstOf (entryHits first e)
+  pub entry-first : e .mask < 2 ^ width → 0 < e .mask →
+      Pair (e .low) (e .high) (first + 1 + trailingZeros width (e .mask)) ≡ firstOf (entryHits first e)
   unfolding entryHits
   entry-first h some = hits-first (e .low) (e .high) first width h some
 
   pub entry-words : (m : Mask) → valueOf m ≡ e .mask → m .low < 2 ^ 64 →
       maskHits (m .low) (e .low) (e .high) first 64 ++ maskHits (m .high) (e .low) (e .high) (first + 64) 64 ≡ entryHits first e
   unfolding entryHits valueOf
-  entry-words m v h = sym (hits-join (e .low) (e .high) first (m .low) (m .high) h) ∙ ap (λ (w : ℕ). maskHits w (e .low) (e .high) first width) v
+  entry-words m v h =
+      sym (hits-join (e .low) (e .high) first (m .low) (m .high) h) ∙ ap (λ (w : ℕ). maskHits w (e .low) (e .high) first width) v

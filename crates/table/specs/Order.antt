@@ -38,11 +38,13 @@ both-false true b e = e
 both-false false b e = refl
 
 -- a neighbour is a vertex of the solid
-pub not-joined : (face : ℕ → Face) (k : Solid) (u v : ℕ) → Corners face k → (Vertex (k .low) (k .low + k .verts) v → ⊥) → joined face k u v ≡ false
+pub not-joined : (face : ℕ → Face) (k : Solid) (u v : ℕ) → Corners face k → (Vertex (k .low) (k .low + k .verts) v → ⊥) →
+    joined face k u v ≡ false
 unfolding joined anyOf over hasBoth
 not-joined face k u v corners out =
     any-none (λ f. hasBoth u v (face f)) (k .first + 1) (k .first + 1 + k .count - (k .first + 1))
-    (λ f a b. both-false (isCorner u (face f)) (isCorner v (face f)) (outside (k .low) (k .verts) v (face f) (corners f (omega arith) (omega arith)) out))
+    (λ f a b. both-false (isCorner u (face f)) (isCorner v (face f))
+    (outside (k .low) (k .verts) v (face f) (corners f (omega arith) (omega arith)) out))
 
 -- the vertices above the i-th (from 0) that an edge joins it to: bit j stands for the j-th of those above
 unfoldable upWord : (ℕ → Face) → Solid → ℕ → ℕ
@@ -99,7 +101,8 @@ module _ (s : Seen) (k : Solid) (sound : Sound s k) where
     unfolding upWord vertexEdges
     by-bits =
         let fits : words.width - (i + 1) ≤ 64 = omega arith in
-        let pair : ℕ → List Entry = λ m. only (ltb u (k .low + 1 + m) && joined (s .face) k u (k .low + 1 + m)) (entry s k u (k .low + 1 + m) ∷ []) in
+        let pair : ℕ → List Entry = λ m. only (ltb u (k .low + 1 + m) && joined (s .face) k u (k .low + 1 + m))
+        (entry s k u (k .low + 1 + m) ∷ []) in
         let all : i + 1 + (k .verts - (i + 1)) ≡ k .verts = omega arith in
         let wide : k .verts - (i + 1) + (words.width - k .verts) ≡ words.width - (i + 1) = omega (arith, sound .vertices .0) in
         let few : List Entry = upTo (λ j. only (above j) (edge j)) (k .verts - (i + 1)) in
@@ -162,7 +165,8 @@ module _ (s : Seen) (k : Solid) (sound : Sound s k) where
       (each-one g (entry s k (k .low + 1 + i) (k .low + 1 + m)) ∙ all-faces (k .low + 1 + i) (k .low + 1 + m))))
 
   -- so a table of the solid's edges has the solid's part of the listing
-  pub table-hits : (ends masks : List ℕ) (n : ℕ) → entriesIn ends masks n ≡ solidEdges s k → tableHits (k .other) ends masks n ≡ solidHits s k
+  pub table-hits : (ends masks : List ℕ) (n : ℕ) → entriesIn ends masks n ≡ solidEdges s k →
+      tableHits (k .other) ends masks n ≡ solidHits s k
   unfolding entriesIn
   table-hits ends masks n e =
       upTo-same _ _ n (λ j b. sym (each-one (entryHits (k .other)) (entryIn ends masks j)))

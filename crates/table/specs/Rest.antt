@@ -34,8 +34,10 @@ module _ (u v first : ℕ) where
         long = refl;
       }
 
-  pub rest-turn : (w : ℕ) {whole : List Hit} {from seen n f : ℕ} {d d₁ d₂ : List ℕ} → 0 < w → w < 2 ^ 64 → f ≡ first + 1 + trailingZeros 64 w →
-      Rest (bitHits u v first w) whole from seen d d₁ n → d₂ ≡ stepped d₁ from n (record { low = u; high = v; face = f }) → length d₂ ≡ length d₁ →
+  pub rest-turn : (w : ℕ) {whole : List Hit} {from seen n f : ℕ} {d d₁ d₂ : List ℕ} → 0 < w → w < 2 ^ 64 →
+      f ≡ first + 1 + trailingZeros 64 w →
+      Rest (bitHits u v first w) whole from seen d d₁ n → d₂ ≡ stepped d₁ from n (record { low = u; high = v; face = f }) →
+      length d₂ ≡ length d₁ →
       Rest (bitHits u v first (bitAnd w (w - 1))) whole from seen d d₂ (n + 1)
   unfolding each poured
   rest-turn w {whole} {from} {seen} {n} {f} {d} {d₁} {d₂} some h ef s e l =

@@ -54,7 +54,8 @@ module _ {A : Type 0} (p : ℕ → Bool) (g : ℕ → List A) where
   passing-from k zero = refl
   passing-from k (suc n) =
       upTo-first (λ j. only (p (k + j)) (g (k + j))) n
-      ∙ ap₂ _++_ (ap (λ (i : ℕ). only (p i) (g i)) (start k)) (upTo-same _ _ n (λ j b. ap (λ (i : ℕ). only (p i) (g i)) (next k j)) ∙ passing-from (suc k) n)
+      ∙ ap₂ _++_ (ap (λ (i : ℕ). only (p i) (g i)) (start k))
+      (upTo-same _ _ n (λ j b. ap (λ (i : ℕ). only (p i) (g i)) (next k j)) ∙ passing-from (suc k) n)
       ∙ head (p k)
     where
       start : (k : ℕ) → k + 0 ≡ k

@@ -67,7 +67,8 @@ fn pour_entry(
     out: &mut [u16],
 ) -> usize
     requires { ⌜ (j < mostEdges) × (first ≤ 2 * limits .mostFaces) × (seen + width < most) ⌝ }
-    ensures { λ r. ⌜ Pours (entryHits first (entryIn (now (ends .entry)) (now (masks .entry)) j)) from seen (now (out .entry)) (now (out .exit)) r ⌝ }
+    ensures { λ r. ⌜ Pours (entryHits first (entryIn (now (ends .entry)) (now (masks .entry)) j)) from seen (now (out .entry))
+        (now (out .exit)) r ⌝ }
 {
     let m = mask_at(masks, j);
     let at = 2 * j;

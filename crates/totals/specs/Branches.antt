@@ -124,11 +124,13 @@ module _ (form : List ℕ) (text : List ℕ) (i : ℕ) (r : Reading) where
     goes-on : leb (length form) (r .at) ≡ false
     goes-on = lt-leb (length form) (r .at) k
 
-    pub read-next : {q w : Reading} → q ≡ nextOf form r (getD text i 0) → readOf form r (drop i text) ≡ w → readOf form q (drop (i + 1) text) ≡ w
+    pub read-next : {q w : Reading} → q ≡ nextOf form r (getD text i 0) → readOf form r (drop i text) ≡ w →
+        readOf form q (drop (i + 1) text) ≡ w
     unfolding readOf
     read-next e inv = rw (e, add-one i) (sym (ap (readOf form r) (drop-cons text i 0 h) ∙ rw goes-on) ∙ inv)
 
-    pub end-next : {q : Reading} {w : ℕ} → q ≡ nextOf form r (getD text i 0) → i + endOf form r (drop i text) ≡ w → i + 1 + endOf form q (drop (i + 1) text) ≡ w
+    pub end-next : {q : Reading} {w : ℕ} → q ≡ nextOf form r (getD text i 0) → i + endOf form r (drop i text) ≡ w →
+        i + 1 + endOf form q (drop (i + 1) text) ≡ w
     unfolding endOf
     end-next {q} e inv =
         let n : endOf form r (drop i text) ≡ suc (endOf form (nextOf form r (getD text i 0)) (drop (suc i) text)) =
@@ -164,5 +166,6 @@ end-within form r (b ∷ t) = go (leb (length form) (r .at)) (end-within form (n
     go true h = omega arith
     go false h = omega arith
 
-pub fed-within : (form : List ℕ) (r : Reading) (t : List ℕ) {f : Fed} → f ≡ record { end = endOf form r t; reading = readOf form r t } → f .end ≤ length t
+pub fed-within : (form : List ℕ) (r : Reading) (t : List ℕ) {f : Fed} → f ≡ record { end = endOf form r t; reading = readOf form r t } →
+    f .end ≤ length t
 fed-within form r t e = omega (arith, ap (λ (f : Fed). f .end) e, end-within form r t)

@@ -60,7 +60,8 @@ grown-by n [] = refl
 grown-by n (b ∷ t) = ap (λ (x : ℕ). grownBy x t) (grown-held n b) ∙ grown-by (n * 10 + (b - 48)) t
 
 pub grown-decimal : (n : ℕ) → grownBy 0 (decimal n) ≡ held n
-grown-decimal n = ap (λ (x : ℕ). grownBy x (decimal n)) (sym (at-most-low largest 0 (omega arith))) ∙ grown-by 0 (decimal n) ∙ ap held (number-back n)
+grown-decimal n =
+    ap (λ (x : ℕ). grownBy x (decimal n)) (sym (at-most-low largest 0 (omega arith))) ∙ grown-by 0 (decimal n) ∙ ap held (number-back n)
 
 is-digit : {b : ℕ} → IsDigit b → isDigit b ≡ true
 unfolding isDigit
@@ -91,7 +92,9 @@ pub record Lettered (form : List ℕ) (p c x : ℕ) : Type 0 where
 -- told by a test
 unfoldable pub isLettered : List ℕ → ℕ → Bool
 isLettered form p =
-    ltb 0 p && (ltb (p + 1 + 1) (length form) && (eqb (byteAt form p) 64 && (isLetter (byteAt form (p + 1)) && not (isDigit (byteAt form (p + 1 + 1))))))
+    ltb 0 p
+    && (ltb (p + 1 + 1)
+    (length form) && (eqb (byteAt form p) 64 && (isLetter (byteAt form (p + 1)) && not (isDigit (byteAt form (p + 1 + 1))))))
 
 not-first : (c : ℕ) → isLetter c ≡ true → eqb c 64 ≡ false
 unfolding isLetter
@@ -146,7 +149,8 @@ module _ (form : List ℕ) (p c x : ℕ) (f : Lettered form p c x) (whole : ℕ)
   more-digits n (b ∷ t) h rest = rw (f .more-on, more-digit n b (is-digit (h .0))) (more-digits (grown n b) t (h .1) rest)
 
   digits : (t : List ℕ) → Each IsDigit t → 0 < length t → (rest : List ℕ) → readOf form (known p 0 whole totals longer) (t ++ (x ∷ rest))
-      ≡ readOf form (known (turned form (p + 1 + 1 + 1)) 0 (wholeOf c x (grownBy 0 t) whole) (countedOf totals c x (grownBy 0 t) whole) longer) rest
+      ≡ readOf form
+      (known (turned form (p + 1 + 1 + 1)) 0 (wholeOf c x (grownBy 0 t) whole) (countedOf totals c x (grownBy 0 t) whole) longer) rest
   unfolding readOf
   digits [] h some rest = absurd (omega arith)
   digits (b ∷ t) h some rest =

@@ -10,8 +10,8 @@ use Rattle.scene.specs.Bytes.{byteAt}
 use Rattle.items.specs.Numbers.{isDigit, largest, atMost}
 use Rattle.totals.specs.declared.Reading.{Reading}
 
--- ---- a form: bytes that stand in the text as they are; `@`, 64, for a number's first digit, and behind it a letter, 65 to 90, for the digits that follow;
--- and `|`, 124, where a report ends
+-- ---- a form: bytes that stand in the text as they are; `@`, 64, for a number's first digit, and behind it a letter, 65 to 90, for the
+-- digits that follow; and `|`, 124, where a report ends
 
 unfoldable pub isLetter : ℕ → Bool
 isLetter c = leb 65 c && leb c 90

@@ -2,7 +2,8 @@
 ghost use mathlib.Core.Path.{_≡_};
 ghost use mathlib.Core.Bool.{true, cond};
 ghost use Prim.Native.Nat.{_-_};
-ghost use Rattle.totals.specs.Totals.{reports, isLetter, numberOf, wholeOf, ends, plus, paired, countedOf, begins, startOf, nextOf, readOf, endOf};
+ghost use Rattle.totals.specs.Totals.{reports, isLetter, numberOf, wholeOf, ends, plus, paired, countedOf, begins, startOf, nextOf};
+ghost use Rattle.totals.specs.Totals.{readOf, endOf};
 use held::product;
 use held::sum;
 use items::numbers::is_digit;
@@ -139,7 +140,11 @@ fn next(form: &[u8], r: Reading, b: u8) -> Reading
 }
 
 fn feed(form: &[u8], text: &[u8], r: Reading) -> Fed
-    ensures { λ f. ⌜ f ≡ record { end = endOf (now (form .entry)) r (now (text .entry)); reading = readOf (now (form .entry)) r (now (text .entry)) } ⌝ }
+    ensures { λ f.
+        ⌜ f ≡ record {
+          end = endOf (now (form .entry)) r (now (text .entry));
+          reading = readOf (now (form .entry)) r (now (text .entry));
+        } ⌝ }
 {
     let mut q = r;
     let mut i = 0;

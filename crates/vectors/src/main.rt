@@ -1,5 +1,5 @@
-// Prints the report of each scene on standard input and, where it is accepted, the answers to ten questions about it: by the plain engine, and again by
-// the formula.
+// Prints the report of each scene on standard input and, where it is accepted, the answers to ten questions about it: by the plain engine,
+// and again by the formula.
 ghost use Prim.Native.Nat.{_≤_};
 ghost use lib.ListN.{length};
 use answers::lent;

@@ -1,4 +1,5 @@
--- How large the numbers are that a sentence looks at: a count or a corner is one byte, and no record starts as far as `recordsEnd`. Assumes nothing.
+-- How large the numbers are that a sentence looks at: a count or a corner is one byte, and no record starts as far as `recordsEnd`.
+-- Assumes nothing.
 use Prim.Native.Nat.{ℕ, _+_, _<_}
 
 -- what one byte holds

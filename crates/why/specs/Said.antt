@@ -1,5 +1,5 @@
--- What a sentence leaves in a lent buffer: some text was put at a place. So the place behind is within the buffer, and every byte before the text
--- is as it was. Assumes nothing.
+-- What a sentence leaves in a lent buffer: some text was put at a place. So the place behind is within the buffer, and every byte before
+-- the text is as it was. Assumes nothing.
 use Prim.Native.Nat.{ℕ, suc, _≤_, _<_}
 use mathlib.Core.Path.{_≡_, ap, _∙_}
 use mathlib.Core.List.{List, [], _∷_, _++_}

@@ -1,5 +1,6 @@
-// Why a scene is refused, in one sentence of plain words: which record, at which byte, which value, and the limit or rule that it breaks. It is put into
-// a lent buffer at a place, as far as there is room; the answer is the place behind. No contract says which words are put, only where.
+// Why a scene is refused, in one sentence of plain words: which record, at which byte, which value, and the limit or rule that it breaks.
+// It is put into a lent buffer at a place, as far as there is room; the answer is the place behind. No contract says which words are put,
+// only where.
 ghost use Rattle.why.specs.Said.{Said};
 use judge::Judged;
 use render::newline;

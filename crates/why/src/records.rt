@@ -1,4 +1,5 @@
-// The records of a scene whose counts are within their limits, by their numbers. Every answer is total: a record that the scene lacks is taken as some other.
+// The records of a scene whose counts are within their limits, by their numbers. Every answer is total: a record that the scene lacks is
+// taken as some other.
 ghost use Prim.Native.Nat.{_<_};
 ghost use Rattle.why.specs.Bounds.{OneByte, recordsEnd};
 use scene::Row;

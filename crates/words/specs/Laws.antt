@@ -1,5 +1,5 @@
--- The laws of words as numbers: what the machine forms of a sign and a size, in the form in which a call's answer arrives; and that a number is read
--- back from its decimal. Assumes nothing.
+-- The laws of words as numbers: what the machine forms of a sign and a size, in the form in which a call's answer arrives; and that a
+-- number is read back from its decimal. Assumes nothing.
 use Prim.Native.Nat.{ℕ, zero, suc, _+_, _*_, _-_, _<_, _≤_, _^_}
 use mathlib.Core.Path.{_≡_, refl, sym, ap, ap₂, _∙_}
 use mathlib.Core.Bool.{Bool, true, false, not}
@@ -96,4 +96,5 @@ pub number-read : (z : ℤ) → natAbs z ≤ most → numberOf (signedDecimal z)
 unfolding signedDecimal
 number-read (pos n) h = plain-read (decimal n) (decimal-digits n) (decimal-some n) ∙ ap (λ (k : ℕ). Number (pos k)) (decimal-value n h)
 number-read (negsuc n) h =
-    minus-read (decimal (suc n)) (decimal-digits (suc n)) (decimal-some (suc n)) ∙ ap (λ (k : ℕ). Number (made true k)) (decimal-value (suc n) h)
+    minus-read (decimal (suc n)) (decimal-digits (suc n)) (decimal-some (suc n))
+    ∙ ap (λ (k : ℕ). Number (made true k)) (decimal-value (suc n) h)

@@ -17,7 +17,9 @@ same-length : tie.Need-same-length
 same-length c = search needs
 
 returns : tie.Need-returns
-returns c = let r = c .before .before in by-case (answerLine (ascii "enclosed")) (sym (r .before .before .enclosed .ensures)) (r .enclosed2 .ensures)
+returns c =
+    let r = c .before .before in
+    by-case (answerLine (ascii "enclosed")) (sym (r .before .before .enclosed .ensures)) (r .enclosed2 .ensures)
 
 pub enclosed-spec : {M : Type 1} → statement M
 enclosed-spec = tie.close (tie.spec enclosed-requires enclosed-requires-2 same-length returns)

@@ -17,7 +17,8 @@ same-length : tie.Need-same-length
 same-length c = search needs
 
 returns : tie.Need-returns
-returns c = let r = c .before .before in by-case (answerLine (ascii "pierces")) (sym (r .before .before .pierces .ensures)) (r .pierces2 .ensures)
+returns c =
+    let r = c .before .before in by-case (answerLine (ascii "pierces")) (sym (r .before .before .pierces .ensures)) (r .pierces2 .ensures)
 
 pub pierces-spec : {M : Type 1} → statement M
 pierces-spec = tie.close (tie.spec pierces-requires pierces-requires-2 same-length returns)

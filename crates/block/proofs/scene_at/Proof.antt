@@ -47,4 +47,5 @@ returns-2 c = search scene-none
 pub scene-at-spec : {M : Type 1} → statement M
 scene-at-spec =
     tie.close
-    (tie.spec part-at-requires sub-result part-result-start part-result-end returns sub-result-2 part-result-start-2 part-result-end-2 returns-2)
+    (tie.spec part-at-requires sub-result part-result-start part-result-end returns sub-result-2 part-result-start-2
+    part-result-end-2 returns-2)

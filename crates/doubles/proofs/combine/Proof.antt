@@ -101,7 +101,8 @@ returns-9 c =
     let fc = held (c′ .0 .0) (c .before .before .before .known-told3 .given .0 .1) in
     let d = c .before .d .given in
     let fd = held (d .0 .0) (c .known-told4 .given .0 .1) in
-    (λ i. At (record { x = fa i; y = fb i; z = fc i; w = fd i })) ∙ (λ i. takenBy (sym (a .1) i) (sym (b .1) i) (sym (c′ .1) i) (sym (d .1) i))
+    (λ i. At (record { x = fa i; y = fb i; z = fc i; w = fd i }))
+    ∙ (λ i. takenBy (sym (a .1) i) (sym (b .1) i) (sym (c′ .1) i) (sym (d .1) i))
 
 pub combine-spec : {M : Type 1} → statement M
 combine-spec =

@@ -13,7 +13,8 @@ use Rattle.drawing.proofs.faces.Statement.{statement}
 use Rattle.drawing.proofs.faces.Tie as tie
 
 abbrev Inv-loop : tie.InvT-loop
-Inv-loop out₀ at s first n low p₀ i₀ out p i = (i ≤ n) × Put out₀ at (text (map (λ f. faceWords (lowered low f)) (run (face (tablesOf s)) first i))) out p
+Inv-loop out₀ at s first n low p₀ i₀ out p i =
+    (i ≤ n) × Put out₀ at (text (map (λ f. faceWords (lowered low f)) (run (face (tablesOf s)) first i))) out p
 
 abbrev μ-loop : tie.MeasureT-loop
 μ-loop out₀ at s first n low p₀ i₀ out p i = n - i

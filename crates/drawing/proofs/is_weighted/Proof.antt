@@ -35,7 +35,8 @@ returns : tie.Need-returns Inv-loop μ-loop
 returns c =
     let l = c .before .before .before .before in
     let a = l .before .before .args in
-    weighted-found (row (tablesOf (a .s .now))) (a .first) (a .n) (l .loop .i) (l .loop .inv .1) (c .before .before .before .loop-test .taken)
+    weighted-found (row (tablesOf (a .s .now))) (a .first) (a .n) (l .loop .i) (l .loop .inv .1)
+    (c .before .before .before .loop-test .taken)
     (c .before .before .row .ensures) (c .before .is-one .ensures) (c .if1 .taken)
 
 add-i : tie.Need-add-i Inv-loop μ-loop
@@ -49,7 +50,8 @@ loop-again c =
     let l = c .before .before .before .before in
     let a = l .before .before .args in (
       omega arith,
-      weighted-next (row (tablesOf (a .s .now))) (a .first) (a .n) (l .loop .i) (l .loop .inv .1) (c .before .before .before .loop-test .taken)
+      weighted-next (row (tablesOf (a .s .now))) (a .first) (a .n) (l .loop .i) (l .loop .inv .1)
+          (c .before .before .before .loop-test .taken)
           (c .before .before .row .ensures) (c .before .is-one .ensures) (c .if1 .left),
     )
 

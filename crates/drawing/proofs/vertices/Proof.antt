@@ -13,7 +13,8 @@ use Rattle.drawing.proofs.vertices.Statement.{statement}
 use Rattle.drawing.proofs.vertices.Tie as tie
 
 abbrev Inv-loop : tie.InvT-loop
-Inv-loop out₀ at s first n is-four p₀ i₀ out p i = (i ≤ n) × Put out₀ at (text (map (rowWords is-four) (run (row (tablesOf s)) first i))) out p
+Inv-loop out₀ at s first n is-four p₀ i₀ out p i =
+    (i ≤ n) × Put out₀ at (text (map (rowWords is-four) (run (row (tablesOf s)) first i))) out p
 
 abbrev μ-loop : tie.MeasureT-loop
 μ-loop out₀ at s first n is-four p₀ i₀ out p i = n - i

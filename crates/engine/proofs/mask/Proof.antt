@@ -19,8 +19,10 @@ returns c = omega (arith, c .word .ensures)
 word-requires-2 : tie.Need-word-requires-2
 word-requires-2 c κs =
     let s = c .before in
-    let e = s .pre .1 .1 .1 in
-    (search needs, (search needs, (search needs, (e .0, beside-low (faceIn (now (s .args .corners))) (s .args .first) 64 (omega arith) (e .1)))))
+    let e = s .pre .1 .1 .1 in (
+      search needs,
+      (search needs, (search needs, (e .0, beside-low (faceIn (now (s .args .corners))) (s .args .first) 64 (omega arith) (e .1)))),
+    )
 
 add-word : tie.Need-add-word
 add-word c = search needs
@@ -38,7 +40,8 @@ returns-2 : tie.Need-returns-2
 unfolding valueOf
 returns-2 c =
     let s = c .before .before .before in
-    mask-words (pierced (s .args .n) (rowIn (now (s .args .rows))) (s .args .u) (s .args .v)) (faceIn (now (s .args .corners))) (s .args .first) _
+    mask-words (pierced (s .args .n) (rowIn (now (s .args .rows))) (s .args .u) (s .args .v)) (faceIn (now (s .args .corners)))
+    (s .args .first) _
     (c .before .before .if1 .left) (c .before .word2 .ensures) (c .word3 .ensures)
 
 pub mask-spec : {M : Type 1} → statement M

@@ -13,7 +13,8 @@ use Rattle.engine.proofs.word.Statement.{statement}
 use Rattle.engine.proofs.word.Tie as tie
 
 abbrev Inv-loop : tie.InvT-loop
-Inv-loop engine rows corners n u v first count word₀ k₀ word k = (k ≤ count) × (word ≡ maskAgainst n (rowIn rows) (faceIn corners) u v first k)
+Inv-loop engine rows corners n u v first count word₀ k₀ word k =
+    (k ≤ count) × (word ≡ maskAgainst n (rowIn rows) (faceIn corners) u v first k)
 
 abbrev μ-loop : tie.MeasureT-loop
 μ-loop engine rows corners n u v first count word₀ k₀ word k = count - k

@@ -34,7 +34,8 @@ returns c =
     let r1 = r2 .before .before .before .before in
     let spot = r1 .before .before .spot-of .ensures in
     end-to-end (r1 .word .ensures)
-    (end-to-end (number-put (spot .0) (r2 .next-number .ensures)) (end-to-end (r3 .word2 .ensures) (number-put (spot .1) (r4 .next-number2 .ensures))))
+    (end-to-end (number-put (spot .0) (r2 .next-number .ensures))
+    (end-to-end (r3 .word2 .ensures) (number-put (spot .1) (r4 .next-number2 .ensures))))
 
 pub spotted-spec : {M : Type 1} → statement M
 spotted-spec =

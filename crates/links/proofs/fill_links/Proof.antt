@@ -37,7 +37,8 @@ link-face-requires c κs =
     let l = c .before .before .before in
     let s = l .before .before .before .before in
     let ok = s .pre .0 .0 (l .loop .f) (omega arith) (omega arith) in
-    rw (c .face-in .ensures) (omega (arith, l .loop .inv .2 .size, l .before .clear .ensures .size), in-word _ _ (omega arith) ok, omega arith)
+    rw (c .face-in .ensures)
+    (omega (arith, l .loop .inv .2 .size, l .before .clear .ensures .size), in-word _ _ (omega arith) ok, omega arith)
 
 add-f-2 : tie.Need-add-f-2 Inv-loop μ-loop
 add-f-2 c = search needs

@@ -17,7 +17,8 @@ returns : tie.Need-returns
 returns c =
     let s = c .before .before .before in
     let a = s .args in
-    ends-alike (rowIn (now (a .rows))) (a .u) (a .v) (a .f) (c .before .before .positive-at .ensures) (c .before .positive-at2 .ensures) (c .if1 .taken)
+    ends-alike (rowIn (now (a .rows))) (a .u) (a .v) (a .f) (c .before .before .positive-at .ensures)
+    (c .before .positive-at2 .ensures) (c .if1 .taken)
 
 positive-at-requires-3 : tie.Need-positive-at-requires-3
 positive-at-requires-3 c κs = search needs
@@ -34,7 +35,8 @@ returns-2 c =
     (e .if1 .left) (c .before .before .positive-at3 .ensures) (c .before .positive-at4 .ensures) (c .if2 .taken)
 
 positive-at-requires-5 : tie.Need-positive-at-requires-5
-positive-at-requires-5 c κs = let s = c .before .before .before .before .before .before in (search needs, ask-rp (s .pre .1 .0) (s .pre .1 .1))
+positive-at-requires-5 c κs =
+    let s = c .before .before .before .before .before .before in (search needs, ask-rp (s .pre .1 .0) (s .pre .1 .1))
 
 returns-3 : tie.Need-returns-3
 returns-3 c =

@@ -21,7 +21,9 @@ part-result-end : tie.Need-part-result-end
 part-result-end c = search needs
 
 returns : tie.Need-returns
-returns c = ap (λ (k : ℕ). take k (drop (c .before .args .a) (now (c .before .args .s)))) (add-sub-cancel-left (c .before .args .a) (c .before .args .n))
+returns c =
+    ap (λ (k : ℕ). take k (drop (c .before .args .a) (now (c .before .args .s))))
+    (add-sub-cancel-left (c .before .args .a) (c .before .args .n))
 
 pub part-spec : {M : Type 1} → statement M
 part-spec = tie.close (tie.spec add-result sub-result part-result-start part-result-end returns)

@@ -20,7 +20,8 @@ same-length c = search needs
 returns : tie.Need-returns
 returns c =
     let e = c .before .before in
-    digit-behind _ (omega arith) (e .before .digit .ensures) (e .before .before .before .before .before .two-digits .ensures) (e .byte .ensures)
+    digit-behind _ (omega arith) (e .before .digit .ensures) (e .before .before .before .before .before .two-digits .ensures)
+    (e .byte .ensures)
 
 pub three-digits-spec : {M : Type 1} → statement M
 three-digits-spec =

@@ -24,7 +24,8 @@ returns : tie.Need-returns
 returns c =
     let e = c .before .before in
     let t = e .before .before .before .before .before in
-    digit-behind _ (omega arith) (e .before .digit2 .ensures) (one-digit _ (omega arith) (t .before .digit .ensures) (t .byte .ensures)) (e .byte2 .ensures)
+    digit-behind _ (omega arith) (e .before .digit2 .ensures) (one-digit _ (omega arith) (t .before .digit .ensures) (t .byte .ensures))
+    (e .byte2 .ensures)
 
 pub two-digits-spec : {M : Type 1} → statement M
 two-digits-spec =

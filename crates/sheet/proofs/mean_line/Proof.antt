@@ -33,7 +33,8 @@ returns c =
     let r2 = r3 .before .before .before .before in
     let r1 = r2 .before .before .before .before in
     end-to-end (r1 .word .ensures)
-    (end-to-end (r2 .next-number .ensures) (end-to-end (r3 .next-number2 .ensures) (end-to-end (r4 .next-number3 .ensures) (r5 .newline .ensures))))
+    (end-to-end (r2 .next-number .ensures)
+    (end-to-end (r3 .next-number2 .ensures) (end-to-end (r4 .next-number3 .ensures) (r5 .newline .ensures))))
 
 pub mean-line-spec : {M : Type 1} → statement M
 mean-line-spec =

@@ -31,7 +31,8 @@ returns c =
     let r2 = r3 .before .before .before .before in
     let r1 = r2 .before .before .before .before in
     end-to-end (r1 .verdicts .ensures)
-    (end-to-end (r2 .refused-low .ensures) (end-to-end (r3 .refused-high .ensures) (mean-put (r1 .before .before .mean-of .ensures) (r4 .mean-line .ensures))))
+    (end-to-end (r2 .refused-low .ensures)
+    (end-to-end (r3 .refused-high .ensures) (mean-put (r1 .before .before .mean-of .ensures) (r4 .mean-line .ensures))))
 
 pub tallied-spec : {M : Type 1} → statement M
 tallied-spec =

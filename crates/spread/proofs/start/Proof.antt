@@ -36,7 +36,8 @@ add-is-inside-2 c =
 is-inside-requires : tie.Need-is-inside-requires
 is-inside-requires c κs =
     let s = c .before .before .before in
-    let b = word-first 64 (s .args .k .verts) (omega (arith, s .pre .0 .0 .within .sound .vertices .0)) (s .pre .0 .1 .left-in) (s .pre .0 .2) .below in
+    let b = word-first 64 (s .args .k .verts) (omega (arith, s .pre .0 .0 .within .sound .vertices .0)) (s .pre .0 .1 .left-in)
+    (s .pre .0 .2) .below in
     ((s .pre .0 .0 .within .sound, (omega arith, omega (arith, b))), s .pre .1)
 
 returns-2 : tie.Need-returns-2

@@ -50,7 +50,9 @@ returns c =
     let at = s .args .low + 1 + passed t in
     let new = fresh (getD (now (s .args .links)) at 0) t in
     λ j. record {
-      inside = bitOr (t .inside) ((g .turned .ensures ∙ ap (turned new (bitAnd new (getD (now (s .args .odds)) at 0))) (g .before .has .ensures)) j);
+      inside =
+          bitOr (t .inside)
+          ((g .turned .ensures ∙ ap (turned new (bitAnd new (getD (now (s .args .odds)) at 0))) (g .before .has .ensures)) j);
       known = bitOr (t .known) new;
       left = bitXor (t .left) (c .bit .ensures j);
     }

@@ -44,8 +44,10 @@ returns c =
     let r3 = r4 .before .before .before .before in
     let r2 = r3 .before .before .before .before in
     let r1 = r2 .before .before .before .before in
-    end-to-end (r1 .word .ensures) (end-to-end (r2 .next-number .ensures) (end-to-end (r3 .next-number2 .ensures) (end-to-end (r4 .next-number3 .ensures)
-    (end-to-end (r5 .next-number4 .ensures) (end-to-end (r6 .next-number5 .ensures) (end-to-end (r7 .next-number6 .ensures) (r8 .newline .ensures)))))))
+    end-to-end (r1 .word .ensures)
+    (end-to-end (r2 .next-number .ensures) (end-to-end (r3 .next-number2 .ensures) (end-to-end (r4 .next-number3 .ensures)
+    (end-to-end (r5 .next-number4 .ensures)
+    (end-to-end (r6 .next-number5 .ensures) (end-to-end (r7 .next-number6 .ensures) (r8 .newline .ensures)))))))
 
 pub counts-spec : {M : Type 1} → statement M
 counts-spec =

@@ -1,6 +1,6 @@
--- A walk of the code by hand: the borrow of the reader is opened; `part_at` is asked where the scene ends, and `scene_at` for the scene, each
--- with the block and the place, of which the proof knows only that they meet their contracts; the new place is stored, and the borrow is closed.
--- A reader holds its block by `&`, so what it owns is had twice: one copy goes to the callee, the other is kept.
+-- A walk of the code by hand: the borrow of the reader is opened; `part_at` is asked where the scene ends, and `scene_at` for the scene,
+-- each with the block and the place, of which the proof knows only that they meet their contracts; the new place is stored, and the borrow
+-- is closed. A reader holds its block by `&`, so what it owns is had twice: one copy goes to the callee, the other is kept.
 -- Assumes nothing.
 use mathlib.Core.Path.{_≡_, refl, ap}
 use Prim.Native.Nat.{ℕ, _<_, _^_}
@@ -143,7 +143,8 @@ module _ {M : Type 1} (𝓤 : URA M) (H : Heap 𝓤) (A : Atoms 𝓤) (W : Given
       qed W (‵ Own ∷ []) ∵
       use1 W (‵ Own ⊛ ‵ Own) (LL.copy D (T′.the-copy (α κ′)) 𝓤 H A W .twice h (mach ∷ [])) $ split ! $
       use1 W (given (mach ∷ [] ≡ mach ∷ []) (‵ (all-own (D .parts) L vd))) (own-open 𝓤 H A W D L vd mach) $
-      learn ! (λ _. use1 W (‵ (ownAt (D .parts) L 0 (h .block)) ⊛ ‵ (rest (D .parts) L 0 vd)) (own-out 𝓤 H A W (D .parts) L 0 vd) $ split ! $
+      learn !
+      (λ _. use1 W (‵ (ownAt (D .parts) L 0 (h .block)) ⊛ ‵ (rest (D .parts) L 0 vd)) (own-out 𝓤 H A W (D .parts) L 0 vd) $ split ! $
       -- [what the block owns; what the place owns; what the struct owns]
       move ! (1 ∷ []) $ drop ! $ nothing ! $ owned ! usize (Is usize) (uint-makes 𝓤 H A W w64) (h .at) _ (refl, fits) $ fjoin ! $
       move ! (1 ∷ 0 ∷ []) $ fjoin ! $ frame ! $ done !)
@@ -155,7 +156,8 @@ module _ {M : Type 1} (𝓤 : URA M) (H : Heap 𝓤) (A : Atoms 𝓤) (W : Given
   to-scene-goes = qed W (‵ asks ∷ (‵ (flft κ′ q′) ⊛ ‵ ftrue) ∷ []) ∵ move ! (1 ∷ 0 ∷ []) $ join ! $ frame ! $ done !
 
   -- of what the callees ensure, the clause alone: they have no `&mut`, so what is said of last values is dropped
-  part-said : (r : ℕ) → ent 𝓤 (ensured 𝓤 H A part.ended (part.clauses 𝓤 H A at-mem run) (κ′, tt) (h .block, (h .at, tt)) tt r) (fact 𝓤 (r ≡ ends))
+  part-said : (r : ℕ) →
+      ent 𝓤 (ensured 𝓤 H A part.ended (part.clauses 𝓤 H A at-mem run) (κ′, tt) (h .block, (h .at, tt)) tt r) (fact 𝓤 (r ≡ ends))
   part-said r = exE 𝓤 _ (λ ws. snd∗ 𝓤 (sem 𝓤 H A (lasts part.ended (κ′, tt) (h .block, (h .at, tt)) ws)) (fact 𝓤 (r ≡ ends)))
 
   scene-said : (s : RefT (List ℕ)) →
@@ -183,15 +185,20 @@ module _ {M : Type 1} (𝓤 : URA M) (H : Heap 𝓤) (A : Atoms 𝓤) (W : Given
       (known-scene : Triple 𝓤 (C #block·scene-at) (SceneAt 𝓤 H A at-mem run)) where
     walk : ent 𝓤 (onEntry 𝓤 H A next.signature (κ, (κ′, tt)) (q, (q′, tt)) x at) (WpFn 𝓤 H C Λ code.function (vptr b o ∷ []) Post)
     walk =
-        qed W ((‵ (flft κ q) ⊛ ‵ (flft κ′ q′) ⊛ ‵ ftrue) ∷ ‵ (owns (MutRef (named 0) κ (B κ′) ∷ []) x at) ∷ []) ∵ enter ! C Λ code.function (vptr b o ∷ []) _ $
-        alloc1 ! (λ l₀. alloc1 ! (λ l₁. alloc1 ! (λ l₂. alloc1 ! (λ l₃. alloc1 ! (λ l₄. alloc0 ! $ params1 ! $ pass1 ! (init ! 6 refl (tt, tt)) $ pass0 ! $
+        qed W ((‵ (flft κ q) ⊛ ‵ (flft κ′ q′) ⊛ ‵ ftrue) ∷ ‵ (owns (MutRef (named 0) κ (B κ′) ∷ []) x at) ∷ []) ∵ enter ! C Λ code.function
+        (vptr b o ∷ []) _ $
+        alloc1 !
+        (λ l₀. alloc1 !
+        (λ l₁. alloc1 ! (λ l₂. alloc1 ! (λ l₃. alloc1 ! (λ l₄. alloc0 ! $ params1 ! $ pass1 ! (init ! 6 refl (tt, tt)) $ pass0 ! $
         -- the borrow is opened
         move ! (11 ∷ []) $ fsplit ! $ fsplit3 ! $ drop ! $ move ! (13 ∷ []) $ split ! $ move ! (2 ∷ 3 ∷ 0 ∷ []) $
-        opens ! tt (B κ′) {h = h} b o (λ vs. spelt ! (B κ′) (Is (B κ′)) (shows 𝓤 H A (B κ′)) (LL.vals D L) (LL.tells D L) fullShare h vs b o $
+        opens ! tt (B κ′) {h = h} b o
+        (λ vs. spelt ! (B κ′) (Is (B κ′)) (shows 𝓤 H A (B κ′)) (LL.vals D L) (LL.tells D L) fullShare h vs b o $
         use1 W (‵ (fat fullShare (T′.mir erased) b o mach)) (W .laws .raw-at fullShare (T′.mir erased) b o mach) $
         move ! (1 ∷ []) $ peeks ! (B κ′) (Is (B κ′)) (shows 𝓤 H A (B κ′)) h (mach ∷ []) (λ was. move ! (1 ∷ 0 ∷ []) $
         let wt = LL.lawful D L 𝓤 H A W .typed h _ was .0 in
-        -- [the struct's cell; what a Reader owns; the open borrow; obs; auth; 'a's token; nothing; _4; …; _3; …; _2; …; _1; …; room for _0; …]
+        -- [the struct's cell; what a Reader owns; the open borrow; obs; auth; 'a's token; nothing; _4; …; _3; …; _2; …; _1; …; room for _0;
+        -- …]
         assigns ! (of-opd ! (load ! (from ! (hop ! (look ! 13 refl) (fld ! refl (stop !)))) (look-in ! 0 (sub ! 0 refl (whole !)))))
         (from ! (stop !)) (init ! 11 refl (tt, wt .1 .0)) $
         assigns ! (of-opd ! (load ! (from ! (hop ! (look ! 13 refl) (fld ! refl (stop !)))) (look-in ! 0 (sub ! 1 refl (whole !)))))
@@ -199,13 +206,16 @@ module _ {M : Type 1} (𝓤 : URA M) (H : Heap 𝓤) (A : Atoms 𝓤) (W : Given
         -- the call of `part_at`
         move ! (1 ∷ []) $ use1 W (‵ asks ⊛ ‵ Own) (apart (wt .1 .1 .0 .fits)) $ split ! $ move ! (0 ∷ 6 ∷ []) $
         use2 W (raw (PartAt 𝓤 H A at-mem run .pre to-part)) to-part-goes $
-        -- [what is asked; what a Reader owns; the struct's cell; the open borrow; obs; auth; nothing; _4; …; _3; …; _2; …; _1; …; room for _0; …]
+        -- [what is asked; what a Reader owns; the struct's cell; the open borrow; obs; auth; nothing; _4; …; _3; …; _2; …; _1; …; room for
+        -- _0; …]
         calls-at ! fm (PartAt 𝓤 H A at-mem run) known-part to-part
         (and-then ! (load ! (from ! (stop !)) (look ! 11 refl)) (and-then ! (load ! (from ! (stop !)) (look ! 9 refl)) (no-more !))) (λ u.
         use1 W (later (some (λ (n : ℕ). ((‵ (flft κ′ q′) ⊛ ‵ ftrue) ⊛ ‵ (usize .own n (u ∷ [])))
-        ⊛ raw (ensured 𝓤 H A part.ended (part.clauses 𝓤 H A at-mem run) (κ′, tt) (h .block, (h .at, tt)) tt n)))) (id⊢ 𝓤 _) $ await ! tt $ pick ! (λ n.
+        ⊛ raw (ensured 𝓤 H A part.ended (part.clauses 𝓤 H A at-mem run) (κ′, tt) (h .block, (h .at, tt)) tt n))))
+        (id⊢ 𝓤 _) $ await ! tt $ pick ! (λ n.
         split ! $ move ! (1 ∷ []) $ use1 W (raw (fact 𝓤 (n ≡ ends))) (part-said n) $ heard ! (n ≡ ends) (λ e. split ! $ move ! (1 ∷ []) $
-        -- [the end; the token; what a Reader owns; the struct's cell; the open borrow; obs; auth; nothing; _4; …; _3; …; _2; …; _1; …; room for _0; …]
+        -- [the end; the token; what a Reader owns; the struct's cell; the open borrow; obs; auth; nothing; _4; …; _3; …; _2; …; _1; …; room
+        -- for _0; …]
         peeks ! usize (Is usize) (shows 𝓤 H A usize) n (u ∷ []) (λ is.
         land ! (from ! (stop !)) (init ! 8 refl (uint-lawful 𝓤 H A W w64 .typed n _ is .0)) $
         rewrite ! 8 (λ (u : Val). ‵ (fat fullShare (tyInt w64) l₄ 0 u)) (ap only (is .0)) refl $ drop ! $
@@ -218,8 +228,10 @@ module _ {M : Type 1} (𝓤 : URA M) (H : Heap 𝓤) (A : Atoms 𝓤) (W : Given
         calls-at ! fm (SceneAt 𝓤 H A at-mem run) known-scene to-scene
         (and-then ! (load ! (from ! (stop !)) (look ! 11 refl)) (and-then ! (load ! (from ! (stop !)) (look ! 9 refl)) (no-more !))) (λ w.
         use1 W (later (some (λ (s : RefT (List ℕ)). ((‵ (flft κ′ q′) ⊛ ‵ ftrue) ⊛ ‵ (ShrSlice (named 0) κ′ u8 .own s (w ∷ [])))
-        ⊛ raw (ensured 𝓤 H A scene.ended (scene.clauses 𝓤 H A at-mem run) (κ′, tt) (h .block, (h .at, tt)) tt s)))) (id⊢ 𝓤 _) $ await ! tt $ pick ! (λ s.
-        split ! $ move ! (1 ∷ []) $ use1 W (raw (fact 𝓤 (now s ≡ shown))) (scene-said s) $ heard ! (now s ≡ shown) (λ e′. split ! $ move ! (1 ∷ []) $
+        ⊛ raw (ensured 𝓤 H A scene.ended (scene.clauses 𝓤 H A at-mem run) (κ′, tt) (h .block, (h .at, tt)) tt s))))
+        (id⊢ 𝓤 _) $ await ! tt $ pick ! (λ s.
+        split ! $ move ! (1 ∷ []) $ use1 W (raw (fact 𝓤 (now s ≡ shown))) (scene-said s) $ heard ! (now s ≡ shown)
+        (λ e′. split ! $ move ! (1 ∷ []) $
         peeks ! (ShrSlice (named 0) κ′ u8) (Is (ShrSlice (named 0) κ′ u8)) (shows 𝓤 H A (ShrSlice (named 0) κ′ u8)) s (w ∷ []) (λ is′.
         land ! (from ! (stop !)) (init ! 16 refl (shr-slice-lawful 𝓤 H A W (named 1) κ′ u8 .typed s (w ∷ []) is′ .0)) $
         -- the borrow is closed, at the new place
@@ -244,7 +256,8 @@ module _ {M : Type 1} (𝓤 : URA M) (H : Heap 𝓤) (A : Atoms 𝓤) (W : Given
       (walk 𝓤 H A W mem run (κs .0) (κs .1 .0) (qs .0) (qs .1 .0) bounds (a .0 .ptr .0) (a .0 .ptr .1) (a .0 .name) (a .0 .now)
       C Λ fm known-part known-scene))
 
-next-meets : {M : Type 1} (𝓤 : URA M) (H : Heap 𝓤) (A : Atoms 𝓤) (W : Given 𝓤 H A) (mem : Memory → SProp 𝓤) (run : Routine → Fun 𝓤) (𝓣 : Tables 𝓤 H)
+next-meets : {M : Type 1} (𝓤 : URA M) (H : Heap 𝓤) (A : Atoms 𝓤) (W : Given 𝓤 H A) (mem : Memory → SProp 𝓤) (run : Routine → Fun 𝓤)
+    (𝓣 : Tables 𝓤 H)
     → Triple 𝓤 (𝓣 .C #block·part-at) (PartAt 𝓤 H A mem run) → Triple 𝓤 (𝓣 .C #block·scene-at) (SceneAt 𝓤 H A mem run)
     → Meets 𝓤 H A next.signature (WpFn 𝓤 H (𝓣 .C) (𝓣 .Λ) code.function) (next.spec 𝓤 H A mem run)
 next-meets 𝓤 H A W mem run 𝓣 known-part known-scene =
@@ -258,5 +271,7 @@ next-spec 𝓤 H 𝓜 𝓖 𝓡 =
     entered 𝓤 H (tripleOf 𝓤 H (𝓖 .A) next.signature (next.spec 𝓤 H (𝓖 .A) (𝓜 .mem) (𝓡 .run)))
     (tables 𝓤 H 𝓜 𝓡 code.env .C) (tables 𝓤 H 𝓜 𝓡 code.env .Λ) #block·next code.function (code.unfolded 𝓤 H 𝓜 𝓡)
     (next-meets 𝓤 H (𝓖 .A) (givenOf 𝓤 H 𝓜 𝓖) (𝓜 .mem) (𝓡 .run) (tablesOf 𝓤 H 𝓜 (tables 𝓤 H 𝓜 𝓡 code.env))
-    (cited 𝓤 H (PartAt 𝓤 H (𝓖 .A) (𝓜 .mem) (𝓡 .run)) 𝓜 𝓡 code.env #block·part-at part-def.routine code.calls-block·part-at (part-thm.met 𝓤 H 𝓜 𝓖 𝓡))
-    (cited 𝓤 H (SceneAt 𝓤 H (𝓖 .A) (𝓜 .mem) (𝓡 .run)) 𝓜 𝓡 code.env #block·scene-at scene-def.routine code.calls-block·scene-at (scene-thm.met 𝓤 H 𝓜 𝓖 𝓡)))
+    (cited 𝓤 H (PartAt 𝓤 H (𝓖 .A) (𝓜 .mem) (𝓡 .run)) 𝓜 𝓡 code.env #block·part-at part-def.routine code.calls-block·part-at
+    (part-thm.met 𝓤 H 𝓜 𝓖 𝓡))
+    (cited 𝓤 H (SceneAt 𝓤 H (𝓖 .A) (𝓜 .mem) (𝓡 .run)) 𝓜 𝓡 code.env #block·scene-at scene-def.routine code.calls-block·scene-at
+    (scene-thm.met 𝓤 H 𝓜 𝓖 𝓡)))

@@ -27,7 +27,9 @@ same-length-2 : tie.Need-same-length-2
 same-length-2 c = search needs
 
 returns-2 : tie.Need-returns-2
-returns-2 c = answered-by _ _ (c .before .before .before .before .before .before .reverse .ensures) (c .before .before .j .given .1) (c .number .ensures)
+returns-2 c =
+    answered-by _ _ (c .before .before .before .before .before .before .reverse .ensures) (c .before .before .j .given .1)
+    (c .number .ensures)
 
 pub bodhranhaze-reverse-spec : {M : Type 1} → statement M
 bodhranhaze-reverse-spec =

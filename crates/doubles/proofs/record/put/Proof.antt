@@ -11,7 +11,8 @@ unsigned-requires : tie.Need-unsigned-requires
 unsigned-requires c κs = (narrow (c .before .before .args .r .x) _ 32768 (c .before .before .pre .1 .x) tt tt, le-refl 32768)
 
 unsigned-requires-2 : tie.Need-unsigned-requires-2
-unsigned-requires-2 c κs = (narrow (c .before .before .before .before .args .r .y) _ 32768 (c .before .before .before .before .pre .1 .y) tt tt, le-refl 32768)
+unsigned-requires-2 c κs =
+    (narrow (c .before .before .before .before .args .r .y) _ 32768 (c .before .before .before .before .pre .1 .y) tt tt, le-refl 32768)
 
 unsigned-requires-3 : tie.Need-unsigned-requires-3
 unsigned-requires-3 c κs = (

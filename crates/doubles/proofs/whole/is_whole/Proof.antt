@@ -26,14 +26,16 @@ is-finite-requires c κs = search needs
 
 returns-2 : tie.Need-returns-2
 unfolding ofBits neg
-returns-2 c = let s = c .before .before .before in c .is-finite .ensures ∙ low (s .args .x) (subst T (sym (s .good .0 .1)) tt) (c .before .if2 .left)
+returns-2 c =
+    let s = c .before .before .before in c .is-finite .ensures ∙ low (s .args .x) (subst T (sym (s .good .0 .1)) tt) (c .before .if2 .left)
 
 is-finite-requires-2 : tie.Need-is-finite-requires-2
 is-finite-requires-2 c κs = search needs
 
 returns-3 : tie.Need-returns-3
 unfolding ofBits neg
-returns-3 c = let s = c .before .before in c .is-finite2 .ensures ∙ large (s .args .x) (subst T (sym (s .good .0 .1)) tt) (c .before .if1 .left)
+returns-3 c =
+    let s = c .before .before in c .is-finite2 .ensures ∙ large (s .args .x) (subst T (sym (s .good .0 .1)) tt) (c .before .if1 .left)
 
 pub is-whole-spec : {M : Type 1} → statement M
 is-whole-spec =

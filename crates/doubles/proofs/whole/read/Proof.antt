@@ -19,13 +19,15 @@ returns : tie.Need-returns
 unfolding ofBits
 returns c =
     let s = c .before .before .before .before in
-    too-high (s .args .x) (s .args .most) (s .pre) (c .before .before .before .is-whole .ensures) (c .before .before .if1 .taken) (c .if2 .taken)
+    too-high (s .args .x) (s .args .most) (s .pre) (c .before .before .before .is-whole .ensures)
+    (c .before .before .if1 .taken) (c .if2 .taken)
 
 returns-2 : tie.Need-returns-2
 unfolding ofBits
 returns-2 c =
     let s = c .before .before .before .before .before in
-    too-low (s .args .x) (s .args .most) (s .pre) (c .before .before .before .before .is-whole .ensures) (c .before .before .before .if1 .taken) (c .if3 .taken)
+    too-low (s .args .x) (s .args .most) (s .pre) (c .before .before .before .before .is-whole .ensures)
+    (c .before .before .before .if1 .taken) (c .if3 .taken)
 
 float-to-int-t8 : tie.Need-float-to-int-t8
 unfolding ofBits

@@ -27,7 +27,10 @@ unuseds-fault-requires c κs =
     let d = c .before .before in
     let e = d .before .before in
     let p = e .before .before .before .pre in (
-      (rw (e .before .byte .ensures .0) at (d .words-of .ensures .1), rw (e .before .byte .ensures .0, e .byte2 .ensures .0) at (c .words-of2 .ensures .1)),
+      (
+        rw (e .before .byte .ensures .0) at (d .words-of .ensures .1),
+        rw (e .before .byte .ensures .0, e .byte2 .ensures .0) at (c .words-of2 .ensures .1),
+      ),
       (p .1, p .2),
     )
 
@@ -46,7 +49,10 @@ edges-fault-requires c κs =
     let d = w .before .before in
     let e = d .before .before in (
       e .before .before .before .pre .0,
-      (rw (e .before .byte .ensures .0) at (d .words-of .ensures .0), rw (e .before .byte .ensures .0, e .byte2 .ensures .0) at (w .words-of2 .ensures .0)),
+      (
+        rw (e .before .byte .ensures .0) at (d .words-of .ensures .0),
+        rw (e .before .byte .ensures .0, e .byte2 .ensures .0) at (w .words-of2 .ensures .0),
+      ),
     )
 
 returns-2 : tie.Need-returns-2

@@ -65,7 +65,8 @@ returns-2 c =
     let i = w1 .before .before in
     let s = i .before .before .before in
     marks-both _ _ (entryIn (now (s .args .ends)) (now (s .args .masks)) (s .args .j)) _ (s .pre .1) (s .pre .2) (s .pre .3) (s .pre .4)
-    (i .before .is-odd .ensures ∙ ap isOdd (i .before .before .mask-at .ensures .0)) (not-false _ (i .if1 .left)) (w1 .wide .ensures) (w2 .wide2 .ensures)
+    (i .before .is-odd .ensures ∙ ap isOdd (i .before .before .mask-at .ensures .0)) (not-false _ (i .if1 .left)) (w1 .wide .ensures)
+    (w2 .wide2 .ensures)
     (j1 .before .bit .ensures) (c .before .bit2 .ensures) (j1 .join .ensures) (c .join2 .ensures)
 
 pub mark-entry-spec : {M : Type 1} → statement M

@@ -35,7 +35,8 @@ loop-less : tie.Need-loop-less Inv-loop μ-loop
 loop-less c = search needs
 
 loop-again : tie.Need-loop-again Inv-loop μ-loop
-loop-again c = (omega arith, pours-next _ _ (c .before .before .before .before .before .loop .inv .1) (c .before .before .pour-entry .ensures))
+loop-again c =
+    (omega arith, pours-next _ _ (c .before .before .before .before .before .loop .inv .1) (c .before .before .pour-entry .ensures))
 
 same-length : tie.Need-same-length Inv-loop μ-loop
 same-length c = c .before .loop .inv .1 .long

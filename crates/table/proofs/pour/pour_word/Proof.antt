@@ -14,7 +14,8 @@ use Rattle.table.proofs.pour.pour_word.Statement.{statement}
 use Rattle.table.proofs.pour.pour_word.Tie as tie
 
 abbrev Inv-loop : tie.InvT-loop
-Inv-loop w u v first from seen out₀ left₀ n₀ out left n = (left < 2 ^ 64) × Rest (bitHits u v first left) (maskHits w u v first 64) from seen out₀ out n
+Inv-loop w u v first from seen out₀ left₀ n₀ out left n =
+    (left < 2 ^ 64) × Rest (bitHits u v first left) (maskHits w u v first 64) from seen out₀ out n
 
 abbrev μ-loop : tie.MeasureT-loop
 μ-loop w u v first from seen out₀ left₀ n₀ out left n = left
