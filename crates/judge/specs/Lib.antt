@@ -3,4 +3,5 @@ pub mod Laws
 pub mod Cases
 pub mod Tests
 pub mod Words
+pub mod Alone
 pub mod Passed

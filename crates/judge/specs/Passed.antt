@@ -1,4 +1,5 @@
--- What the records that passed say of the faces: three different corners each, with a place in a word. Assumes nothing.
+-- What the records that passed say of the faces: three different corners each, vertices of their solid with a place in a word.
+-- Assumes nothing.
 use Prim.Native.Nat.{ℕ, _+_, _-_, _≤_, _<_}
 use mathlib.Core.Path.{_≡_, sym, ap, _∙_}
 use mathlib.Core.Bool.{true}
@@ -52,6 +53,9 @@ module _ (s : List ℕ) (header : headerFault limits s ≡ Accepted) (records : 
         pq = d .1 .1 .1 .0;
         qr = d .1 .1 .1 .1 .0;
         rp = d .1 .1 .1 .1 .1;
+        p-own = d .0 .1;
+        q-own = d .1 .0 .1;
+        r-own = d .1 .1 .0 .1;
       }
 
 -- as the two calls say it

@@ -1,6 +1,6 @@
 -- A word for each vertex of a solid: bit w of the word of v is set exactly when v and w are corners of an odd number of its faces together.
 -- One pass over the faces turns the bits; the vertices that are used are a word of their own. Assumes nothing.
-use Prim.Native.Nat.{ℕ, suc, _+_, _/_, _%_, _^_, _<_}
+use Prim.Native.Nat.{ℕ, suc, _+_, _/_, _%_, _^_, _≤_, _<_}
 use mathlib.Core.Path.{_≡_, refl, sym, ap, ap₂, _∙_}
 use mathlib.Core.Logic.{_≢_}
 use mathlib.Core.Bool.{Bool, true, false, not, cond, _&&_, _||_}
@@ -18,13 +18,13 @@ use Rattle.laws.specs.Range.{more, anyOf, countOf, any-more, count-more, over-s
 use Rattle.scene.specs.Records.{faces}
 use Rattle.scene.specs.Tables.{cornerAt}
 use Rattle.scene.specs.Faces.{isCorner, hasBoth}
-use Rattle.judge.specs.Judge.{isCornerOf, isEdge, edgeOk, sidesOk}
+use Rattle.judge.specs.Judge.{isCornerOf, isEdge, edgeOk, sidesOk, vertsAt}
 
 -- the bits of a word
 abbrev pub places : ℕ
 places = 64
 
--- the file's face i has three different corners, each with a place in a word
+-- the file's face i has three different corners, each a vertex of its solid with a place in a word
 pub record CornersIn (s : List ℕ) (i : ℕ) : Type 0 where
   pub p : cornerAt s i 0 < places
   pub q : cornerAt s i 1 < places
@@ -32,6 +32,9 @@ pub record CornersIn (s : List ℕ) (i : ℕ) : Type 0 where
   pub pq : cornerAt s i 0 ≢ cornerAt s i 1
   pub qr : cornerAt s i 1 ≢ cornerAt s i 2
   pub rp : cornerAt s i 2 ≢ cornerAt s i 0
+  pub p-own : cornerAt s i 0 ≤ vertsAt s i
+  pub q-own : cornerAt s i 1 ≤ vertsAt s i
+  pub r-own : cornerAt s i 2 ≤ vertsAt s i
 
 abbrev pub FacesIn : List ℕ → Type 0
 FacesIn s = (i : ℕ) → i < faces s → CornersIn s i
@@ -193,7 +196,7 @@ used-more s a k eu et =
 
 -- ---- what a bit says
 
-even-odd : (n : ℕ) → eqb (n % 2) 0 ≡ not (eqb (n % 2) 1)
+pub even-odd : (n : ℕ) → eqb (n % 2) 0 ≡ not (eqb (n % 2) 1)
 even-odd n = go (ℕ-discrete (n % 2) 1)
   where
     go : Dec (n % 2 ≡ 1) → eqb (n % 2) 0 ≡ not (eqb (n % 2) 1)

@@ -1,14 +1,17 @@
 // Refusal 8, a vertex in no face, and refusal 9, an edge that lies in an odd number of its solid's faces.
 ghost use mathlib.Core.Path.{_≡_};
+ghost use mathlib.Core.Bool.{true};
 ghost use Prim.Native.Nat.{_+_, _<_, _≤_};
 ghost use Rattle.scene.specs.Records.{facesA, facesB, verts, vertsA, vertsB, faces};
 ghost use Rattle.scene.specs.Tables.{cornerAt};
 ghost use Rattle.judge.specs.Judge.{andThen, isUsed, unusedFault, unusedsFault, closedAt, edgeFault, edgesFault};
+ghost use Rattle.judge.specs.declared.Judged.the-variants.{Accepted};
 ghost use Rattle.judge.specs.Words.{places, CornersIn, FacesIn, AreWords, usedWord, SideBy, SidesBy};
 use crate::Judged;
 use crate::records::corner;
 use crate::words::PLACES;
 use crate::words::Words;
+use crate::words::are_alone;
 use crate::words::in_even;
 use crate::words::in_used;
 use crate::words::words_of;
@@ -101,11 +104,27 @@ fn edge_fault(s: &[u8], wa: &Words, wb: &Words, i: usize) -> Judged
     Judged::Accepted
 }
 
+// The words alone tell that no edge lies in an odd number of faces.
+fn none_odd(s: &[u8], wa: &Words, wb: &Words) -> bool
+    requires faces { ⌜ FacesIn (now s) × (vertsA (now s) < places) × (vertsB (now s) < places) ⌝ }
+    requires words { ⌜ AreWords (now s) 0 (facesA (now s)) (now wa) × AreWords (now s) (facesA (now s)) (facesB (now s)) (now wb) ⌝ }
+    ensures { λ r. ⌜ (r ≡ true → edgesFault (now (s .entry)) ≡ Accepted) ⌝ }
+{
+    if !are_alone(wa, byte(s, 2)) {
+        return false;
+    }
+    are_alone(wb, byte(s, 4))
+}
+
+// An odd edge is looked for face by face only where there is one.
 fn edges_fault(s: &[u8], wa: &Words, wb: &Words) -> Judged
-    requires faces { ⌜ FacesIn (now s) ⌝ }
+    requires faces { ⌜ FacesIn (now s) × (vertsA (now s) < places) × (vertsB (now s) < places) ⌝ }
     requires words { ⌜ AreWords (now s) 0 (facesA (now s)) (now wa) × AreWords (now s) (facesA (now s)) (facesB (now s)) (now wb) ⌝ }
     ensures { λ r. ⌜ r ≡ edgesFault (now (s .entry)) ⌝ }
 {
+    if none_odd(s, wa, wb) {
+        return Judged::Accepted;
+    }
     let n = offsets::faces(s);
     let mut i = 0;
     while i < n {

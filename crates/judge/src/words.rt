@@ -2,9 +2,11 @@
 // faces.
 ghost use mathlib.Core.Path.{_≡_};
 ghost use Prim.Native.Nat.{ℕ, _+_, _/_, _%_, _^_, _<_};
+ghost use mathlib.Core.Bool.{true};
 ghost use lib.Dec.{eqb};
 ghost use lib.ListN.{length, getD};
 ghost use Rattle.laws.specs.Mask.{testBit};
+ghost use Rattle.judge.specs.Alone.{isAlone, Alone};
 ghost use Rattle.judge.specs.Words.{places, CornersIn, AreWords, usedWord, cornersWord, turned, TurnsFace};
 use crate::records::corner;
 
@@ -56,6 +58,29 @@ pub fn words_of(s: &[u8], a: usize, n: usize, words: &mut Words) -> u64
         k += 1;
     }
     used
+}
+
+// No bit of the word of v is set but that of v.
+fn is_alone(words: &Words, v: usize) -> bool
+    requires { ⌜ v < places ⌝ }
+    ensures { λ r. ⌜ r ≡ isAlone (getD (now (words .entry)) v 0) v ⌝ }
+{
+    (words[v] | bit(v)) == bit(v)
+}
+
+// So it is of each vertex up to n: no two different ones are together in an odd number of faces.
+pub fn are_alone(words: &Words, n: usize) -> bool
+    requires { ⌜ n < places ⌝ }
+    ensures { λ r. ⌜ (r ≡ true → Alone (now (words .entry)) n) ⌝ }
+{
+    let mut v = 0;
+    while v < n + 1 {
+        if !is_alone(words, v) {
+            return false;
+        }
+        v += 1;
+    }
+    true
 }
 
 // v and w are together in an even number of faces.

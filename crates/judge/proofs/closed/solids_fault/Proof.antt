@@ -48,7 +48,7 @@ edges-fault-requires c κs =
     let w = c .before .before .before .before .before in
     let d = w .before .before in
     let e = d .before .before in (
-      e .before .before .before .pre .0,
+      e .before .before .before .pre,
       (
         rw (e .before .byte .ensures .0) at (d .words-of .ensures .0),
         rw (e .before .byte .ensures .0, e .byte2 .ensures .0) at (w .words-of2 .ensures .0),
