@@ -115,10 +115,10 @@ fn point_at(rows: &Rows, i: usize) -> Point
 {
     let at = 4 * i;
     Point {
-        x: rows[at],
-        y: rows[at + 1],
-        z: rows[at + 2],
-        w: rows[at + 3],
+        x: rows[at] as i64,
+        y: rows[at + 1] as i64,
+        z: rows[at + 2] as i64,
+        w: rows[at + 3] as i64,
         n: i as i64,
     }
 }

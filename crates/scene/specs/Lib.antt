@@ -7,6 +7,7 @@ pub mod View
 pub mod Arrays
 pub mod Faces
 pub mod Decode
+pub mod Narrow
 pub mod Signed
 pub mod Read
 pub mod Write

@@ -4,7 +4,7 @@ ghost use Prim.Native.Nat.{_+_, _*_, _≤_};
 ghost use Rattle.scene.specs.Limits.{limits, mostPoints};
 ghost use Rattle.scene.specs.Records.{verts, faces};
 ghost use Rattle.scene.specs.Tables.{tablesOf, row, face};
-ghost use Rattle.scene.specs.Arrays.{rowIn, faceIn, noRows, noCorners};
+ghost use Rattle.scene.specs.Arrays.{rowIn, faceIn, noRows, noCorners, RowWithin, AllWithin, FaceWithin, FacesWithin};
 ghost use Rattle.scene.specs.Decode.{rowSet, faceSet};
 use crate::Corners;
 use crate::Face;
@@ -15,23 +15,24 @@ use crate::read::corners;
 use crate::read::row;
 
 fn put_row(a: &mut Rows, i: usize, p: Row)
-    requires { ⌜ i ≤ mostPoints limits ⌝ }
+    requires { ⌜ (i ≤ mostPoints limits) × RowWithin limits p ⌝ }
     ensures { λ r. ⌜ now (a .exit) ≡ rowSet (now (a .entry)) i p ⌝ }
 {
     let k = 4 * i;
-    let x = p.x;
-    let y = p.y;
-    let z = p.z;
-    let w = p.w;
+    let x = p.x as i16;
+    let y = p.y as i16;
+    let z = p.z as i16;
+    let w = p.w as i16;
     a[k] = x;
     a[k + 1] = y;
     a[k + 2] = z;
     a[k + 3] = w;
 }
 
-// The rows of a scene with no more points than there may be, into an array of zeros.
+// The rows of a scene with no more points than there may be and numbers within the limits, into an array of zeros.
 pub fn rows(s: &[u8], a: &mut Rows)
     requires points { ⌜ verts (now s) + 1 ≤ mostPoints limits ⌝ }
+    requires within { ⌜ AllWithin limits (row (tablesOf (now s))) ⌝ }
     requires empty { ⌜ now a ≡ noRows ⌝ }
     ensures { λ _. ⌜ rowIn (now (a .exit)) ≡ row (tablesOf (now (s .entry))) ⌝ }
 {
@@ -44,21 +45,22 @@ pub fn rows(s: &[u8], a: &mut Rows)
 }
 
 fn put_face(a: &mut Corners, k: usize, f: Face)
-    requires { ⌜ k ≤ 2 * limits .mostFaces ⌝ }
+    requires { ⌜ (k ≤ 2 * limits .mostFaces) × FaceWithin limits f ⌝ }
     ensures { λ r. ⌜ now (a .exit) ≡ faceSet (now (a .entry)) k f ⌝ }
 {
     let i = 3 * k;
-    let p = f.p;
-    let q = f.q;
-    let r = f.r;
+    let p = f.p as u8;
+    let q = f.q as u8;
+    let r = f.r as u8;
     a[i] = p;
     a[i + 1] = q;
     a[i + 2] = r;
 }
 
-// The corners of a scene with no more faces than there may be, into an array of zeros.
+// The corners of a scene with no more faces than there may be and corners within the limits, into an array of zeros.
 pub fn faces(s: &[u8], a: &mut Corners)
     requires faces { ⌜ faces (now s) ≤ 2 * limits .mostFaces ⌝ }
+    requires within { ⌜ FacesWithin limits (face (tablesOf (now s))) ⌝ }
     requires empty { ⌜ now a ≡ noCorners ⌝ }
     ensures { λ _. ⌜ faceIn (now (a .exit)) ≡ face (tablesOf (now (s .entry))) ⌝ }
 {
@@ -75,10 +77,12 @@ pub fn face_in(corners: &Corners, k: usize) -> Face
     requires { ⌜ k ≤ 2 * limits .mostFaces ⌝ }
     ensures { λ r. ⌜ r ≡ faceIn (now (corners .entry)) k ⌝ }
 {
+    // As a slice, whose elements are known to be bytes.
+    let all: &[u8] = corners;
     let at = 3 * k;
     Face {
-        p: corners[at],
-        q: corners[at + 1],
-        r: corners[at + 2],
+        p: all[at] as usize,
+        q: all[at + 1] as usize,
+        r: all[at + 2] as usize,
     }
 }

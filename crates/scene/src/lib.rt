@@ -137,10 +137,10 @@ pub struct Solid {
     pub others: usize,
 }
 
-// A scene's rows and corners, decoded once.
-pub type Rows = [i64; Scene::ROWS];
+// A scene's rows and corners, decoded once, in as few bytes as the limits ask for.
+pub type Rows = [i16; Scene::ROWS];
 
-pub type Corners = [usize; Scene::CORNERS];
+pub type Corners = [u8; Scene::CORNERS];
 
 // The limits of the definitions are those of the scene: changing either alone is refused.
 pub fn limits_agree()

@@ -4,12 +4,13 @@ use mathlib.Core.Path.{ap₂, _∙_}
 use Rattle.clean.specs.Clean.{hasFlat}
 use native.Mathlib.Omega.{arith}
 use denote.Ref.{now}
+use Rattle.rules.specs.Given.{rows-within}
 use Rattle.clean.specs.Scene.{rows-fit, ready}
 use Rattle.clean.proofs.flat_scene.Statement.{statement}
 use Rattle.clean.proofs.flat_scene.Tie as tie
 
 rows-requires : tie.Need-rows-requires
-rows-requires c κs = search rows-fit
+rows-requires c κs = search (rows-fit, rows-within)
 
 byte-requires : tie.Need-byte-requires
 byte-requires c κs = search needs

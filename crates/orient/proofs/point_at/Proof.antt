@@ -1,68 +1,25 @@
--- `orient::point_at` meets its contract: four numbers are read from the array, and the number is small enough to be signed. Assumes nothing.
+-- Four numbers are read from the array and widened, and the number is small enough to be signed.
 use borrow.Author.Needs.{needs}
 use native.Mathlib.Omega.{arith}
+use denote.Ref.{now}
 use mir.Syntax.{w64}
 use mir.ValLaws.{toZ-pos}
+use Rattle.scene.specs.Arrays.{rowIn}
+use Rattle.scene.specs.Narrow.{widens, row-read}
 use Rattle.orient.proofs.point_at.Statement.{statement}
 use Rattle.orient.proofs.point_at.Tie as tie
 
-mul-at : tie.Need-mul-at
-mul-at c = search needs
-
-mul-t4 : tie.Need-mul-t4
-mul-t4 c = search needs
-
-element-copy-out-t7 : tie.Need-element-copy-out-t7
-element-copy-out-t7 c = search needs
-
-add-t8 : tie.Need-add-t8
-add-t8 c = search needs
-
-mul-t9 : tie.Need-mul-t9
-mul-t9 c = search needs
-
-element-copy-out-t12 : tie.Need-element-copy-out-t12
-element-copy-out-t12 c = search needs
-
-add-t13 : tie.Need-add-t13
-add-t13 c = search needs
-
-mul-t14 : tie.Need-mul-t14
-mul-t14 c = search needs
-
-element-copy-out-t17 : tie.Need-element-copy-out-t17
-element-copy-out-t17 c = search needs
-
-add-t18 : tie.Need-add-t18
-add-t18 c = search needs
-
-mul-t19 : tie.Need-mul-t19
-mul-t19 c = search needs
-
-element-copy-out-t22 : tie.Need-element-copy-out-t22
-element-copy-out-t22 c = search needs
-
-cast-t23 : tie.Need-cast-t23
-cast-t23 c = search needs
-
 returns : tie.Need-returns
-returns c = let i = c .before .before .before .before .args .i in rw (toZ-pos w64 i (omega arith)) (search needs)
+returns c =
+    let s = c .before .before .before .before in
+    let e = row-read (rowIn (now (s .args .rows)) (s .args .i)) (search needs) (search needs) (search needs) (search needs) in
+    λ j. record { x = e j .x; y = e j .y; z = e j .z; w = e j .w; n = toZ-pos w64 (s .args .i) (omega arith) j }
 
 pub point-at-spec : {M : Type 1} → statement M
 point-at-spec =
     tie.close
-    (tie.spec
-    mul-at
-    mul-t4
-    element-copy-out-t7
-    add-t8
-    mul-t9
-    element-copy-out-t12
-    add-t13
-    mul-t14
-    element-copy-out-t17
-    add-t18
-    mul-t19
-    element-copy-out-t22
-    cast-t23
-    returns)
+    (tie.spec (λ c. search needs) (λ c. search needs) (λ c. search needs) (λ c. search (needs, widens))
+    (λ c. search needs) (λ c. search needs) (λ c. search needs) (λ c. search (needs, widens))
+    (λ c. search needs) (λ c. search needs) (λ c. search needs) (λ c. search (needs, widens))
+    (λ c. search needs) (λ c. search needs) (λ c. search needs) (λ c. search (needs, widens))
+    (λ c. search needs) returns)

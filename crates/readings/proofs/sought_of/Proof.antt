@@ -1,4 +1,5 @@
 -- Both solids can be asked, and what is told of the arrays is so of the scene.
+use Rattle.rules.specs.Given.{rows-within, faces-within}
 use Rattle.readings.specs.Ready.{rows-fit, faces-fit, decoded}
 use Rattle.readings.specs.Surveys.{to-survey, sought-is}
 use borrow.Author.Needs.{needs}
@@ -11,5 +12,5 @@ seek-requires c κs = (search (to-survey, decoded), search (to-survey, decoded))
 pub sought-of-spec : {M : Type 1} → statement M
 sought-of-spec =
     tie.close
-    (tie.spec (λ c κs. search rows-fit) (λ c κs. search faces-fit) (λ c κs. search needs) (λ c κs. search needs) (λ c κs. search needs)
-    seek-requires (λ c. search (sought-is, decoded)))
+    (tie.spec (λ c κs. search (rows-fit, rows-within)) (λ c κs. search (faces-fit, faces-within)) (λ c κs. search needs)
+    (λ c κs. search needs) (λ c κs. search needs) seek-requires (λ c. search (sought-is, decoded)))

@@ -1,4 +1,5 @@
 -- Both solids can be surveyed, and what is told of the arrays is so of the scene.
+use Rattle.rules.specs.Given.{rows-within, faces-within}
 use Rattle.readings.specs.Ready.{rows-fit, faces-fit, decoded}
 use Rattle.readings.specs.Surveys.{to-survey, survey-is}
 use borrow.Author.Needs.{needs}
@@ -11,5 +12,5 @@ survey-scene-requires c κs = ((search (to-survey, decoded), search (to-survey, 
 pub survey-of-spec : {M : Type 1} → statement M
 survey-of-spec =
     tie.close
-    (tie.spec (λ c κs. search rows-fit) (λ c κs. search faces-fit) (λ c κs. search needs) (λ c κs. search needs) (λ c κs. search needs)
-    survey-scene-requires (λ c. search (survey-is, decoded)))
+    (tie.spec (λ c κs. search (rows-fit, rows-within)) (λ c κs. search (faces-fit, faces-within)) (λ c κs. search needs)
+    (λ c κs. search needs) (λ c κs. search needs) survey-scene-requires (λ c. search (survey-is, decoded)))

@@ -1,5 +1,6 @@
 -- The solid's faces are beside an edge of two points that are none of its vertices.
 use denote.Ref.{now}
+use Rattle.rules.specs.Given.{rows-within, faces-within}
 use Rattle.readings.specs.Ready.{rows-fit, faces-fit, mask-fits, decoded, mask-found}
 use borrow.Author.Needs.{needs}
 use Rattle.kernel.proofs.masks.mask_of.Statement.{statement}
@@ -16,5 +17,5 @@ mask-requires c κs =
 pub mask-of-spec : {M : Type 1} → statement M
 mask-of-spec =
     tie.close
-    (tie.spec (λ c κs. search rows-fit) (λ c κs. search faces-fit) (λ c κs. search needs) (λ c κs. search needs) mask-requires
-    (λ c. search (mask-found, decoded)))
+    (tie.spec (λ c κs. search (rows-fit, rows-within)) (λ c κs. search (faces-fit, faces-within)) (λ c κs. search needs)
+    (λ c κs. search needs) mask-requires (λ c. search (mask-found, decoded)))

@@ -6,6 +6,7 @@ use Rattle.judge.specs.declared.Judged.the-variants.{Accepted}
 use Rattle.scene.specs.View.{viewOf}
 use Rattle.questions.specs.Answers.{piercesFault, piercesIn, piercesOf}
 use Rattle.questions.specs.Laws.{accepted-so, refused-so, own-refused, both-accept, yes-so, no-so}
+use Rattle.rules.specs.Given.{rows-within}
 use Rattle.readings.specs.Ready.{rows-fit, pierces-fit, pierces-found}
 use Rattle.questions.specs.declared.Answer.the-variants.{Refused}
 use borrow.Author.Needs.{needs}
@@ -25,6 +26,6 @@ unfolding piercesOf piercesIn
 pierces-spec =
     tie.close
     (tie.spec (λ c κs. search needs) (λ c. search needs) (λ c. search (refused-so Refused)) (λ c. search needs) (λ c κs. search needs)
-    (λ c. search needs) (λ c. search (own-refused Refused)) (λ c. search needs) (λ c κs. search (rows-fit, accepted-so))
+    (λ c. search needs) (λ c. search (own-refused Refused)) (λ c. search needs) (λ c κs. search (rows-fit, rows-within, accepted-so))
     (λ c κs. search needs) (λ c κs. search needs) pierces-requires (λ c. search (both-accept Refused, accepted-so, yes-so, pierces-found))
     (λ c. search (both-accept Refused, accepted-so, no-so, pierces-found)))

@@ -39,7 +39,7 @@ corners-requires : tie.Need-corners-requires Inv-loop μ-loop
 corners-requires c κs = search needs
 
 put-face-requires : tie.Need-put-face-requires Inv-loop μ-loop
-put-face-requires c κs = search needs
+put-face-requires c κs = (search needs, rw (c .corners .ensures) (c .before .before .before .before .before .before .before .pre .1 .0 _))
 
 add-k : tie.Need-add-k Inv-loop μ-loop
 add-k c = search needs

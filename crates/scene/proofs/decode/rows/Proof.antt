@@ -39,7 +39,7 @@ row-requires : tie.Need-row-requires Inv-loop μ-loop
 row-requires c κs = search needs
 
 put-row-requires : tie.Need-put-row-requires Inv-loop μ-loop
-put-row-requires c κs = search needs
+put-row-requires c κs = (search needs, rw (c .row .ensures) (c .before .before .before .before .before .before .before .pre .1 .0 _))
 
 add-i : tie.Need-add-i Inv-loop μ-loop
 add-i c = search needs

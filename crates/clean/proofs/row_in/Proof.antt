@@ -1,0 +1,21 @@
+-- Each number is widened as it is read.
+use borrow.Author.Needs.{needs}
+use denote.Ref.{now}
+use Rattle.scene.specs.Arrays.{rowIn}
+use Rattle.scene.specs.Narrow.{widens, row-read}
+use Rattle.clean.proofs.row_in.Statement.{statement}
+use Rattle.clean.proofs.row_in.Tie as tie
+
+returns : tie.Need-returns
+returns c =
+    let s = c .before .before .before .before in
+    row-read (rowIn (now (s .args .rows)) (s .args .i)) (search needs) (search needs) (search needs) (search needs)
+
+pub row-in-spec : {M : Type 1} → statement M
+row-in-spec =
+    tie.close
+    (tie.spec (λ c. search needs) (λ c. search needs) (λ c. search needs) (λ c. search (needs, widens))
+    (λ c. search needs) (λ c. search needs) (λ c. search needs) (λ c. search (needs, widens))
+    (λ c. search needs) (λ c. search needs) (λ c. search needs) (λ c. search (needs, widens))
+    (λ c. search needs) (λ c. search needs) (λ c. search needs) (λ c. search (needs, widens))
+    returns)
