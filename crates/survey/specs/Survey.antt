@@ -6,6 +6,7 @@ use Prim.Native.Nat.{ℕ, _*_, _≤_}
 use lib.ListN.{length}
 use Rattle.scene.specs.declared.Solid.{Solid}
 use Rattle.listing.specs.Hits.{Seen, Hit}
+use Rattle.links.specs.Links.{words}
 use Rattle.table.specs.Table.{mostEdges, entriesIn, tableHits}
 use Rattle.table.specs.Edges.{solidEdges}
 use Rattle.spread.specs.Walk.{insideWord}
@@ -21,6 +22,10 @@ pub record Surveyed (s : Seen) (k : Solid) (ends masks : List ℕ) (p : Part) : 
 -- the size of a table's arrays
 abbrev pub Sized : (ends masks : List ℕ) → Type 0
 Sized ends masks = (length ends ≡ 2 * mostEdges) × (length masks ≡ 2 * mostEdges)
+
+-- the size of a table of a word for each point
+abbrev pub Wide : List ℕ → Type 0
+Wide l = length l ≡ words
 
 -- both tables hold no more edges than they have room for
 abbrev pub Fits : Survey → Type 0

@@ -3,7 +3,7 @@ ghost use Rattle.sides.specs.Lent.{Told};
 ghost use Rattle.narrow.specs.Lent.{Parted};
 ghost use Rattle.listing.specs.Hits.{seenIn};
 ghost use Rattle.spread.specs.Ready.{Ready};
-ghost use Rattle.survey.specs.Survey.{Surveyed, Sized};
+ghost use Rattle.survey.specs.Survey.{Surveyed, Sized, Wide};
 use edge_masks::fill_solid;
 use engine::Engine;
 use links::WORDS;
@@ -54,6 +54,8 @@ pub fn survey_solid(
     let mut words: sides::words::Words = [0; 2 * (Scene::MOST_POINTS + 1)];
     let own: sides::words::Words = [0; 2 * (Scene::MOST_POINTS + 1)];
     let cuts: Cuts = [0; 2 * (2 * Scene::MOST_FACES + 1)];
+    let mut links: Words = [0; WORDS];
+    let mut odds: Words = [0; WORDS];
     make_planes(rows, corners, k, k, &mut planes);
     tell_sides(rows, corners, &planes, n, k, &mut words);
     survey_part(
@@ -67,10 +69,12 @@ pub fn survey_solid(
         &cuts,
         ends,
         masks,
+        &mut links,
+        &mut odds,
     )
 }
 
-// The same by the tables of its masks.
+// The same by the tables of its masks. Links and odds are lent for its own words alone: what they held does not matter.
 fn survey_part(
     engine: Engine,
     rows: &Rows,
@@ -82,32 +86,34 @@ fn survey_part(
     cuts: &Cuts,
     ends: &mut Ends,
     masks: &mut Masks,
+    links: &mut Words,
+    odds: &mut Words,
 ) -> Part
     requires solid { ⌜ Ready (seenIn n (now rows) (now corners)) k × Sized (now ends) (now masks) ⌝ }
     requires tables { ⌜ Told (seenIn n (now rows) (now corners)) k (now words)
         × Parted (seenIn n (now rows) (now corners)) k (now own) (now cuts) ⌝ }
-    ensures { λ r. ⌜ Surveyed (seenIn n (now (rows .entry)) (now (corners .entry))) k (now (ends .exit)) (now (masks .exit)) r ⌝ }
+    requires lent { ⌜ Wide (now links) × Wide (now odds) ⌝ }
+    ensures told { λ r. ⌜ Surveyed (seenIn n (now (rows .entry)) (now (corners .entry))) k (now (ends .exit)) (now (masks .exit)) r ⌝ }
+    ensures lent { λ _. ⌜ Wide (now (links .exit)) × Wide (now (odds .exit)) ⌝ }
 {
     let low = k.low;
     let verts = k.verts;
-    let mut links: Words = [0; WORDS];
-    let mut odds: Words = [0; WORDS];
-    fill_links(corners, k, &mut links);
+    fill_links(corners, k, links);
     let edges = fill_solid(
         engine,
         rows,
         corners,
         n,
         k,
-        &links,
+        links,
         words,
         own,
         cuts,
         ends,
         masks,
     );
-    fill_odds(ends, masks, edges, low, verts, &mut odds);
-    let inside = enclosed_word(engine, rows, corners, n, k, &links, &odds, words);
+    fill_odds(ends, masks, edges, low, verts, odds);
+    let inside = enclosed_word(engine, rows, corners, n, k, links, odds, words);
     Part { edges, inside }
 }
 
@@ -134,12 +140,40 @@ pub fn survey_scene(
     let mut wb: sides::words::Words = [0; 2 * (Scene::MOST_POINTS + 1)];
     let mut own: sides::words::Words = [0; 2 * (Scene::MOST_POINTS + 1)];
     let mut cuts: Cuts = [0; 2 * (2 * Scene::MOST_FACES + 1)];
+    let mut links: Words = [0; WORDS];
+    let mut odds: Words = [0; WORDS];
     make_planes(rows, corners, a, b, &mut planes);
     tell_sides(rows, corners, &planes, n, a, &mut wa);
     tell_sides(rows, corners, &planes, n, b, &mut wb);
     tell_parts(corners, a, b, &wb, &mut own, &mut cuts);
-    let of_a = survey_part(engine, rows, corners, n, a, &wa, &own, &cuts, aends, amasks);
+    let of_a = survey_part(
+        engine,
+        rows,
+        corners,
+        n,
+        a,
+        &wa,
+        &own,
+        &cuts,
+        aends,
+        amasks,
+        &mut links,
+        &mut odds,
+    );
     tell_parts(corners, b, a, &wa, &mut own, &mut cuts);
-    let of_b = survey_part(engine, rows, corners, n, b, &wb, &own, &cuts, bends, bmasks);
+    let of_b = survey_part(
+        engine,
+        rows,
+        corners,
+        n,
+        b,
+        &wb,
+        &own,
+        &cuts,
+        bends,
+        bmasks,
+        &mut links,
+        &mut odds,
+    );
     Survey { a: of_a, b: of_b }
 }

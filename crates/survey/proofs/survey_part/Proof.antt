@@ -1,6 +1,7 @@
 -- Links, then edges with their masks, then the oddness of edges, then what is enclosed.
 use native.Mathlib.Omega.{arith}
 use denote.Ref.{now}
+use mathlib.Core.Path.{_∙_}
 use Rattle.listing.specs.Hits.{seenIn}
 use Rattle.table.specs.Room.{solid-room}
 use Rattle.spread.specs.OddsProof.{odds-are}
@@ -38,18 +39,22 @@ enclosed-word-requires c κs =
     let s = l .before .before in
     let v = seenIn (s .args .n) (now (s .args .rows)) (now (s .args .corners)) in
     let m = marked-edges _ _ (filled-edges (f .fill-solid .ensures)) (o .fill-odds .ensures) in
-    ((s .pre .0 .0, l .fill-links .ensures .own, odds-are v (s .args .k) (s .pre .0 .0) m), s .pre .1 .0)
+    ((s .pre .0 .0, l .fill-links .ensures .own, odds-are v (s .args .k) (s .pre .0 .0) m), s .pre .1 .0 .0)
 
 returns : tie.Need-returns
 returns c =
-    let f = c .before .before .before .before .before .before .before in
-    let s = f .before .before .before .before .before .before in
-    let v = seenIn (s .args .n) (now (s .args .rows)) (now (s .args .corners)) in
-    record {
-      edges = filled-edges (f .fill-solid .ensures);
-      fits = omega (arith, f .fill-solid .ensures .count, solid-room v (s .args .k) (s .pre .0 .0 .within));
-      inside = c .enclosed-word .ensures;
-    }
+    let o = c .before .before .before in
+    let f = o .before .before .before .before in
+    let l = f .before .before .before .before in
+    let s = l .before .before in
+    let v = seenIn (s .args .n) (now (s .args .rows)) (now (s .args .corners)) in (
+      record {
+        edges = filled-edges (f .fill-solid .ensures);
+        fits = omega (arith, f .fill-solid .ensures .count, solid-room v (s .args .k) (s .pre .0 .0 .within));
+        inside = c .enclosed-word .ensures;
+      },
+      (l .fill-links .ensures .size ∙ s .pre .1 .1 .0, o .fill-odds .ensures .size),
+    )
 
 pub survey-part-spec : {M : Type 1} → statement M
 survey-part-spec =

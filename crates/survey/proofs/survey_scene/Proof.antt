@@ -22,7 +22,7 @@ tell-parts-requires c κs =
 
 survey-part-requires : tie.Need-survey-part-requires
 survey-part-requires c κs =
-    let p = c .before .before .before .before .before in
+    let p = c .before .before .before .before .before .before .before in
     let d = p .before .before .before .before in
     let t = d .before .before .before in
     let s = t .before .before .before .before .before in
@@ -31,18 +31,20 @@ survey-part-requires c κs =
     let e = p .tell-parts .ensures in
     let z = blank-new v (s .args .a) in
     let h = parts-told v (s .args .a) (s .args .b) (r .0) (r .1) (d .tell-sides2 .ensures) (e .0) (e .1) z in
-    ((r .0, s .pre .1 .0), (t .tell-sides .ensures, h))
+    ((r .0, s .pre .1 .0), ((t .tell-sides .ensures, h), (search needs, search needs)))
 
 tell-parts-requires-2 : tie.Need-tell-parts-requires-2
 tell-parts-requires-2 c κs =
-    let d = c .before .before .before .before .before .before .before .before .before .before .before .before .before in
+    let p = c .before .before .before .before .before .before .before .before .before .before .before .before in
+    let d = p .before .before .before in
     let s = d .before .before .before .before .before .before .before .before in
     parts-asked _ (s .args .b) (s .pre .0 .1)
 
 survey-part-requires-2 : tie.Need-survey-part-requires-2
 survey-part-requires-2 c κs =
-    let q = c .before .before .before .before .before in
-    let p = q .before .before .before .before .before .before .before .before .before .before in
+    let q = c .before .before .before .before .before .before .before in
+    let o = q .before .before .before .before in
+    let p = o .before .before .before .before .before .before .before .before in
     let d = p .before .before .before .before in
     let t = d .before .before .before in
     let s = t .before .before .before .before .before in
@@ -52,7 +54,7 @@ survey-part-requires-2 c κs =
     let f = q .tell-parts2 .ensures in
     let z = blank-told v (s .args .a) (s .args .b) (r .0) (r .1) (d .tell-sides2 .ensures) (e .0) (e .1) (blank-new v (s .args .b)) in
     let h = parts-told v (s .args .b) (s .args .a) (r .1) (r .0) (t .tell-sides .ensures) (f .0) (f .1) z in
-    ((r .1, s .pre .1 .1), (d .tell-sides2 .ensures, h))
+    ((r .1, s .pre .1 .1), ((d .tell-sides2 .ensures, h), o .survey-part .ensures .1))
 
 returns : tie.Need-returns
 returns c = search needs

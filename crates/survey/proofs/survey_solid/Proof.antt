@@ -14,10 +14,10 @@ tell-sides-requires c κs = search needs
 
 survey-part-requires : tie.Need-survey-part-requires
 survey-part-requires c κs =
-    let t = c .before .before .before .before .before in
+    let t = c .before .before .before .before .before .before .before in
     let s = t .before .before .before .before .before in
     let v = seenIn (s .args .n) (now (s .args .rows)) (now (s .args .corners)) in
-    (s .pre, (t .tell-sides .ensures, parted-none v (s .args .k) (blank-new v (s .args .k))))
+    (s .pre, ((t .tell-sides .ensures, parted-none v (s .args .k) (blank-new v (s .args .k))), (search needs, search needs)))
 
 returns : tie.Need-returns
 returns c = search needs
