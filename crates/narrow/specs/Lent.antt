@@ -13,7 +13,7 @@ use Rattle.narrow.specs.Cover.{covers, Across}
 use Rattle.narrow.specs.Narrow.{Around}
 
 -- the tables that narrow the questions: the faces at each vertex, of `owns` faces above `owned`, and those of them that part each face of
--- the other; at 0 of these there are at least all that part any
+-- the other, by its number within it; at 0 of these there are at least all that part any
 pub record Parted (s : Seen) (k : Solid) (own cuts : List ℕ) : Type 0 where
   pub low : ℕ
   pub high : ℕ
@@ -21,8 +21,8 @@ pub record Parted (s : Seen) (k : Solid) (own cuts : List ℕ) : Type 0 where
   pub owns : ℕ
   pub at : (u : ℕ) → Own s k u → maskIn own u ≡ masksBy (isCorner u) (s .face) owned owns
   pub cut : (j : ℕ) → j < k .others →
-      maskIn cuts (k .other + 1 + j) ≡ masksBy (parts (s .row) (s .face (k .other + 1 + j))) (s .face) owned owns
-  pub any : (j : ℕ) → j < k .others → covers (maskIn cuts 0) (maskIn cuts (k .other + 1 + j)) ≡ true
+      maskIn cuts (1 + j) ≡ masksBy (parts (s .row) (s .face (k .other + 1 + j))) (s .face) owned owns
+  pub any : (j : ℕ) → j < k .others → covers (maskIn cuts 0) (maskIn cuts (1 + j)) ≡ true
   pub across : (j : ℕ) → j < k .others → Across (s .points) low high owned owns (s .face) (s .face (k .other + 1 + j))
 
 pub around : (s : Seen) (k : Solid) {own cuts : List ℕ} → Parted s k own cuts → (u v : ℕ) → Own s k u → Own s k v →

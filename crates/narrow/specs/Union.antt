@@ -12,7 +12,7 @@ use lib.ListN.{length}
 use Rattle.laws.specs.Bits.{and-assoc, and-or}
 use Rattle.laws.specs.Decides.{and-iff, eqb-iff}
 use Rattle.face_masks.specs.declared.Mask.{Mask}
-use Rattle.sides.specs.Tables.{maskIn, wordSet, masksFrom, word-keeps, word-same, word-other, masks-at, masks-kept, masks-length}
+use Rattle.sides.specs.Tables.{maskIn, wordSet, masksFrom, word-keeps, word-same, word-other, masks-at, masks-length}
 use Rattle.narrow.specs.Cover.{covers}
 
 abbrev pub noFaces : Mask
@@ -21,24 +21,23 @@ noFaces = record { low = 0; high = 0 }
 abbrev pub eitherOf : Mask → Mask → Mask
 eitherOf a b = record { low = bitOr (a .low) (b .low); high = bitOr (a .high) (b .high) }
 
--- of g at each of the n numbers above first
-unfoldable pub unionOf : (ℕ → Mask) → (first n : ℕ) → Mask
-unionOf g first zero = noFaces
-unionOf g first (suc n) = eitherOf (unionOf g first n) (g (first + 1 + n))
+-- of g at each number from 1 to n
+unfoldable pub unionOf : (ℕ → Mask) → (n : ℕ) → Mask
+unionOf g zero = noFaces
+unionOf g (suc n) = eitherOf (unionOf g n) (g (1 + n))
 
 -- one turn of the loop that makes it
-pub union-more : (g : ℕ → Mask) (first i : ℕ) {u m : Mask} → u ≡ unionOf g first i → m ≡ g (first + 1 + i) →
-    eitherOf u m ≡ unionOf g first (i + 1)
+pub union-more : (g : ℕ → Mask) (i : ℕ) {u m : Mask} → u ≡ unionOf g i → m ≡ g (1 + i) → eitherOf u m ≡ unionOf g (i + 1)
 unfolding unionOf
-union-more g first i p q = (λ t. eitherOf (p t) (q t)) ∙ ap (unionOf g first) (sym (add-one i))
+union-more g i p q = (λ t. eitherOf (p t) (q t)) ∙ ap (unionOf g) (sym (add-one i))
 
 -- the table that is filled with them
-abbrev pub cutsFrom : (ℕ → Mask) → (first n : ℕ) → List ℕ → List ℕ
-cutsFrom g first n l = wordSet (masksFrom g first n l) 0 (unionOf g first n)
+abbrev pub cutsFrom : (ℕ → Mask) → (n : ℕ) → List ℕ → List ℕ
+cutsFrom g n l = wordSet (masksFrom g 0 n l) 0 (unionOf g n)
 
-pub cuts-done : (g : ℕ → Mask) (first : ℕ) (l : List ℕ) {n i : ℕ} {t : List ℕ} {u : Mask} → i ≡ n → t ≡ masksFrom g first i l →
-    u ≡ unionOf g first i → wordSet t 0 u ≡ cutsFrom g first n l
-cuts-done g first l e p q = (λ j. wordSet (p j) 0 (q j)) ∙ ap (λ (n : ℕ). cutsFrom g first n l) e
+pub cuts-done : (g : ℕ → Mask) (l : List ℕ) {n i : ℕ} {t : List ℕ} {u : Mask} → i ≡ n → t ≡ masksFrom g 0 i l → u ≡ unionOf g i →
+    wordSet t 0 u ≡ cutsFrom g n l
+cuts-done g l e p q = (λ j. wordSet (p j) 0 (q j)) ∙ ap (λ (n : ℕ). cutsFrom g n l) e
 
 -- ---- what covers what
 
@@ -68,39 +67,34 @@ covers-right a b = covers-by (eitherOf a b) b (word (a .low) (b .low)) (word (a 
     word : (x y : ℕ) → bitAnd (bitOr x y) y ≡ y
     word x y = ap (λ (z : ℕ). bitAnd z y) (or-comm x y) ∙ and-or y x
 
-union-covers : (g : ℕ → Mask) (first n k : ℕ) → k < n → covers (unionOf g first n) (g (first + 1 + k)) ≡ true
+union-covers : (g : ℕ → Mask) (n k : ℕ) → k < n → covers (unionOf g n) (g (1 + k)) ≡ true
 unfolding unionOf
-union-covers g first zero k b = absurd (omega arith)
-union-covers g first (suc n) k b = by (ℕ-discrete k n) (union-covers g first n k)
+union-covers g zero k b = absurd (omega arith)
+union-covers g (suc n) k b = by (ℕ-discrete k n) (union-covers g n k)
   where
     u : Mask
-    u = unionOf g first n
+    u = unionOf g n
 
-    by : Dec (k ≡ n) → (k < n → covers u (g (first + 1 + k)) ≡ true) → covers (eitherOf u (g (first + 1 + n))) (g (first + 1 + k)) ≡ true
-    by (yes e) before = rw e (covers-right u (g (first + 1 + n)))
-    by (no d) before =
-        covers-trans (eitherOf u (g (first + 1 + n))) u (g (first + 1 + k)) (covers-left u (g (first + 1 + n))) (before (omega arith))
+    by : Dec (k ≡ n) → (k < n → covers u (g (1 + k)) ≡ true) → covers (eitherOf u (g (1 + n))) (g (1 + k)) ≡ true
+    by (yes e) before = rw e (covers-right u (g (1 + n)))
+    by (no d) before = covers-trans (eitherOf u (g (1 + n))) u (g (1 + k)) (covers-left u (g (1 + n))) (before (omega arith))
 
 -- ---- what the table holds
 
-module _ (g : ℕ → Mask) (first n : ℕ) (l : List ℕ) where
+module _ (g : ℕ → Mask) (n : ℕ) (l : List ℕ) where
   abbrev made : List ℕ
-  made = masksFrom g first n l
+  made = masksFrom g 0 n l
 
-  pub cuts-length : length (cutsFrom g first n l) ≡ length l
-  cuts-length = word-keeps made 0 (unionOf g first n) ∙ masks-length g first n l
+  pub cuts-length : length (cutsFrom g n l) ≡ length l
+  cuts-length = word-keeps made 0 (unionOf g n) ∙ masks-length g 0 n l
 
-  -- at each of the n numbers, and at every other but 0
-  pub cuts-at : 2 * (first + n) + 1 < length l → (t : ℕ) → first < t → t ≤ first + n → maskIn (cutsFrom g first n l) t ≡ g t
-  cuts-at r t a b = word-other made 0 t (unionOf g first n) (λ e. omega (arith, e)) ∙ masks-at g first n l r t a b
+  module _ (r : 2 * n + 1 < length l) where
+    pub cuts-at : (k : ℕ) → k < n → maskIn (cutsFrom g n l) (1 + k) ≡ g (1 + k)
+    cuts-at k b =
+        word-other made 0 (1 + k) (unionOf g n) (λ e. omega (arith, e)) ∙ masks-at g 0 n l (omega arith) (1 + k) (omega arith) (omega arith)
 
-  pub cuts-kept : (t : ℕ) → 0 < t → (first < t → t ≤ first + n → ⊥) → maskIn (cutsFrom g first n l) t ≡ maskIn l t
-  cuts-kept t some out = word-other made 0 t (unionOf g first n) (λ e. omega (arith, e)) ∙ masks-kept g first n l t out
-
-  -- what stands at 0 covers each of them
-  pub cuts-covered : 2 * (first + n) + 1 < length l → (k : ℕ) → k < n →
-      covers (maskIn (cutsFrom g first n l) 0) (maskIn (cutsFrom g first n l) (first + 1 + k)) ≡ true
-  cuts-covered r k b =
-      let any : maskIn (cutsFrom g first n l) 0 ≡ unionOf g first n =
-      word-same made 0 (unionOf g first n) (omega (arith, masks-length g first n l)) in
-      (λ i. covers (any i) (cuts-at r (first + 1 + k) (omega arith) (omega arith) i)) ∙ union-covers g first n k b
+    -- what stands at 0 covers each of them
+    pub cuts-covered : (k : ℕ) → k < n → covers (maskIn (cutsFrom g n l) 0) (maskIn (cutsFrom g n l) (1 + k)) ≡ true
+    cuts-covered k b =
+        let any : maskIn (cutsFrom g n l) 0 ≡ unionOf g n = word-same made 0 (unionOf g n) (omega (arith, masks-length g 0 n l)) in
+        (λ i. covers (any i) (cuts-at k b i)) ∙ union-covers g n k b

@@ -14,22 +14,22 @@ use scene::decode::face_in;
 use sides::words::Words;
 use sides::words::mask_at;
 
-// Two words a face, at its number.
-pub type Cuts = [u64; 2 * (2 * Scene::MOST_FACES + 1)];
+// Two words a face, at its number within its solid.
+pub type Cuts = [u64; 2 * (Scene::MOST_FACES + 1)];
 
-// Those of the `count` faces numbered from first + 1 on, by the words of their corners.
+// Those of the `count` faces of a solid, numbered from first + 1 on, by the words of their corners.
 pub fn fill(corners: &Corners, words: &Words, first: usize, count: usize, cuts: &mut Cuts)
     requires corners { ⌜ FacesWithin limits (faceIn (now corners)) ⌝ }
-    requires faces { ⌜ first + count ≤ 2 * limits .mostFaces ⌝ }
+    requires faces { ⌜ (first + count ≤ 2 * limits .mostFaces) × (count ≤ limits .mostFaces) ⌝ }
     ensures { λ r. ⌜ now (cuts .exit)
-        ≡ cutsFrom (λ k. cutIn (now (words .entry)) (faceIn (now (corners .entry)) k)) first count (now (cuts .entry)) ⌝ }
+        ≡ cutsFrom (λ j. cutIn (now (words .entry)) (faceIn (now (corners .entry)) (first + j))) count (now (cuts .entry)) ⌝ }
 {
     let mut i: usize = 0;
     let mut any = Mask { low: 0, high: 0 };
     while i < count {
-        let k = first + 1 + i;
-        let c = cut(words, face_in(corners, k));
-        put(cuts, k, c);
+        let j = 1 + i;
+        let c = cut(words, face_in(corners, first + j));
+        put(cuts, j, c);
         any = either(any, c);
         i += 1;
     }
@@ -60,23 +60,23 @@ fn either(a: Mask, b: Mask) -> Mask
     }
 }
 
-fn put(cuts: &mut Cuts, k: usize, m: Mask)
-    requires { ⌜ k ≤ 2 * limits .mostFaces ⌝ }
-    ensures { λ r. ⌜ now (cuts .exit) ≡ wordSet (now (cuts .entry)) k m ⌝ }
+fn put(cuts: &mut Cuts, j: usize, m: Mask)
+    requires { ⌜ j ≤ limits .mostFaces ⌝ }
+    ensures { λ r. ⌜ now (cuts .exit) ≡ wordSet (now (cuts .entry)) j m ⌝ }
 {
-    let i = 2 * k;
+    let i = 2 * j;
     let low = m.low;
     let high = m.high;
     cuts[i] = low;
     cuts[i + 1] = high;
 }
 
-// Those of face k, of a table that was filled.
-pub fn cut_at(cuts: &Cuts, k: usize) -> Mask
-    requires { ⌜ k ≤ 2 * limits .mostFaces ⌝ }
-    ensures { λ r. ⌜ r ≡ maskIn (now (cuts .entry)) k ⌝ }
+// Those of the solid's face j, of a table that was filled.
+pub fn cut_at(cuts: &Cuts, j: usize) -> Mask
+    requires { ⌜ j ≤ limits .mostFaces ⌝ }
+    ensures { λ r. ⌜ r ≡ maskIn (now (cuts .entry)) j ⌝ }
 {
-    let i = 2 * k;
+    let i = 2 * j;
     Mask {
         low: cuts[i],
         high: cuts[i + 1],

@@ -95,8 +95,8 @@ fn mask_parted(
 {
     let a = mask_at(words, u);
     let b = mask_at(words, v);
-    let near = narrowed(cuts, first, at, a.low ^ b.low);
-    let next = narrowed(cuts, first + WORD, at, a.high ^ b.high);
+    let near = narrowed(cuts, 0, at, a.low ^ b.low);
+    let next = narrowed(cuts, WORD, at, a.high ^ b.high);
     let l = join(row_at(rows, u), row_at(rows, v));
     let low = crossed(engine, rows, corners, n, u, v, l, first, near);
     let high = crossed(engine, rows, corners, n, u, v, l, first + WORD, next);
@@ -106,16 +106,16 @@ fn mask_parted(
     }
 }
 
-// Of the candidates, one word of the faces from first + 1 on, those whose corners each of the faces `at` parts.
-fn narrowed(cuts: &Cuts, first: usize, at: Mask, candidates: u64) -> u64
-    requires faces { ⌜ AtEach (Numbered first) candidates × (first ≤ 2 * limits .mostFaces + 64) ⌝ }
-    ensures { λ r. ⌜ r ≡ narrowedOf (maskIn (now (cuts .entry))) first at candidates ⌝ }
+// Of the candidates, one word of the solid's faces behind its first `from`, those whose corners each of the faces `at` parts.
+fn narrowed(cuts: &Cuts, from: usize, at: Mask, candidates: u64) -> u64
+    requires faces { ⌜ AtEach (Numbered from) candidates × (from ≤ 64) ⌝ }
+    ensures { λ r. ⌜ r ≡ narrowedOf (maskIn (now (cuts .entry))) from at candidates ⌝ }
 {
     let mut left = candidates;
     let mut word: u64 = 0;
     while left != 0 {
         let k = u64::trailing_zeros(left) as usize;
-        word = word + (bit(has_all(cut_at(cuts, first + 1 + k), at)) << k);
+        word = word + (bit(has_all(cut_at(cuts, from + 1 + k), at)) << k);
         left = left & (left - 1);
     }
     word

@@ -87,7 +87,7 @@ fn seek_told(
 {
     let mut others: sides::words::Words = [0; 2 * (Scene::MOST_POINTS + 1)];
     let mut own: sides::words::Words = [0; 2 * (Scene::MOST_POINTS + 1)];
-    let mut cuts: Cuts = [0; 2 * (2 * Scene::MOST_FACES + 1)];
+    let mut cuts: Cuts = [0; 2 * (Scene::MOST_FACES + 1)];
     let mut blinks: Words = [0; WORDS];
     tell_lent(rows, corners, planes, n, b, &mut others, slopes);
     tell_parts(corners, a, b, &others, &mut own, &mut cuts);

@@ -53,7 +53,7 @@ pub fn survey_solid(
     let mut planes: Planes = [0; 4 * (2 * Scene::MOST_FACES + 1)];
     let mut words: sides::words::Words = [0; 2 * (Scene::MOST_POINTS + 1)];
     let own: sides::words::Words = [0; 2 * (Scene::MOST_POINTS + 1)];
-    let cuts: Cuts = [0; 2 * (2 * Scene::MOST_FACES + 1)];
+    let cuts: Cuts = [0; 2 * (Scene::MOST_FACES + 1)];
     let mut links: Words = [0; WORDS];
     let mut odds: Words = [0; WORDS];
     make_planes(rows, corners, k, k, &mut planes);
@@ -117,7 +117,7 @@ fn survey_part(
     Part { edges, inside }
 }
 
-// Of both solids, each into its own table. What narrows the questions is told of A, then of B beside it: their entries do not meet.
+// Of both solids, each into its own table. What narrows the questions is told of A, then of B into the same tables.
 pub fn survey_scene(
     engine: Engine,
     rows: &Rows,
@@ -139,7 +139,7 @@ pub fn survey_scene(
     let mut wa: sides::words::Words = [0; 2 * (Scene::MOST_POINTS + 1)];
     let mut wb: sides::words::Words = [0; 2 * (Scene::MOST_POINTS + 1)];
     let mut own: sides::words::Words = [0; 2 * (Scene::MOST_POINTS + 1)];
-    let mut cuts: Cuts = [0; 2 * (2 * Scene::MOST_FACES + 1)];
+    let mut cuts: Cuts = [0; 2 * (Scene::MOST_FACES + 1)];
     let mut links: Words = [0; WORDS];
     let mut odds: Words = [0; WORDS];
     make_planes(rows, corners, a, b, &mut planes);

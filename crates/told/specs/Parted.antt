@@ -1,11 +1,11 @@
--- The tables that narrow the questions about a solid's edges: told by the other solid's words, or left empty. The entries of two solids do
--- not meet. Assumes nothing.
-use mathlib.Core.Path.{_≡_, refl, ap, _∙_}
-use mathlib.Core.Bool.{Bool, true, false, cond, _&&_}
+-- The tables that narrow the questions about a solid's edges: told by the other solid's words, or left empty. They serve one solid, then the
+-- other: their entries for vertices do not meet, and those for faces are all told again. Assumes nothing.
+use mathlib.Core.Path.{_≡_, refl, sym, ap, _∙_}
+use mathlib.Core.Bool.{Bool, true, false, cond, _&&_, true≢false}
 use mathlib.Core.List.{List}
 use Prim.Native.Nat.{ℕ, _+_, _*_, _≤_, _<_}
 use native.Mathlib.Omega.{arith}
-use borrow.Author.Tests.{eqb-true}
+use borrow.Author.Tests.{eq-eqb, eqb-true}
 use lib.Dec.{eqb}
 use lib.ListN.{length, replicate, length-replicate}
 use Rattle.laws.specs.Decides.{and-iff}
@@ -20,7 +20,7 @@ use Rattle.listing.specs.Hits.{Seen, Own}
 use Rattle.sides.specs.Sides.{sidesOf, masksBy}
 use Rattle.sides.specs.Tables.{maskIn}
 use Rattle.narrow.specs.Cover.{cutIn, cut-is, covers}
-use Rattle.narrow.specs.Union.{noFaces, cutsFrom, covers-none, cuts-at, cuts-kept, cuts-length, cuts-covered}
+use Rattle.narrow.specs.Union.{noFaces, cutsFrom, covers-none, cuts-at, cuts-length, cuts-covered}
 use Rattle.narrow.specs.Marks.{ownMarked, own-at, own-kept, own-length}
 use Rattle.sides.specs.Lent.{Told}
 use Rattle.narrow.specs.Lent.{Parted}
@@ -36,42 +36,45 @@ abbrev pub ownTold : (ℕ → Face) → (k o : Solid) → List ℕ → List ℕ
 ownTold face k o own = cond (mirrors k o) (ownMarked face (k .first) (k .count) own) own
 
 abbrev pub cutsTold : (ℕ → Face) → (k o : Solid) → (words : List ℕ) → List ℕ → List ℕ
-cutsTold face k o words cuts = cond (mirrors k o) (cutsFrom (λ i. cutIn words (face i)) (k .other) (k .others) cuts) cuts
+cutsTold face k o words cuts = cond (mirrors k o) (cutsFrom (λ j. cutIn words (face (k .other + j))) (k .others) cuts) cuts
 
--- tables that are empty where the solid's questions look: at its vertices, and at the faces opposite
-pub record Blank (s : Seen) (k : Solid) (own cuts : List ℕ) : Type 0 where
+-- tables that are empty at the solid's vertices and, where the two are no mirrors, at the faces opposite
+pub record Blank (s : Seen) (k o : Solid) (own cuts : List ℕ) : Type 0 where
   pub own-size : length own ≡ 2 * (mostPoints limits + 1)
-  pub cuts-size : length cuts ≡ 2 * (2 * limits .mostFaces + 1)
+  pub cuts-size : length cuts ≡ 2 * (limits .mostFaces + 1)
   pub at : (u : ℕ) → Own s k u → maskIn own u ≡ noFaces
-  pub cut : (j : ℕ) → j < k .others → maskIn cuts (k .other + 1 + j) ≡ noFaces
+  pub cut : mirrors k o ≡ false → (j : ℕ) → j < k .others → maskIn cuts (1 + j) ≡ noFaces
 
--- new tables are
-pub blank-new : (s : Seen) (k : Solid) →
-    Blank s k (replicate (2 * (mostPoints limits + 1)) 0) (replicate (2 * (2 * limits .mostFaces + 1)) 0)
-blank-new s k =
-    let m = 2 * (mostPoints limits + 1) in
-    let n = 2 * (2 * limits .mostFaces + 1) in
-    record {
-      own-size = length-replicate {A = ℕ} m 0;
-      cuts-size = length-replicate {A = ℕ} n 0;
-      at = λ u o. λ t. record { low = replicate-at m (2 * u) 0 t; high = replicate-at m (2 * u + 1) 0 t };
-      cut = λ j b. λ t. record {
-        low = replicate-at n (2 * (k .other + 1 + j)) 0 t;
-        high = replicate-at n (2 * (k .other + 1 + j) + 1) 0 t;
-      };
-    }
+-- new tables are empty everywhere
+abbrev newOwn : List ℕ
+newOwn = replicate (2 * (mostPoints limits + 1)) 0
+
+abbrev newCuts : List ℕ
+newCuts = replicate (2 * (limits .mostFaces + 1)) 0
+
+new-at : (n t : ℕ) → maskIn (replicate n 0) t ≡ noFaces
+new-at n t = λ i. record { low = replicate-at n (2 * t) 0 i; high = replicate-at n (2 * t + 1) 0 i }
+
+pub blank-new : (s : Seen) (k o : Solid) → Blank s k o newOwn newCuts
+blank-new s k o = record {
+  own-size = length-replicate {A = ℕ} (2 * (mostPoints limits + 1)) 0;
+  cuts-size = length-replicate {A = ℕ} (2 * (limits .mostFaces + 1)) 0;
+  at = λ u a. new-at (2 * (mostPoints limits + 1)) u;
+  cut = λ h j b. new-at (2 * (limits .mostFaces + 1)) (1 + j);
+}
 
 -- empty tables say nothing
-pub parted-none : (s : Seen) (k : Solid) {own cuts : List ℕ} → Blank s k own cuts → Parted s k own cuts
+parted-none : (s : Seen) (k : Solid) {own cuts : List ℕ} → ((u : ℕ) → Own s k u → maskIn own u ≡ noFaces) →
+    ((j : ℕ) → j < k .others → maskIn cuts (1 + j) ≡ noFaces) → Parted s k own cuts
 unfolding masksBy maskOf
-parted-none s k {cuts = cuts} e = record {
+parted-none s k {cuts = cuts} x y = record {
   low = 0;
   high = 0;
   owned = 0;
   owns = 0;
-  at = e .at;
-  cut = e .cut;
-  any = λ j b. (λ i. covers (maskIn cuts 0) (e .cut j b i)) ∙ covers-none (maskIn cuts 0);
+  at = x;
+  cut = y;
+  any = λ j b. (λ i. covers (maskIn cuts 0) (y j b i)) ∙ covers-none (maskIn cuts 0);
   across = λ j b. record {
     within = omega arith;
     faces = λ i h. absurd (omega arith);
@@ -81,10 +84,14 @@ parted-none s k {cuts = cuts} e = record {
   };
 }
 
+pub parted-new : (s : Seen) (k : Solid) → Parted s k newOwn newCuts
+parted-new s k = parted-none s k (λ u a. new-at (2 * (mostPoints limits + 1)) u) (λ j b. new-at (2 * (limits .mostFaces + 1)) (1 + j))
+
 -- what telling them asks for
 pub parts-asked : (s : Seen) (k : Solid) → Ready s k → FacesWithin limits (s .face)
-    × ((k .first + k .count ≤ 2 * limits .mostFaces) × (k .count ≤ limits .mostFaces) × (k .other + k .others ≤ 2 * limits .mostFaces))
-parts-asked s k r = let w = r .within in (w .sound .faces, (w .sound .own, w .few, w .sound .other .0))
+    × ((k .first + k .count ≤ 2 * limits .mostFaces) × (k .count ≤ limits .mostFaces) × (k .other + k .others ≤ 2 * limits .mostFaces)
+    × (k .others ≤ limits .mostFaces))
+parts-asked s k r = let w = r .within in (w .sound .faces, (w .sound .own, w .few, w .sound .other .0, w .sound .other .1))
 
 record Mirrored (k o : Solid) : Type 0 where
   first : o .other ≡ k .first
@@ -103,6 +110,18 @@ mirrored k o e =
       other = eqb-true (o .first) (k .other) (c .0);
       others = eqb-true (o .count) (k .others) (c .1);
     }
+
+-- and then the other way round
+mirrors-back : (k o : Solid) → mirrors k o ≡ true → mirrors o k ≡ true
+mirrors-back k o h =
+    let e = mirrored k o h in
+    and-iff _ _ .1 (
+      eq-eqb _ _ (sym (e .other)),
+      and-iff _ _ .1 (
+        eq-eqb _ _ (sym (e .others)),
+        and-iff _ _ .1 (eq-eqb _ _ (sym (e .first)), eq-eqb _ _ (sym (e .count))),
+      ),
+    )
 
 module _ (s : Seen) (k o : Solid) (r : Ready s k) (q : Ready s o) (h : mirrors k o ≡ true) {words : List ℕ} (t : Told s o words) where
   abbrev f : ℕ → Face
@@ -126,16 +145,9 @@ module _ (s : Seen) (k o : Solid) (r : Ready s k) (q : Ready s o) (h : mirrors k
       each-run (FaceOf (q .low) (q .high)) (s .face) (o .other + 1) (o .others) (q .closed .faces) (k .first + 1 + j)
       (omega (arith, e .first)) (omega (arith, e .first, e .count))
 
-  -- no face is both solids'
-  faces-apart : (j : ℕ) → k .first < j → j ≤ k .first + k .count → k .other < j → j ≤ k .other + k .others → ⊥
-  faces-apart j a b c d =
-      let f = r .within .sound .corners j a b in
-      let g = each-run (FaceOf (r .low) (r .high)) (s .face) (k .other + 1) (k .others) (r .closed .faces) j (omega arith) (omega arith) in
-      r .apart _ (f .p) (g .p)
-
   module _ {own cuts own′ cuts′ : List ℕ} (e : own′ ≡ ownMarked (s .face) (k .first) (k .count) own)
-      (d : cuts′ ≡ cutsFrom (λ i. cutIn words (s .face i)) (k .other) (k .others) cuts) where
-    parted-by : Blank s k own cuts → Parted s k own′ cuts′
+      (d : cuts′ ≡ cutsFrom (λ j. cutIn words (s .face (k .other + j))) (k .others) cuts) where
+    parted-by : Blank s k o own cuts → Parted s k own′ cuts′
     parted-by z =
         let v = r .within .sound .vertices in
         let w = r .within .sound .other in
@@ -150,13 +162,14 @@ module _ (s : Seen) (k o : Solid) (r : Ready s k) (q : Ready s o) (h : mirrors k
               (λ i. (z .at u a i) .low) (λ i. (z .at u a i) .high);
           cut = λ j b.
               let c = theirs j b in
-              ap (λ (x : List ℕ). maskIn x (k .other + 1 + j)) d
-              ∙ cuts-at (λ i. cutIn words (s .face i)) (k .other) (k .others) cuts (omega (arith, z .cuts-size, w))
-              (k .other + 1 + j) (omega arith) (omega arith)
+              let n : k .other + (1 + j) ≡ k .other + 1 + j = omega arith in
+              ap (λ (x : List ℕ). maskIn x (1 + j)) d
+              ∙ cuts-at (λ i. cutIn words (s .face (k .other + i))) (k .others) cuts (omega (arith, z .cuts-size, w)) j b
+              ∙ ap (λ (i : ℕ). cutIn words (s .face i)) n
               ∙ cut-is (s .row) (s .face) (k .first) (k .count) words (f j) (side _ (c .p)) (side _ (c .q)) (side _ (c .r));
           any = λ j b.
-              (λ i. covers (maskIn (d i) 0) (maskIn (d i) (k .other + 1 + j)))
-              ∙ cuts-covered (λ i. cutIn words (s .face i)) (k .other) (k .others) cuts (omega (arith, z .cuts-size, w)) j b;
+              (λ i. covers (maskIn (d i) 0) (maskIn (d i) (1 + j)))
+              ∙ cuts-covered (λ i. cutIn words (s .face (k .other + i))) (k .others) cuts (omega (arith, z .cuts-size, w)) j b;
           across = λ j b.
               let c = other-faces j b in
               record {
@@ -169,24 +182,19 @@ module _ (s : Seen) (k o : Solid) (r : Ready s k) (q : Ready s o) (h : mirrors k
         }
 
     -- what is empty for the other stays so
-    blank-kept : Blank s o own cuts → Blank s o own′ cuts′
-    blank-kept z =
-        let m = mirrored k o h in
-        record {
-          own-size = ap length e ∙ own-length (s .face) (k .first) (k .count) own ∙ z .own-size;
-          cuts-size = ap length d ∙ cuts-length (λ i. cutIn words (s .face i)) (k .other) (k .others) cuts ∙ z .cuts-size;
-          at = λ u a.
-              ap (λ (x : List ℕ). maskIn x u) e
-              ∙ own-kept (s .face) (k .first) (k .count) (q .low) (q .high) u own own-faces (q .apart u a) ∙ z .at u a;
-          cut = λ j b.
-              ap (λ (x : List ℕ). maskIn x (o .other + 1 + j)) d
-              ∙ cuts-kept (λ i. cutIn words (s .face i)) (k .other) (k .others) cuts (o .other + 1 + j) (omega arith)
-              (faces-apart (o .other + 1 + j) (omega (arith, m .first)) (omega (arith, m .first, m .count))) ∙ z .cut j b;
-        }
+    blank-kept : Blank s o k own cuts → Blank s o k own′ cuts′
+    blank-kept z = record {
+      own-size = ap length e ∙ own-length (s .face) (k .first) (k .count) own ∙ z .own-size;
+      cuts-size = ap length d ∙ cuts-length (λ j. cutIn words (s .face (k .other + j))) (k .others) cuts ∙ z .cuts-size;
+      at = λ u a.
+          ap (λ (x : List ℕ). maskIn x u) e
+          ∙ own-kept (s .face) (k .first) (k .count) (q .low) (q .high) u own own-faces (q .apart u a) ∙ z .at u a;
+      cut = λ n. absurd (true≢false (sym (mirrors-back k o h) ∙ n));
+    }
 
 -- told or not, the tables narrow the questions about k, and stay empty for o
 abbrev Promised : Seen → (k o : Solid) → (own cuts own′ cuts′ : List ℕ) → Type 0
-Promised s k o own cuts own′ cuts′ = (Blank s k own cuts → Parted s k own′ cuts′) × (Blank s o own cuts → Blank s o own′ cuts′)
+Promised s k o own cuts own′ cuts′ = (Blank s k o own cuts → Parted s k own′ cuts′) × (Blank s o k own cuts → Blank s o k own′ cuts′)
 
 module _ (s : Seen) (k o : Solid) (r : Ready s k) (q : Ready s o) {words own cuts own′ cuts′ : List ℕ} (t : Told s o words)
     (e : own′ ≡ ownTold (s .face) k o own) (d : cuts′ ≡ cutsTold (s .face) k o words cuts) where
@@ -194,12 +202,12 @@ module _ (s : Seen) (k o : Solid) (r : Ready s k) (q : Ready s o) {words own cut
   promised = by (mirrors k o) refl e d
     where
       by : (b : Bool) → mirrors k o ≡ b → own′ ≡ cond b (ownMarked (s .face) (k .first) (k .count) own) own →
-          cuts′ ≡ cond b (cutsFrom (λ i. cutIn words (s .face i)) (k .other) (k .others) cuts) cuts → Promised s k o own cuts own′ cuts′
+          cuts′ ≡ cond b (cutsFrom (λ j. cutIn words (s .face (k .other + j))) (k .others) cuts) cuts → Promised s k o own cuts own′ cuts′
       by true h x y = (parted-by s k o r q h t x y, blank-kept s k o r q h t x y)
-      by false h x y = (λ z. rw (x, y) (parted-none s k z), λ z. rw (x, y) z)
+      by false h x y = (λ z. rw (x, y) (parted-none s k (z .at) (z .cut h)), λ z. rw (x, y) z)
 
-  pub parts-told : Blank s k own cuts → Parted s k own′ cuts′
+  pub parts-told : Blank s k o own cuts → Parted s k own′ cuts′
   parts-told = promised .0
 
-  pub blank-told : Blank s o own cuts → Blank s o own′ cuts′
+  pub blank-told : Blank s o k own cuts → Blank s o k own′ cuts′
   blank-told = promised .1

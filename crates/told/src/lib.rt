@@ -119,7 +119,7 @@ pub fn tell_parts(
 )
     requires corners { ⌜ FacesWithin limits (faceIn (now corners)) ⌝ }
     requires faces { ⌜ (k .first + k .count ≤ 2 * limits .mostFaces) × (k .count ≤ limits .mostFaces)
-        × (k .other + k .others ≤ 2 * limits .mostFaces) ⌝ }
+        × (k .other + k .others ≤ 2 * limits .mostFaces) × (k .others ≤ limits .mostFaces) ⌝ }
     ensures { λ _. ⌜ now (own .exit) ≡ ownTold (faceIn (now (corners .entry))) k o (now (own .entry)) ⌝ }
     ensures { λ _. ⌜ now (cuts .exit) ≡ cutsTold (faceIn (now (corners .entry))) k o (now (others .entry)) (now (cuts .entry)) ⌝ }
 {

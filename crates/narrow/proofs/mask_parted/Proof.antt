@@ -51,9 +51,6 @@ narrowed-requires c κs =
       omega (arith, p),
     )
 
-add-narrowed : tie.Need-add-narrowed
-add-narrowed c = search needs
-
 narrowed-requires-2 : tie.Need-narrowed-requires-2
 narrowed-requires-2 c κs =
     let b = c .before .before .before .before .before in
@@ -147,7 +144,6 @@ mask-parted-spec =
     mask-at-requires
     mask-at-requires-2
     narrowed-requires
-    add-narrowed
     narrowed-requires-2
     row-at-requires
     row-at-requires-2

@@ -18,12 +18,12 @@ use Rattle.narrow.proofs.narrowed.Statement.{statement}
 use Rattle.narrow.proofs.narrowed.Tie as tie
 
 abbrev Inv-loop : tie.InvT-loop
-Inv-loop cuts first at candidates left₀ word₀ left word =
-    (left ≤ candidates) × AtEach (Numbered first) left × (word + narrowedOf (maskIn cuts) first at left
-    ≡ narrowedOf (maskIn cuts) first at candidates)
+Inv-loop cuts from at candidates left₀ word₀ left word =
+    (left ≤ candidates) × AtEach (Numbered from) left × (word + narrowedOf (maskIn cuts) from at left
+    ≡ narrowedOf (maskIn cuts) from at candidates)
 
 abbrev μ-loop : tie.MeasureT-loop
-μ-loop cuts first at candidates left₀ word₀ left word = left
+μ-loop cuts from at candidates left₀ word₀ left word = left
 
 loop-holds : tie.Need-loop-holds Inv-loop μ-loop
 loop-holds c = (omega arith, c .pre .0, omega arith)
@@ -32,10 +32,10 @@ cast-k : tie.Need-cast-k Inv-loop μ-loop
 cast-k c = omega (arith, trailing-le 64 (c .before .loop .left))
 
 -- in a turn: the lowest candidate is a face's
-here : (c : tie.In-loop Inv-loop μ-loop) → Numbered (c .before .before .args .first) (trailingZeros 64 (c .before .loop .left))
+here : (c : tie.In-loop Inv-loop μ-loop) → Numbered (c .before .before .args .from) (trailingZeros 64 (c .before .loop .left))
 here c =
     each-turn (c .before .loop .left) (omega arith) (omega (arith, c .before .before .fits .candidates))
-    (Numbered (c .before .before .args .first)) (c .before .loop .inv .1) .0
+    (Numbered (c .before .before .args .from)) (c .before .loop .inv .1) .0
 
 add-cut-at : tie.Need-add-cut-at Inv-loop μ-loop
 add-cut-at c = search needs
@@ -58,9 +58,9 @@ shl-word c = here (c .before .before .before) .small
 -- after a turn, what is kept so far and what is kept of the rest
 rest : (c : tie.After-bit Inv-loop μ-loop) → let t = c .before .before .before in let w = t .before .loop .left in
     let a = t .before .before .args in
-    t .before .loop .word + c .bit .result * 2 ^ trailingZeros 64 w % 2 ^ 64 + narrowedOf (maskIn (now (a .cuts))) (a .first) (a .at)
+    t .before .loop .word + c .bit .result * 2 ^ trailingZeros 64 w % 2 ^ 64 + narrowedOf (maskIn (now (a .cuts))) (a .from) (a .at)
     (bitAnd w (w - 1))
-    ≡ narrowedOf (maskIn (now (a .cuts))) (a .first) (a .at) (a .candidates)
+    ≡ narrowedOf (maskIn (now (a .cuts))) (a .from) (a .at) (a .candidates)
 rest c =
     let t = c .before .before .before in
     let s = t .before .before in
@@ -73,7 +73,7 @@ add-word : tie.Need-add-word Inv-loop μ-loop
 add-word c =
     let s = c .before .before .before .before .before in
     let a = s .args in
-    omega (arith, rest c, kept-le (λ k. covers (maskIn (now (a .cuts)) (a .first + 1 + k)) (a .at)) (a .candidates), s .fits .candidates)
+    omega (arith, rest c, kept-le (λ k. covers (maskIn (now (a .cuts)) (a .from + 1 + k)) (a .at)) (a .candidates), s .fits .candidates)
 
 sub-left : tie.Need-sub-left Inv-loop μ-loop
 sub-left c = omega arith
@@ -87,7 +87,7 @@ loop-again c =
     let s = t .before .before in
     let w = t .before .loop .left in (
       omega (arith, and-le-r w (w - 1)),
-      each-turn w (omega arith) (omega (arith, s .fits .candidates)) (Numbered (s .args .first))
+      each-turn w (omega arith) (omega (arith, s .fits .candidates)) (Numbered (s .args .from))
           (t .before .loop .inv .1) .1,
       rest c,
     )
@@ -96,7 +96,7 @@ returns : tie.Need-returns Inv-loop μ-loop
 returns c =
     let a = c .before .before .args in
     let z : c .before .loop .left ≡ 0 = omega arith in
-    let none = ap (narrowedOf (maskIn (now (a .cuts))) (a .first) (a .at)) z ∙ kept-none _ in
+    let none = ap (narrowedOf (maskIn (now (a .cuts))) (a .from) (a .at)) z ∙ kept-none _ in
     omega (arith, none, c .before .loop .inv .2)
 
 pub narrowed-spec : {M : Type 1} → statement M

@@ -25,7 +25,7 @@ first-of-requires c κs =
     let v = seenIn (s .args .n) (now (s .args .rows)) (now (s .args .corners)) in
     let b = s .pre .0 in
     let e = p .tell-parts .ensures in
-    let z = blank-new v (s .args .a) in (
+    let z = blank-new v (s .args .a) (s .args .b) in (
       (b .a-ready .within .sound, b .linked),
       (b .told, parts-told v (s .args .a) (s .args .b) (b .a-ready) (b .b-ready) (t .tell-lent .ensures .0) (e .0) (e .1) z),
     )
@@ -66,7 +66,7 @@ first-of-requires-2 c κs =
     let b = s .pre .0 in
     let e = p .tell-parts .ensures in
     let f = q .tell-parts2 .ensures in
-    let n = blank-new v (s .args .b) in
+    let n = blank-new v (s .args .b) (s .args .a) in
     let z = blank-told v (s .args .a) (s .args .b) (b .a-ready) (b .b-ready) (t .tell-lent .ensures .0) (e .0) (e .1) n in (
       (b .b-ready .within .sound, l .fill-links .ensures .own),
       (t .tell-lent .ensures .0, parts-told v (s .args .b) (s .args .a) (b .b-ready) (b .a-ready) (b .told) (f .0) (f .1) z),

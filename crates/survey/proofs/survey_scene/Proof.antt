@@ -1,4 +1,4 @@
--- Each solid by its own words, narrowed by the other's; what was told for A leaves the tables empty for B.
+-- Each solid by its own words, narrowed by the other's; what was told for A leaves the words of B's vertices empty.
 use denote.Ref.{now}
 use Rattle.listing.specs.Hits.{seenIn}
 use Rattle.told.specs.Parted.{blank-new, parts-asked, parts-told, blank-told}
@@ -29,7 +29,7 @@ survey-part-requires c κs =
     let v = seenIn (s .args .n) (now (s .args .rows)) (now (s .args .corners)) in
     let r = s .pre .0 in
     let e = p .tell-parts .ensures in
-    let z = blank-new v (s .args .a) in
+    let z = blank-new v (s .args .a) (s .args .b) in
     let h = parts-told v (s .args .a) (s .args .b) (r .0) (r .1) (d .tell-sides2 .ensures) (e .0) (e .1) z in
     ((r .0, s .pre .1 .0), ((t .tell-sides .ensures, h), (search needs, search needs)))
 
@@ -52,7 +52,8 @@ survey-part-requires-2 c κs =
     let r = s .pre .0 in
     let e = p .tell-parts .ensures in
     let f = q .tell-parts2 .ensures in
-    let z = blank-told v (s .args .a) (s .args .b) (r .0) (r .1) (d .tell-sides2 .ensures) (e .0) (e .1) (blank-new v (s .args .b)) in
+    let n = blank-new v (s .args .b) (s .args .a) in
+    let z = blank-told v (s .args .a) (s .args .b) (r .0) (r .1) (d .tell-sides2 .ensures) (e .0) (e .1) n in
     let h = parts-told v (s .args .b) (s .args .a) (r .1) (r .0) (t .tell-sides .ensures) (f .0) (f .1) z in
     ((r .1, s .pre .1 .1), ((d .tell-sides2 .ensures, h), o .survey-part .ensures .1))
 

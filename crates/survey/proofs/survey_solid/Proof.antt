@@ -1,7 +1,7 @@
 -- The words are told; the tables that narrow the questions stay empty.
 use denote.Ref.{now}
 use Rattle.listing.specs.Hits.{seenIn}
-use Rattle.told.specs.Parted.{blank-new, parted-none}
+use Rattle.told.specs.Parted.{parted-new}
 use borrow.Author.Needs.{needs}
 use Rattle.survey.proofs.survey_solid.Statement.{statement}
 use Rattle.survey.proofs.survey_solid.Tie as tie
@@ -17,7 +17,7 @@ survey-part-requires c κs =
     let t = c .before .before .before .before .before .before .before in
     let s = t .before .before .before .before .before in
     let v = seenIn (s .args .n) (now (s .args .rows)) (now (s .args .corners)) in
-    (s .pre, ((t .tell-sides .ensures, parted-none v (s .args .k) (blank-new v (s .args .k))), (search needs, search needs)))
+    (s .pre, ((t .tell-sides .ensures, parted-new v (s .args .k)), (search needs, search needs)))
 
 returns : tie.Need-returns
 returns c = search needs
