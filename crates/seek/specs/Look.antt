@@ -5,14 +5,14 @@ use Prim.Native.Nat.{ℕ, _+_, _*_, _/_, _≤_, _<_}
 use native.Mathlib.Omega.{arith}
 use lib.IntN.{ℤ}
 use Rattle.scene.specs.Limits.{limits, mostPoints}
-use Rattle.scene.specs.Arrays.{rowIn, AllWithin, FacesWithin}
+use Rattle.scene.specs.Arrays.{AllWithin, FacesWithin}
 use Rattle.scene.specs.declared.Solid.{Solid}
 use Rattle.edges.specs.Edges.{neighbours}
 use Rattle.listing.specs.Hits.{Seen, Hit, Own, Sound, solidHits}
 use Rattle.listing.specs.First.{firstOf, first-start}
 use Rattle.listing.specs.declared.find.Found.{Found}
 use Rattle.listing.specs.declared.find.Found.the-variants.{Nothing, Pair}
-use Rattle.sides.specs.Sides.{ReadyAll, ready-ends}
+use Rattle.sides.specs.Sides.{planeIn, ReadyAll, ready-ends}
 use Rattle.table.specs.Edges.{Higher, vertexEdges}
 use Rattle.table.specs.Order.{higher}
 use Rattle.told.specs.Told.{Made}
@@ -47,8 +47,11 @@ module _ (s : Seen) (k : Solid) (sound : Sound s k) (some : 0 < k .verts) where
 pub side-asked : (s : Seen) (k : Solid) {planes : List ℤ} (t : ℕ) → Sound s k → Made (s .row) (s .face) k planes → Own s k t →
     (AllWithin limits (s .row) × FacesWithin limits (s .face) × (t ≤ mostPoints limits))
     × (((k .other + k .others ≤ 2 * limits .mostFaces) × (k .others ≤ limits .mostFaces))
-    × ReadyAll (s .row) (s .face) (rowIn planes) t (k .other) (k .others))
+    × ReadyAll (s .row) (s .face) (planeIn planes (k .other)) t (k .other) (k .others))
 side-asked s k {planes} t o made own = (
   (o .rows, o .faces, omega (arith, o .vertices .1)),
-  (o .other, ready-ends (s .row) (s .face) (rowIn planes) (k .other) (k .others) (o .weighted) (made .has) (o .outward t own) .0),
+  (
+    o .other,
+    ready-ends (s .row) (s .face) (planeIn planes (k .other)) (k .other) (k .others) (o .weighted) (made .has) (o .outward t own) .0,
+  ),
 )

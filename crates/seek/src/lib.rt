@@ -24,6 +24,7 @@ use scene::Rows;
 use scene::Scene;
 use scene::Solid;
 use sides::planes::Planes;
+use sides::slopes::Slopes;
 use spread::enclosed_word;
 use told::make_planes;
 use told::tell_lent;
@@ -68,7 +69,7 @@ fn inside_still(
     enclosed_word(engine, rows, corners, n, k, links, &odds, words)
 }
 
-// By A's links and words: all edges.
+// By A's links and words: all edges. The table of planes takes those that B's vertices are asked by.
 fn seek_told(
     engine: Engine,
     rows: &Rows,
@@ -76,10 +77,10 @@ fn seek_told(
     n: usize,
     a: Solid,
     b: Solid,
-    planes: &Planes,
+    planes: &mut Planes,
     links: &Words,
     words: &sides::words::Words,
-    slopes: &mut Planes,
+    slopes: &mut Slopes,
 ) -> Sought
     requires { ⌜ Begun (seenIn n (now rows) (now corners)) a b (now planes) (now links) (now words) ⌝ }
     requires { ⌜ Sloped (rowIn (now rows)) (faceIn (now corners)) (now slopes) ⌝ }
@@ -89,6 +90,7 @@ fn seek_told(
     let mut own: sides::words::Words = [0; 2 * (Scene::MOST_POINTS + 1)];
     let mut cuts: Cuts = [0; 2 * (Scene::MOST_FACES + 1)];
     let mut blinks: Words = [0; WORDS];
+    make_planes(rows, corners, b, planes);
     tell_lent(rows, corners, planes, n, b, &mut others, slopes);
     tell_parts(corners, a, b, &others, &mut own, &mut cuts);
     let of_a = first_of(engine, rows, corners, n, a, links, words, &own, &cuts);
@@ -113,10 +115,10 @@ pub fn seek(engine: Engine, rows: &Rows, corners: &Corners, n: usize, a: Solid, 
     requires { ⌜ Ready (seenIn n (now rows) (now corners)) a × Ready (seenIn n (now rows) (now corners)) b ⌝ }
     ensures { λ r. ⌜ IsSought (seenIn n (now (rows .entry)) (now (corners .entry))) a b r ⌝ }
 {
-    let mut planes: Planes = [0; 4 * (2 * Scene::MOST_FACES + 1)];
-    let mut slopes: Planes = [0; 4 * (2 * Scene::MOST_FACES + 1)];
+    let mut planes: Planes = [0; 4 * (Scene::MOST_FACES + 1)];
+    let mut slopes: Slopes = [0; 4 * (2 * Scene::MOST_FACES + 1)];
     let mut links: Words = [0; WORDS];
-    make_planes(rows, corners, a, b, &mut planes);
+    make_planes(rows, corners, a, &mut planes);
     fill_links(corners, a, &mut links);
     let found = look(engine, rows, corners, n, a, &planes, &links, &mut slopes);
     if let Found::Pair(u, v, f) = found {
@@ -131,7 +133,7 @@ pub fn seek(engine: Engine, rows: &Rows, corners: &Corners, n: usize, a: Solid, 
         n,
         a,
         b,
-        &planes,
+        &mut planes,
         &links,
         &words,
         &mut slopes,

@@ -22,6 +22,7 @@ use scene::Rows;
 use scene::Solid;
 use sides::between;
 use sides::planes::Planes;
+use sides::slopes::Slopes;
 use sides::ties::sides;
 use table::first::first_of_mask;
 
@@ -39,7 +40,7 @@ fn look_at(
     u: usize,
     m: Mask,
     v: usize,
-    slopes: &mut Planes,
+    slopes: &mut Slopes,
 ) -> Found
     requires solid { ⌜ Sound (seenIn n (now rows) (now corners)) k × Made (rowIn (now rows)) (faceIn (now corners)) k (now planes) ⌝ }
     requires edge { ⌜ Vertex (k .low) (k .low + k .verts) u × Vertex (k .low) (k .low + k .verts) v × (u < v) ⌝ }
@@ -64,7 +65,7 @@ fn look_from(
     u: usize,
     m: Mask,
     higher: u64,
-    slopes: &mut Planes,
+    slopes: &mut Slopes,
 ) -> Found
     requires solid { ⌜ Sound (seenIn n (now rows) (now corners)) k × Made (rowIn (now rows)) (faceIn (now corners)) k (now planes) ⌝ }
     requires vertex { ⌜ Vertex (k .low) (k .low + k .verts) u × Higher (seenIn n (now rows) (now corners)) k u higher ⌝ }
@@ -100,7 +101,7 @@ pub fn look(
     k: Solid,
     planes: &Planes,
     links: &Words,
-    slopes: &mut Planes,
+    slopes: &mut Slopes,
 ) -> Found
     requires solid { ⌜ Sound (seenIn n (now rows) (now corners)) k × Made (rowIn (now rows)) (faceIn (now corners)) k (now planes) ⌝ }
     requires links { ⌜ AreLinks (seenIn n (now rows) (now corners)) k (now links) ⌝ }

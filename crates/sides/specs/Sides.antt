@@ -1,12 +1,15 @@
 -- The sides of a solid's faces on which a point lies: A(t) of formula (13) for each face, as two words. Assumes nothing.
 use mathlib.Core.Path.{_≡_, sym, ap, ap₂, subst, _∙_}
 use mathlib.Core.Bool.{Bool}
+use mathlib.Core.List.{List}
 use Prim.Native.Nat.{ℕ, suc, _+_, _*_, _-_, _^_, _%_, _≤_, _<_}
 use native.Mathlib.Omega.{arith}
 use native.Mathlib.Decide.{decLt}
 use lib.Bits.{bitOr, or-shifted}
+use lib.IntN.{ℤ}
 use lib.Pow.{shl-exact}
 use Rattle.laws.specs.Mask.{digit, digit-lt, maskOf, mask-lt, mask-low, mask-join}
+use Rattle.scene.specs.Arrays.{rowIn}
 use Rattle.scene.specs.Faces.{Vertex, FaceOf}
 use Rattle.scene.specs.declared.Row.{Row}
 use Rattle.scene.specs.declared.Face.{Face}
@@ -129,6 +132,10 @@ module _ (passes : Face → Bool) (face : ℕ → Face) (first count k : ℕ) (s
       sum = omega arith
 
 -- ---- what is asked before a point's sides are told: the planes are made, and each face's corners and the point differ
+
+-- a table of the planes of the faces above base, by their numbers in the scene
+abbrev pub planeIn : List ℤ → (base : ℕ) → ℕ → Row
+planeIn planes base k = rowIn planes (k - base)
 
 pub record Ready (row : ℕ → Row) (face : ℕ → Face) (plane : ℕ → Row) (t k : ℕ) : Type 0 where
   pub made : plane k ≡ planeFor row (face k)

@@ -1,55 +1,49 @@
--- The tables that are made once a scene: the planes of its faces, and two words a point, the sides of the other solid's faces. What they
--- hold after they are filled, at every number. Assumes nothing.
+-- The tables that are made for a solid: the planes of the faces opposite, and two words a point, the sides of those faces. What they hold
+-- after they are filled. Assumes nothing.
 use mathlib.Core.Path.{_≡_, refl, sym, ap, subst, _∙_}
-use mathlib.Core.Bool.{cond}
 use mathlib.Core.List.{List}
 use Prim.Native.Nat.{ℕ, zero, suc, _+_, _-_, _*_, _≤_, _<_}
 use native.Mathlib.Omega.{arith}
-use borrow.Author.Tests.{lt-ltb, le-ltb}
-use lib.Dec.{ltb}
-use lib.IntN.{ℤ, pos}
-use lib.ListN.{length, getD, set, length-set, replicate}
+use lib.IntN.{ℤ}
+use lib.ListN.{length, getD, set, length-set}
 use lib.Seq.{getD-set-same, getD-set-other}
 use Rattle.laws.specs.Filled.{filled, filled-more, filled-at}
 use Rattle.scene.specs.Arrays.{rowIn}
-use Rattle.scene.specs.Decode.{rowSet, rows-decoded}
-use Rattle.scene.specs.Tables.{noRow}
+use Rattle.scene.specs.Decode.{rowSet, row-keeps, row-same, row-other}
 use Rattle.scene.specs.declared.Row.{Row}
 use Rattle.scene.specs.declared.Face.{Face}
 use Rattle.scene.specs.declared.Solid.{Solid}
 use Rattle.face_masks.specs.declared.Mask.{Mask}
 use Rattle.sides.specs.Planes.{planeFor}
-use Rattle.sides.specs.Sides.{sidesOf, ReadyAll, Planed}
+use Rattle.sides.specs.Sides.{sidesOf, planeIn, ReadyAll, Planed}
 
 -- ---- planes: four numbers a face
 
-module _ {A B : Type 0} (put : List A → ℕ → B → List A) where
-  filled-same : (g h : ℕ → B) (n : ℕ) (l : List A) → ((k : ℕ) → k < n → g k ≡ h k) → filled put g n l ≡ filled put h n l
-  unfolding filled
-  filled-same g h zero l e = refl
-  filled-same g h (suc n) l e = λ i. put (filled-same g h n l (λ k b. e k (omega arith)) i) n (e n (omega arith) i)
+-- those of the n faces above first, at their numbers within the solid
+unfoldable pub planesFrom : (ℕ → Row) → (ℕ → Face) → (first n : ℕ) → List ℤ → List ℤ
+planesFrom row face first = filled (λ l i p. rowSet l (1 + i) p) (λ i. planeFor row (face (first + 1 + i)))
 
--- a table of zeros, filled with the planes of the faces below n
-pub planes-filled : (row : ℕ → Row) (face : ℕ → Face) (n m : ℕ) {l : List ℤ} → l
-    ≡ filled rowSet (λ k. planeFor row (face k)) n (replicate m (pos 0)) → 4 * n ≤ m →
-    (k : ℕ) → k < n → rowIn l k ≡ planeFor row (face k)
-planes-filled row face n m e h k b =
-    ap (λ (f : ℕ → Row). f k) (rows-decoded upto n m (e ∙ filled-same rowSet (λ j. planeFor row (face j)) upto n
-    (replicate m (pos 0)) same) h beyond) ∙ sym (same k b)
-  where
-    upto : ℕ → Row
-    upto j = cond (ltb j n) (planeFor row (face j)) noRow
+module _ (row : ℕ → Row) (face : ℕ → Face) (first : ℕ) where
+  -- one turn of the loop that fills them
+  pub planes-more : (i : ℕ) (l : List ℤ) {m : List ℤ} {p : Row} → m ≡ planesFrom row face first i l →
+      p ≡ planeFor row (face (first + 1 + i)) → rowSet m (1 + i) p ≡ planesFrom row face first (i + 1) l
+  unfolding planesFrom
+  planes-more i l e d = filled-more (λ l i p. rowSet l (1 + i) p) (λ i. planeFor row (face (first + 1 + i))) i l e d
 
-    same : (j : ℕ) → j < n → planeFor row (face j) ≡ upto j
-    same j b = rw (lt-ltb j n b)
+  pub planes-length : (n : ℕ) (l : List ℤ) → length (planesFrom row face first n l) ≡ length l
+  unfolding planesFrom filled
+  planes-length zero l = refl
+  planes-length (suc n) l = row-keeps (planesFrom row face first n l) (1 + n) (planeFor row (face (first + 1 + n))) ∙ planes-length n l
 
-    beyond : (j : ℕ) → n ≤ j → upto j ≡ noRow
-    beyond j b = rw (le-ltb j n b)
-
-pub planed : (row : ℕ → Row) (face : ℕ → Face) (n m : ℕ) {l : List ℤ} → l ≡ filled rowSet (λ k. planeFor row (face k)) n (replicate m
-    (pos 0)) → 4 * n ≤ m →
-    (first count : ℕ) → first + count < n → Planed row face (rowIn l) first count
-planed row face n m e h first count b k c = planes-filled row face n m e h (first + 1 + k) (omega arith)
+  pub planed : (n : ℕ) (l : List ℤ) {m : List ℤ} → 4 * n + 3 < length l → m ≡ planesFrom row face first n l →
+      Planed row face (planeIn m first) first n
+  unfolding planesFrom
+  planed n l {m} r e k b =
+      let d : first + 1 + k - first ≡ 1 + k = omega arith in
+      ap (rowIn m) d ∙ ap (λ (x : List ℤ). rowIn x (1 + k)) e
+      ∙ filled-at (λ x i p. rowSet x (1 + i) p) (λ x i. rowIn x (1 + i)) (λ i s. 4 * (1 + i) + 3 < s) (λ x i p. row-keeps x (1 + i) p)
+      (λ x i p. row-same x (1 + i) p) (λ x i j p d. row-other x (1 + i) (1 + j) p (λ f. d (omega (arith, f))))
+      (λ i. planeFor row (face (first + 1 + i))) n l (λ i s. omega arith) k b
 
 -- ---- words: two a point
 

@@ -50,10 +50,10 @@ hasTies m = not (eqb (m .low .tied) 0) || not (eqb (m .high .tied) 0)
 abbrev pub aboveOf : Told → Mask
 aboveOf m = record { low = m .low .above; high = m .high .above }
 
--- a digit of a face in whose plane the point lies
-pub record Tied (row : ℕ → Row) (face : ℕ → Face) (plane : ℕ → Row) (first t k : ℕ) : Type 0 where
+-- a digit of a face in whose plane the point lies, in a table of the planes of the faces above base
+pub record Tied (row : ℕ → Row) (face : ℕ → Face) (plane : ℕ → Row) (base first t k : ℕ) : Type 0 where
   pub small : k < 64
-  pub number : first + 1 + k ≤ 2 * limits .mostFaces
+  pub number : (first + 1 + k ≤ 2 * limits .mostFaces) × (first + 1 + k ≤ base + limits .mostFaces)
   pub ready : Ready row face plane t (first + 1 + k)
   pub within : InPlane row (face (first + 1 + k)) t
 
@@ -114,10 +114,11 @@ module _ (row : ℕ → Row) (face : ℕ → Face) (first count t : ℕ) (few : 
   pub word-clear : v ≡ 0 → w ≡ maskBy (above row t) face first count
   word-clear z = omega (arith, word-settled (sym (ap (settledOf row face first t) z ∙ kept-none (λ k. above row t (face (first + 1 + k))))))
 
-  pub word-tied : (plane : ℕ → Row) → ((k : ℕ) → k < count → first + 1 + k ≤ 2 * limits .mostFaces) → ReadyAll row face plane t first count →
-      AtEach (Tied row face plane first t) v
-  word-tied plane l h =
-      each-mask (Tied row face plane first t) (λ k. flat row t (face (first + 1 + k))) count few q
+  pub word-tied : (plane : ℕ → Row) (base : ℕ) →
+      ((k : ℕ) → k < count → (first + 1 + k ≤ 2 * limits .mostFaces) × (first + 1 + k ≤ base + limits .mostFaces)) →
+      ReadyAll row face plane t first count → AtEach (Tied row face plane base first t) v
+  word-tied plane base l h =
+      each-mask (Tied row face plane base first t) (λ k. flat row t (face (first + 1 + k))) count few q
       (λ k b e. record { small = omega arith; number = l k b; ready = h k b; within = flat-in row t (face (first + 1 + k)) e })
 
 -- ---- both words
@@ -181,10 +182,10 @@ module _ (row : ℕ → Row) (face : ℕ → Face) (first count t : ℕ) (most :
       }
 
   module _ (plane : ℕ → Row) (within : first + count ≤ 2 * limits .mostFaces) (ready : ReadyAll row face plane t first count) where
-    pub low-tied : AtEach (Tied row face plane first t) (m .low .tied)
-    low-tied = word-tied row face first (first64 count) t low-few (h .low .above) (h .low .tied) plane (λ k b. omega arith)
-        (ready-low row face plane first count ready (first64 count) (omega arith))
+    pub low-tied : AtEach (Tied row face plane first first t) (m .low .tied)
+    low-tied = word-tied row face first (first64 count) t low-few (h .low .above) (h .low .tied) plane first
+        (λ k b. (omega arith, omega arith)) (ready-low row face plane first count ready (first64 count) (omega arith))
 
-    pub high-tied : AtEach (Tied row face plane (first + 64) t) (m .high .tied)
-    high-tied = word-tied row face (first + 64) (count - 64) t high-few (h .high .above) (h .high .tied) plane
-        (λ k b. omega arith) (ready-high row face plane first count ready)
+    pub high-tied : AtEach (Tied row face plane first (first + 64) t) (m .high .tied)
+    high-tied = word-tied row face (first + 64) (count - 64) t high-few (h .high .above) (h .high .tied) plane first
+        (λ k b. (omega arith, omega arith)) (ready-high row face plane first count ready)

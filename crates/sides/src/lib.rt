@@ -31,7 +31,7 @@ use scene::decode::face_in;
 
 mod crossing;
 pub mod planes;
-mod slopes;
+pub mod slopes;
 mod tell;
 pub mod ties;
 mod units;

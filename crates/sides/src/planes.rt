@@ -1,13 +1,13 @@
-// The planes of a scene's faces: each face's four minors, made once, give the determinant of its corners and a point by four products.
+// The planes of a solid's faces: each face's four minors, made once, give the determinant of its corners and a point by four products.
 ghost use mathlib.Core.Path.{_≡_};
 ghost use Prim.Native.Nat.{_+_, _*_, _≤_};
-ghost use Rattle.laws.specs.Filled.{filled};
 ghost use Rattle.scene.specs.Limits.{limits, mostPoints};
 ghost use Rattle.scene.specs.Arrays.{rowIn, faceIn, AllWithin, FaceWithin, FacesWithin};
 ghost use Rattle.scene.specs.Decode.{rowSet};
 ghost use Rattle.orient.specs.Formed.{mostFormed};
 ghost use Rattle.sides.specs.Planes.{spanOf, dotOf, planeOf, planeFor};
 ghost use Rattle.sides.specs.Sizes.{SpanWithin, PlaneWithin, dotSize};
+ghost use Rattle.sides.specs.Tables.{planesFrom};
 use crate::units;
 use crate::units::are_units;
 use orient::minors::Line;
@@ -21,21 +21,20 @@ use scene::Rows;
 use scene::Scene;
 use scene::decode::face_in;
 
-// A plane for each face, at its number.
-pub type Planes = [i64; 4 * (2 * Scene::MOST_FACES + 1)];
+// A plane for each face of one solid, at its number within the solid.
+pub type Planes = [i64; 4 * (Scene::MOST_FACES + 1)];
 
-// The planes of the faces up to n.
-pub fn fill(rows: &Rows, corners: &Corners, n: usize, planes: &mut Planes)
+// The planes of the `count` faces of a solid, numbered from first + 1 on.
+pub fn fill(rows: &Rows, corners: &Corners, first: usize, count: usize, planes: &mut Planes)
     requires rows { ⌜ AllWithin limits (rowIn (now rows)) × FacesWithin limits (faceIn (now corners)) ⌝ }
-    requires faces { ⌜ n ≤ 2 * limits .mostFaces ⌝ }
+    requires faces { ⌜ (first + count ≤ 2 * limits .mostFaces) × (count ≤ limits .mostFaces) ⌝ }
     ensures { λ r. ⌜ now (planes .exit)
-        ≡ filled rowSet (λ k. planeFor (rowIn (now (rows .entry))) (faceIn (now (corners .entry)) k)) (n + 1) (now (planes .entry)) ⌝ }
+        ≡ planesFrom (rowIn (now (rows .entry))) (faceIn (now (corners .entry))) first count (now (planes .entry)) ⌝ }
 {
-    let e = n + 1;
-    let mut k: usize = 0;
-    while k < e {
-        put(planes, k, plane(rows, face_in(corners, k)));
-        k += 1;
+    let mut i: usize = 0;
+    while i < count {
+        put(planes, 1 + i, plane(rows, face_in(corners, first + 1 + i)));
+        i += 1;
     }
 }
 
@@ -61,11 +60,11 @@ pub fn through(a: Row, b: Row, c: Row) -> Row
     span(join(a, b), c)
 }
 
-pub fn put(planes: &mut Planes, k: usize, p: Row)
-    requires { ⌜ k ≤ 2 * limits .mostFaces ⌝ }
-    ensures { λ r. ⌜ now (planes .exit) ≡ rowSet (now (planes .entry)) k p ⌝ }
+fn put(planes: &mut Planes, j: usize, p: Row)
+    requires { ⌜ j ≤ limits .mostFaces ⌝ }
+    ensures { λ r. ⌜ now (planes .exit) ≡ rowSet (now (planes .entry)) j p ⌝ }
 {
-    let i = 4 * k;
+    let i = 4 * j;
     let x = p.x;
     let y = p.y;
     let z = p.z;
@@ -76,12 +75,12 @@ pub fn put(planes: &mut Planes, k: usize, p: Row)
     planes[i + 3] = w;
 }
 
-// The plane of face k, of planes that were filled.
-pub fn plane_at(planes: &Planes, k: usize) -> Row
-    requires { ⌜ k ≤ 2 * limits .mostFaces ⌝ }
-    ensures { λ r. ⌜ r ≡ rowIn (now (planes .entry)) k ⌝ }
+// The plane of the solid's face j, of planes that were filled.
+pub fn plane_at(planes: &Planes, j: usize) -> Row
+    requires { ⌜ j ≤ limits .mostFaces ⌝ }
+    ensures { λ r. ⌜ r ≡ rowIn (now (planes .entry)) j ⌝ }
 {
-    let i = 4 * k;
+    let i = 4 * j;
     Row {
         x: planes[i],
         y: planes[i + 1],

@@ -1,20 +1,21 @@
 // The slopes of a scene's faces: a face's slope, made when a tie first asks for it, gives c1 of the face's corners and a point.
 ghost use mathlib.Core.Path.{_≡_};
-ghost use Prim.Native.Nat.{_*_, _≤_};
+ghost use Prim.Native.Nat.{_+_, _*_, _≤_};
 ghost use lib.IntN.{_+ℤ_};
 ghost use Rattle.scene.specs.Limits.{limits, mostPoints};
 ghost use Rattle.scene.specs.Arrays.{rowIn, faceIn, AllWithin, FaceWithin, FacesWithin};
+ghost use Rattle.scene.specs.Decode.{rowSet};
 ghost use Rattle.orient.specs.Formed.{mostFormed};
 ghost use Rattle.orient.specs.Shifts.{shiftAt};
 ghost use Rattle.orient.specs.Terms.{c1At};
 ghost use Rattle.sides.specs.Planes.{planeFor};
+ghost use Rattle.sides.specs.Sides.{planeIn};
 ghost use Rattle.sides.specs.Slopes.{sumOf, slopeFor, isZero, isBlank, Sloped};
 ghost use Rattle.sides.specs.Units.{Units};
 ghost use Rattle.sides.specs.SlopeSizes.{SumWithin, plusSize};
 use crate::planes::Planes;
 use crate::planes::dot;
 use crate::planes::plane_at;
-use crate::planes::put;
 use crate::planes::row_at;
 use crate::planes::through;
 use crate::units::are_units;
@@ -27,46 +28,82 @@ use scene::Corners;
 use scene::Face;
 use scene::Row;
 use scene::Rows;
+use scene::Scene;
 use scene::decode::face_in;
 
-// c1 of the corners of face k, turned as its plane is, and point t, whose row is r and whose shift is s.
+// A slope for each face of a scene, at its number; zeros where it is not made.
+pub type Slopes = [i64; 4 * (2 * Scene::MOST_FACES + 1)];
+
+// c1 of the corners of face k, turned as its plane is, and point t, whose row is r and whose shift is s. The planes are those of the faces
+// from base + 1 on.
 pub fn tilt_at(
     rows: &Rows,
     corners: &Corners,
     planes: &Planes,
+    base: usize,
     k: usize,
     t: usize,
     r: Row,
     s: Row,
-    slopes: &mut Planes,
+    slopes: &mut Slopes,
 ) -> i64
-    requires rows { ⌜ AllWithin limits (rowIn (now rows)) × FacesWithin limits (faceIn (now corners)) × (k ≤ 2 * limits .mostFaces) ⌝ }
+    requires rows { ⌜ AllWithin limits (rowIn (now rows)) × FacesWithin limits (faceIn (now corners)) × (k ≤ 2 * limits .mostFaces)
+        × (base ≤ k) × (k ≤ base + limits .mostFaces) ⌝ }
     requires point { ⌜ (t ≤ mostPoints limits) × (r ≡ rowIn (now rows) t) × (s ≡ shiftAt (rowIn (now rows)) t) ⌝ }
-    requires ready { ⌜ rowIn (now planes) k ≡ planeFor (rowIn (now rows)) (faceIn (now corners) k) ⌝ }
+    requires ready { ⌜ planeIn (now planes) base k ≡ planeFor (rowIn (now rows)) (faceIn (now corners) k) ⌝ }
     requires sloped { ⌜ Sloped (rowIn (now rows)) (faceIn (now corners)) (now slopes) ⌝ }
     ensures tilt { λ o. ⌜ o ≡ c1At (rowIn (now (rows .entry))) ((faceIn (now (corners .entry)) k) .q)
         ((faceIn (now (corners .entry)) k) .p) ((faceIn (now (corners .entry)) k) .r) t ⌝ }
     ensures sloped { λ r. ⌜ Sloped (rowIn (now (rows .entry))) (faceIn (now (corners .entry))) (now (slopes .exit)) ⌝ }
 {
     let a = dot(slope_at(rows, corners, k, slopes), r);
-    let b = dot(plane_at(planes, k), s);
+    let b = dot(plane_at(planes, k - base), s);
     plus(a, b)
 }
 
 // The slope of face k, made and stored where the table has none.
-pub fn slope_at(rows: &Rows, corners: &Corners, k: usize, slopes: &mut Planes) -> Row
+fn slope_at(rows: &Rows, corners: &Corners, k: usize, slopes: &mut Slopes) -> Row
     requires rows { ⌜ AllWithin limits (rowIn (now rows)) × FacesWithin limits (faceIn (now corners)) × (k ≤ 2 * limits .mostFaces) ⌝ }
     requires sloped { ⌜ Sloped (rowIn (now rows)) (faceIn (now corners)) (now slopes) ⌝ }
     ensures slope { λ r. ⌜ r ≡ slopeFor (rowIn (now (rows .entry))) (faceIn (now (corners .entry)) k) ⌝ }
     ensures sloped { λ r. ⌜ Sloped (rowIn (now (rows .entry))) (faceIn (now (corners .entry))) (now (slopes .exit)) ⌝ }
 {
-    let s = plane_at(slopes, k);
+    let s = held(slopes, k);
     if is_blank(s) {
         let made = slope(rows, face_in(corners, k));
         put(slopes, k, made);
         return made;
     }
     s
+}
+
+// What the table has of face k.
+fn held(slopes: &Slopes, k: usize) -> Row
+    requires { ⌜ k ≤ 2 * limits .mostFaces ⌝ }
+    ensures { λ r. ⌜ r ≡ rowIn (now (slopes .entry)) k ⌝ }
+{
+    let i = 4 * k;
+    Row {
+        x: slopes[i],
+        y: slopes[i + 1],
+        z: slopes[i + 2],
+        w: slopes[i + 3],
+    }
+}
+
+fn put(slopes: &mut Slopes, k: usize, s: Row)
+    requires { ⌜ k ≤ 2 * limits .mostFaces ⌝ }
+    ensures { λ r. ⌜ now (slopes .exit) ≡ rowSet (now (slopes .entry)) k s ⌝ }
+{
+    let i = 4 * k;
+    let x = s.x;
+    let y = s.y;
+    let z = s.z;
+    let w = s.w;
+    slopes[i] = x;
+    slopes[i + 1] = y;
+    slopes[i + 2] = z;
+    slopes[i + 3] = w;
 }
 
 // The slope of one face, turned as its plane is: the shift stands for one corner, each in turn.

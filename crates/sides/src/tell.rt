@@ -3,7 +3,7 @@ ghost use mathlib.Core.Path.{_≡_};
 ghost use Prim.Native.Nat.{_+_, _*_, _≤_};
 ghost use Rattle.scene.specs.Limits.{limits, mostPoints};
 ghost use Rattle.scene.specs.Arrays.{rowIn, faceIn, AllWithin, FacesWithin};
-ghost use Rattle.sides.specs.Sides.{Ready, ReadyAll};
+ghost use Rattle.sides.specs.Sides.{planeIn, Ready, ReadyAll};
 ghost use Rattle.sides.specs.Ties.{turnedAt, AreDigits, IsTold, hasTies, aboveOf};
 use crate::planes::Planes;
 use crate::planes::dot;
@@ -59,33 +59,36 @@ pub fn tell(
 ) -> Told
     requires rows { ⌜ AllWithin limits (rowIn (now rows)) × FacesWithin limits (faceIn (now corners)) × (t ≤ mostPoints limits) ⌝ }
     requires faces { ⌜ (first + count ≤ 2 * limits .mostFaces) × (count ≤ limits .mostFaces) ⌝ }
-    requires ready { ⌜ ReadyAll (rowIn (now rows)) (faceIn (now corners)) (rowIn (now planes)) t first count ⌝ }
+    requires ready { ⌜ ReadyAll (rowIn (now rows)) (faceIn (now corners)) (planeIn (now planes) first) t first count ⌝ }
     ensures { λ r. ⌜ IsTold (rowIn (now (rows .entry))) (faceIn (now (corners .entry))) first count t r ⌝ }
 {
     if count <= WORD {
         return Told {
-            low: tell_word(rows, corners, planes, first, count, t),
+            low: tell_word(rows, corners, planes, first, first, count, t),
             high: Digits { above: 0, tied: 0 },
         };
     }
     Told {
-        low: tell_word(rows, corners, planes, first, WORD, t),
-        high: tell_word(rows, corners, planes, first + WORD, count - WORD, t),
+        low: tell_word(rows, corners, planes, first, first, WORD, t),
+        high: tell_word(rows, corners, planes, first, first + WORD, count - WORD, t),
     }
 }
 
-// Nearly every point has weight 1: handed on as a number that the compiler knows, it spares each face a product.
+// Of so few that a word holds them, by the planes of the faces from base + 1 on. Nearly every point has weight 1: handed on as a number
+// that the compiler knows, it spares each face a product.
 fn tell_word(
     rows: &Rows,
     corners: &Corners,
     planes: &Planes,
+    base: usize,
     first: usize,
     count: usize,
     t: usize,
 ) -> Digits
     requires rows { ⌜ AllWithin limits (rowIn (now rows)) × FacesWithin limits (faceIn (now corners)) × (t ≤ mostPoints limits) ⌝ }
-    requires faces { ⌜ (first + count ≤ 2 * limits .mostFaces) × (count ≤ 64) ⌝ }
-    requires ready { ⌜ ReadyAll (rowIn (now rows)) (faceIn (now corners)) (rowIn (now planes)) t first count ⌝ }
+    requires faces { ⌜ (first + count ≤ 2 * limits .mostFaces) × (count ≤ 64) × (base ≤ first)
+        × (first + count ≤ base + limits .mostFaces) ⌝ }
+    requires ready { ⌜ ReadyAll (rowIn (now rows)) (faceIn (now corners)) (planeIn (now planes) base) t first count ⌝ }
     ensures { λ r. ⌜ AreDigits (rowIn (now (rows .entry))) (faceIn (now (corners .entry))) first count t r ⌝ }
 {
     let r = row_at(rows, t);
@@ -96,9 +99,9 @@ fn tell_word(
             z: r.z,
             w: 1,
         };
-        return tell_at(rows, corners, planes, first, count, t, unit);
+        return tell_at(rows, corners, planes, base, first, count, t, unit);
     }
-    tell_at(rows, corners, planes, first, count, t, r)
+    tell_at(rows, corners, planes, base, first, count, t, r)
 }
 
 // By the row of point t, from the last face to the first: each puts its digits under those of the faces behind it.
@@ -106,6 +109,7 @@ fn tell_at(
     rows: &Rows,
     corners: &Corners,
     planes: &Planes,
+    base: usize,
     first: usize,
     count: usize,
     t: usize,
@@ -113,15 +117,16 @@ fn tell_at(
 ) -> Digits
     requires rows { ⌜ AllWithin limits (rowIn (now rows)) × FacesWithin limits (faceIn (now corners)) ⌝ }
     requires point { ⌜ (t ≤ mostPoints limits) × (r ≡ rowIn (now rows) t) ⌝ }
-    requires faces { ⌜ (first + count ≤ 2 * limits .mostFaces) × (count ≤ 64) ⌝ }
-    requires ready { ⌜ ReadyAll (rowIn (now rows)) (faceIn (now corners)) (rowIn (now planes)) t first count ⌝ }
+    requires faces { ⌜ (first + count ≤ 2 * limits .mostFaces) × (count ≤ 64) × (base ≤ first)
+        × (first + count ≤ base + limits .mostFaces) ⌝ }
+    requires ready { ⌜ ReadyAll (rowIn (now rows)) (faceIn (now corners)) (planeIn (now planes) base) t first count ⌝ }
     ensures { λ o. ⌜ AreDigits (rowIn (now (rows .entry))) (faceIn (now (corners .entry))) first count t o ⌝ }
 {
     let mut above: u64 = 0;
     let mut tied: u64 = 0;
     let mut k = count;
     while 0 < k {
-        let d = side(rows, corners, planes, first + k, t, r);
+        let d = side(rows, corners, planes, base, first + k, t, r);
         above = above << 1 | bit(d < 0);
         tied = tied << 1 | bit(d == 0);
         k -= 1;
@@ -130,11 +135,19 @@ fn tell_at(
 }
 
 // The plane of face k, turned, at point t, whose row is r: below zero where the point lies above the face, zero where it lies in its plane.
-fn side(rows: &Rows, corners: &Corners, planes: &Planes, k: usize, t: usize, r: Row) -> i64
+fn side(
+    rows: &Rows,
+    corners: &Corners,
+    planes: &Planes,
+    base: usize,
+    k: usize,
+    t: usize,
+    r: Row,
+) -> i64
     requires rows { ⌜ AllWithin limits (rowIn (now rows)) × FacesWithin limits (faceIn (now corners)) ⌝ }
-    requires numbers { ⌜ (k ≤ 2 * limits .mostFaces) × (t ≤ mostPoints limits) × (r ≡ rowIn (now rows) t) ⌝ }
-    requires ready { ⌜ Ready (rowIn (now rows)) (faceIn (now corners)) (rowIn (now planes)) t k ⌝ }
+    requires numbers { ⌜ (base ≤ k) × (k ≤ base + limits .mostFaces) × (t ≤ mostPoints limits) × (r ≡ rowIn (now rows) t) ⌝ }
+    requires ready { ⌜ Ready (rowIn (now rows)) (faceIn (now corners)) (planeIn (now planes) base) t k ⌝ }
     ensures { λ s. ⌜ s ≡ turnedAt (rowIn (now (rows .entry))) t (faceIn (now (corners .entry)) k) ⌝ }
 {
-    dot(plane_at(planes, k), r)
+    dot(plane_at(planes, k - base), r)
 }

@@ -4,13 +4,14 @@ ghost use Prim.Native.Nat.{_+_, _*_, _≤_};
 ghost use Rattle.scene.specs.Limits.{limits, mostPoints};
 ghost use Rattle.scene.specs.Arrays.{rowIn, faceIn, AllWithin, FacesWithin};
 ghost use Rattle.orient.specs.Shifts.{shiftAt};
-ghost use Rattle.sides.specs.Sides.{above, sidesOf, Ready, ReadyAll};
+ghost use Rattle.sides.specs.Sides.{above, sidesOf, planeIn, Ready, ReadyAll};
 ghost use Rattle.sides.specs.Told.{InPlane};
 ghost use Rattle.sides.specs.Candidates.{AtEach};
 ghost use Rattle.sides.specs.Slopes.{Sloped};
 ghost use Rattle.sides.specs.Ties.{IsTold, Tied, settledOf};
 use crate::planes::Planes;
 use crate::planes::row_at;
+use crate::slopes::Slopes;
 use crate::slopes::tilt_at;
 use crate::tell::Told;
 use crate::tell::above_of;
@@ -34,11 +35,11 @@ pub fn sides(
     first: usize,
     count: usize,
     t: usize,
-    slopes: &mut Planes,
+    slopes: &mut Slopes,
 ) -> Mask
     requires rows { ⌜ AllWithin limits (rowIn (now rows)) × FacesWithin limits (faceIn (now corners)) × (t ≤ mostPoints limits) ⌝ }
     requires faces { ⌜ (first + count ≤ 2 * limits .mostFaces) × (count ≤ limits .mostFaces) ⌝ }
-    requires ready { ⌜ ReadyAll (rowIn (now rows)) (faceIn (now corners)) (rowIn (now planes)) t first count ⌝ }
+    requires ready { ⌜ ReadyAll (rowIn (now rows)) (faceIn (now corners)) (planeIn (now planes) first) t first count ⌝ }
     requires sloped { ⌜ Sloped (rowIn (now rows)) (faceIn (now corners)) (now slopes) ⌝ }
     ensures { λ r. ⌜ (r ≡ sidesOf (rowIn (now (rows .entry))) (faceIn (now (corners .entry))) first count t)
         × Sloped (rowIn (now (rows .entry))) (faceIn (now (corners .entry))) (now (slopes .exit)) ⌝ }
@@ -59,11 +60,11 @@ fn settled(
     count: usize,
     t: usize,
     m: Told,
-    slopes: &mut Planes,
+    slopes: &mut Slopes,
 ) -> Mask
     requires rows { ⌜ AllWithin limits (rowIn (now rows)) × FacesWithin limits (faceIn (now corners)) × (t ≤ mostPoints limits) ⌝ }
     requires faces { ⌜ (first + count ≤ 2 * limits .mostFaces) × (count ≤ limits .mostFaces)
-        × ReadyAll (rowIn (now rows)) (faceIn (now corners)) (rowIn (now planes)) t first count ⌝ }
+        × ReadyAll (rowIn (now rows)) (faceIn (now corners)) (planeIn (now planes) first) t first count ⌝ }
     requires told { ⌜ IsTold (rowIn (now rows)) (faceIn (now corners)) first count t m ⌝ }
     requires sloped { ⌜ Sloped (rowIn (now rows)) (faceIn (now corners)) (now slopes) ⌝ }
     ensures { λ r. ⌜ (r ≡ sidesOf (rowIn (now (rows .entry))) (faceIn (now (corners .entry))) first count t)
@@ -73,8 +74,19 @@ fn settled(
     let h = m.high;
     let r = row_at(rows, t);
     let s = shift_at(rows, t);
-    let near = ties(rows, corners, planes, first, t, r, s, l.tied, slopes);
-    let next = ties(rows, corners, planes, first + WORD, t, r, s, h.tied, slopes);
+    let near = ties(rows, corners, planes, first, first, t, r, s, l.tied, slopes);
+    let next = ties(
+        rows,
+        corners,
+        planes,
+        first,
+        first + WORD,
+        t,
+        r,
+        s,
+        h.tied,
+        slopes,
+    );
     Mask {
         low: l.above + near,
         high: h.above + next,
@@ -82,20 +94,23 @@ fn settled(
 }
 
 // Of the faces from first + 1 on in whose planes point t lies, one word, those that it lies above by the shift; r is its row, s its shift.
+// The planes are those of the faces from base + 1 on.
 fn ties(
     rows: &Rows,
     corners: &Corners,
     planes: &Planes,
+    base: usize,
     first: usize,
     t: usize,
     r: Row,
     s: Row,
     tied: u64,
-    slopes: &mut Planes,
+    slopes: &mut Slopes,
 ) -> u64
-    requires rows { ⌜ AllWithin limits (rowIn (now rows)) × FacesWithin limits (faceIn (now corners)) × (first ≤ 2 * limits .mostFaces + 64) ⌝ }
+    requires rows { ⌜ AllWithin limits (rowIn (now rows)) × FacesWithin limits (faceIn (now corners))
+        × (first ≤ 2 * limits .mostFaces + 64) × (base ≤ first) ⌝ }
     requires point { ⌜ (t ≤ mostPoints limits) × (r ≡ rowIn (now rows) t) × (s ≡ shiftAt (rowIn (now rows)) t) ⌝ }
-    requires tied { ⌜ AtEach (Tied (rowIn (now rows)) (faceIn (now corners)) (rowIn (now planes)) first t) tied ⌝ }
+    requires tied { ⌜ AtEach (Tied (rowIn (now rows)) (faceIn (now corners)) (planeIn (now planes) base) base first t) tied ⌝ }
     requires sloped { ⌜ Sloped (rowIn (now rows)) (faceIn (now corners)) (now slopes) ⌝ }
     ensures { λ o. ⌜ (o ≡ settledOf (rowIn (now (rows .entry))) (faceIn (now (corners .entry))) first t tied)
         × Sloped (rowIn (now (rows .entry))) (faceIn (now (corners .entry))) (now (slopes .exit)) ⌝ }
@@ -104,7 +119,8 @@ fn ties(
     let mut word: u64 = 0;
     while left != 0 {
         let k = u64::trailing_zeros(left) as usize;
-        word = word + (bit(tie_above(rows, corners, planes, first + 1 + k, t, r, s, slopes)) << k);
+        word = word
+            + (bit(tie_above(rows, corners, planes, base, first + 1 + k, t, r, s, slopes)) << k);
         left = left & (left - 1);
     }
     word
@@ -115,21 +131,23 @@ fn tie_above(
     rows: &Rows,
     corners: &Corners,
     planes: &Planes,
+    base: usize,
     k: usize,
     t: usize,
     r: Row,
     s: Row,
-    slopes: &mut Planes,
+    slopes: &mut Slopes,
 ) -> bool
-    requires rows { ⌜ AllWithin limits (rowIn (now rows)) × FacesWithin limits (faceIn (now corners)) × (k ≤ 2 * limits .mostFaces) ⌝ }
+    requires rows { ⌜ AllWithin limits (rowIn (now rows)) × FacesWithin limits (faceIn (now corners)) × (k ≤ 2 * limits .mostFaces)
+        × (base ≤ k) × (k ≤ base + limits .mostFaces) ⌝ }
     requires point { ⌜ (t ≤ mostPoints limits) × (r ≡ rowIn (now rows) t) × (s ≡ shiftAt (rowIn (now rows)) t) ⌝ }
-    requires ready { ⌜ Ready (rowIn (now rows)) (faceIn (now corners)) (rowIn (now planes)) t k ⌝ }
+    requires ready { ⌜ Ready (rowIn (now rows)) (faceIn (now corners)) (planeIn (now planes) base) t k ⌝ }
     requires within { ⌜ InPlane (rowIn (now rows)) (faceIn (now corners) k) t ⌝ }
     requires sloped { ⌜ Sloped (rowIn (now rows)) (faceIn (now corners)) (now slopes) ⌝ }
     ensures { λ a. ⌜ (a ≡ above (rowIn (now (rows .entry))) t (faceIn (now (corners .entry)) k))
         × Sloped (rowIn (now (rows .entry))) (faceIn (now (corners .entry))) (now (slopes .exit)) ⌝ }
 {
-    let d = tilt_at(rows, corners, planes, k, t, r, s, slopes);
+    let d = tilt_at(rows, corners, planes, base, k, t, r, s, slopes);
     if d != 0 {
         return d < 0;
     }

@@ -4,10 +4,11 @@ ghost use Prim.Native.Nat.{ℕ, _+_, _*_, _≤_, _<_};
 ghost use Rattle.laws.specs.Mask.{digit};
 ghost use Rattle.scene.specs.Limits.{limits, mostPoints};
 ghost use Rattle.scene.specs.Arrays.{rowIn, faceIn, AllWithin, FacesWithin};
-ghost use Rattle.sides.specs.Sides.{sidesOf, ReadyAll};
+ghost use Rattle.sides.specs.Sides.{sidesOf, planeIn, ReadyAll};
 ghost use Rattle.sides.specs.Slopes.{Sloped};
 ghost use Rattle.sides.specs.Tables.{maskIn, wordSet, masksFrom, wordsFor, ReadyFor};
 use crate::planes::Planes;
+use crate::slopes::Slopes;
 use crate::tell::above_of;
 use crate::tell::has_ties;
 use crate::tell::tell;
@@ -26,7 +27,7 @@ pub fn fill(rows: &Rows, corners: &Corners, planes: &Planes, k: Solid, words: &m
     requires rows { ⌜ AllWithin limits (rowIn (now rows)) × FacesWithin limits (faceIn (now corners)) ⌝ }
     requires solid { ⌜ (k .low + k .verts ≤ mostPoints limits) × (k .other + k .others ≤ 2 * limits .mostFaces)
         × (k .others ≤ limits .mostFaces) ⌝ }
-    requires ready { ⌜ ReadyFor (rowIn (now rows)) (faceIn (now corners)) (rowIn (now planes)) k ⌝ }
+    requires ready { ⌜ ReadyFor (rowIn (now rows)) (faceIn (now corners)) (planeIn (now planes) (k .other)) k ⌝ }
     ensures { λ r. ⌜ now (words .exit) ≡ wordsFor (rowIn (now (rows .entry))) (faceIn (now (corners .entry))) k (now (words .entry)) ⌝ }
 {
     let n = fill_clear(rows, corners, planes, k, words);
@@ -47,7 +48,7 @@ fn fill_clear(rows: &Rows, corners: &Corners, planes: &Planes, k: Solid, words: 
     requires rows { ⌜ AllWithin limits (rowIn (now rows)) × FacesWithin limits (faceIn (now corners)) ⌝ }
     requires solid { ⌜ (k .low + k .verts ≤ mostPoints limits) × (k .other + k .others ≤ 2 * limits .mostFaces)
         × (k .others ≤ limits .mostFaces) ⌝ }
-    requires ready { ⌜ ReadyFor (rowIn (now rows)) (faceIn (now corners)) (rowIn (now planes)) k ⌝ }
+    requires ready { ⌜ ReadyFor (rowIn (now rows)) (faceIn (now corners)) (planeIn (now planes) (k .other)) k ⌝ }
     ensures { λ r. ⌜ (r ≤ k .verts) × (now (words .exit)
         ≡ masksFrom (sidesOf (rowIn (now (rows .entry))) (faceIn (now (corners .entry))) (k .other) (k .others)) (k .low) r
         (now (words .entry))) ⌝ }
@@ -83,14 +84,14 @@ fn fill_tied(
     requires rows { ⌜ AllWithin limits (rowIn (now rows)) × FacesWithin limits (faceIn (now corners)) ⌝ }
     requires solid { ⌜ (low + n ≤ mostPoints limits) × (first + count ≤ 2 * limits .mostFaces) × (count ≤ limits .mostFaces) ⌝ }
     requires ready { ⌜ ((i : ℕ) → i < n →
-        ReadyAll (rowIn (now rows)) (faceIn (now corners)) (rowIn (now planes)) (low + 1 + i) first count) ⌝ }
+        ReadyAll (rowIn (now rows)) (faceIn (now corners)) (planeIn (now planes) first) (low + 1 + i) first count) ⌝ }
     ensures { λ r. ⌜ now (words .exit)
         ≡ masksFrom (sidesOf (rowIn (now (rows .entry))) (faceIn (now (corners .entry))) first count) low n (now (words .entry)) ⌝ }
 {
     if n == 0 {
         return;
     }
-    let mut slopes: Planes = [0; 4 * (2 * Scene::MOST_FACES + 1)];
+    let mut slopes: Slopes = [0; 4 * (2 * Scene::MOST_FACES + 1)];
     fill_points(
         rows,
         corners,
@@ -114,12 +115,12 @@ pub fn fill_points(
     first: usize,
     count: usize,
     words: &mut Words,
-    slopes: &mut Planes,
+    slopes: &mut Slopes,
 )
     requires rows { ⌜ AllWithin limits (rowIn (now rows)) × FacesWithin limits (faceIn (now corners)) ⌝ }
     requires solid { ⌜ (low + n ≤ mostPoints limits) × (first + count ≤ 2 * limits .mostFaces) × (count ≤ limits .mostFaces) ⌝ }
     requires ready { ⌜ ((i : ℕ) → i < n →
-        ReadyAll (rowIn (now rows)) (faceIn (now corners)) (rowIn (now planes)) (low + 1 + i) first count) ⌝ }
+        ReadyAll (rowIn (now rows)) (faceIn (now corners)) (planeIn (now planes) first) (low + 1 + i) first count) ⌝ }
     requires sloped { ⌜ Sloped (rowIn (now rows)) (faceIn (now corners)) (now slopes) ⌝ }
     ensures words { λ r. ⌜ now (words .exit)
         ≡ masksFrom (sidesOf (rowIn (now (rows .entry))) (faceIn (now (corners .entry))) first count) low n (now (words .entry)) ⌝ }

@@ -50,13 +50,13 @@ pub fn survey_solid(
     requires { ⌜ Ready (seenIn n (now rows) (now corners)) k × Sized (now ends) (now masks) ⌝ }
     ensures { λ r. ⌜ Surveyed (seenIn n (now (rows .entry)) (now (corners .entry))) k (now (ends .exit)) (now (masks .exit)) r ⌝ }
 {
-    let mut planes: Planes = [0; 4 * (2 * Scene::MOST_FACES + 1)];
+    let mut planes: Planes = [0; 4 * (Scene::MOST_FACES + 1)];
     let mut words: sides::words::Words = [0; 2 * (Scene::MOST_POINTS + 1)];
     let own: sides::words::Words = [0; 2 * (Scene::MOST_POINTS + 1)];
     let cuts: Cuts = [0; 2 * (Scene::MOST_FACES + 1)];
     let mut links: Words = [0; WORDS];
     let mut odds: Words = [0; WORDS];
-    make_planes(rows, corners, k, k, &mut planes);
+    make_planes(rows, corners, k, &mut planes);
     tell_sides(rows, corners, &planes, n, k, &mut words);
     survey_part(
         engine,
@@ -117,7 +117,8 @@ fn survey_part(
     Part { edges, inside }
 }
 
-// Of both solids, each into its own table. What narrows the questions is told of A, then of B into the same tables.
+// Of both solids, each into its own table. Planes, and what narrows the questions, are made for A, then for B in the
+// same tables.
 pub fn survey_scene(
     engine: Engine,
     rows: &Rows,
@@ -135,15 +136,16 @@ pub fn survey_scene(
     ensures { λ r. ⌜ Surveyed (seenIn n (now (rows .entry)) (now (corners .entry))) a (now (aends .exit)) (now (amasks .exit)) (r .a) ⌝ }
     ensures { λ r. ⌜ Surveyed (seenIn n (now (rows .entry)) (now (corners .entry))) b (now (bends .exit)) (now (bmasks .exit)) (r .b) ⌝ }
 {
-    let mut planes: Planes = [0; 4 * (2 * Scene::MOST_FACES + 1)];
+    let mut planes: Planes = [0; 4 * (Scene::MOST_FACES + 1)];
     let mut wa: sides::words::Words = [0; 2 * (Scene::MOST_POINTS + 1)];
     let mut wb: sides::words::Words = [0; 2 * (Scene::MOST_POINTS + 1)];
     let mut own: sides::words::Words = [0; 2 * (Scene::MOST_POINTS + 1)];
     let mut cuts: Cuts = [0; 2 * (Scene::MOST_FACES + 1)];
     let mut links: Words = [0; WORDS];
     let mut odds: Words = [0; WORDS];
-    make_planes(rows, corners, a, b, &mut planes);
+    make_planes(rows, corners, a, &mut planes);
     tell_sides(rows, corners, &planes, n, a, &mut wa);
+    make_planes(rows, corners, b, &mut planes);
     tell_sides(rows, corners, &planes, n, b, &mut wb);
     tell_parts(corners, a, b, &wb, &mut own, &mut cuts);
     let of_a = survey_part(

@@ -4,7 +4,7 @@ ghost use Rattle.sides.specs.Lent.{Told};
 ghost use Rattle.sides.specs.Slopes.{Sloped};
 ghost use Rattle.listing.specs.Hits.{seenIn};
 ghost use Rattle.spread.specs.Ready.{Ready};
-ghost use Rattle.told.specs.Told.{farOf, noPlanes, Made};
+ghost use Rattle.told.specs.Told.{farOf, planeRoom, Made};
 ghost use Rattle.told.specs.Parted.{mirrors, ownTold, cutsTold};
 ghost use mathlib.Core.Path.{_≡_};
 ghost use Prim.Native.Nat.{_+_, _*_, _≤_};
@@ -16,6 +16,7 @@ use scene::Corners;
 use scene::Rows;
 use scene::Solid;
 use sides::planes::Planes;
+use sides::slopes::Slopes;
 use sides::words::Words;
 use sides::words::fill_points;
 
@@ -34,21 +35,14 @@ fn far(n: usize, k: Solid) -> Solid
     }
 }
 
-// The planes of all faces up to the last that either solid has opposite.
-pub fn make_planes(rows: &Rows, corners: &Corners, a: Solid, b: Solid, planes: &mut Planes)
+// The planes of the faces that the solid has opposite.
+pub fn make_planes(rows: &Rows, corners: &Corners, k: Solid, planes: &mut Planes)
     requires rows { ⌜ AllWithin limits (rowIn (now rows)) × FacesWithin limits (faceIn (now corners)) ⌝ }
-    requires faces { ⌜ (a .other + a .others ≤ 2 * limits .mostFaces) × (b .other + b .others ≤ 2 * limits .mostFaces) ⌝ }
-    requires empty { ⌜ now planes ≡ noPlanes ⌝ }
-    ensures { λ _. ⌜ Made (rowIn (now (rows .entry))) (faceIn (now (corners .entry))) a (now (planes .exit)) ⌝ }
-    ensures { λ _. ⌜ Made (rowIn (now (rows .entry))) (faceIn (now (corners .entry))) b (now (planes .exit)) ⌝ }
+    requires faces { ⌜ (k .other + k .others ≤ 2 * limits .mostFaces) × (k .others ≤ limits .mostFaces) ⌝ }
+    requires room { ⌜ length (now planes) ≡ planeRoom ⌝ }
+    ensures { λ _. ⌜ Made (rowIn (now (rows .entry))) (faceIn (now (corners .entry))) k (now (planes .exit)) ⌝ }
 {
-    let x = a.other + a.others;
-    let y = b.other + b.others;
-    if x < y {
-        sides::planes::fill(rows, corners, y, planes);
-    } else {
-        sides::planes::fill(rows, corners, x, planes);
-    }
+    sides::planes::fill(rows, corners, k.other, k.others, planes);
 }
 
 // By the planes of the other solid's faces.
@@ -76,7 +70,7 @@ pub fn tell_lent(
     n: usize,
     k: Solid,
     words: &mut Words,
-    slopes: &mut Planes,
+    slopes: &mut Slopes,
 )
     requires solid { ⌜ Ready (seenIn n (now rows) (now corners)) k × (length (now words) ≡ 2 * (mostPoints limits + 1)) ⌝ }
     requires made { ⌜ Made (rowIn (now rows)) (faceIn (now corners)) k (now planes) ⌝ }

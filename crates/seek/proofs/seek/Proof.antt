@@ -19,7 +19,7 @@ look-requires c κs =
     let l = c .before .before .before in
     let m = l .before .before in
     let s = m .before .before in
-    ((s .pre .0 .within .sound, m .make-planes .ensures .0), (l .fill-links .ensures .own, zeros-sloped _ _))
+    ((s .pre .0 .within .sound, m .make-planes .ensures), (l .fill-links .ensures .own, zeros-sloped _ _))
 
 enum-known-found : tie.Need-enum-known-found
 enum-known-found c = search needs
@@ -42,7 +42,7 @@ tell-lent-requires c κs =
     let l = c .before .before .before .before .before in
     let m = l .before .before .before .before .before .before in
     let s = m .before .before in
-    ((s .pre .0, search needs), (m .make-planes .ensures .0, l .look .ensures .1))
+    ((s .pre .0, search needs), (m .make-planes .ensures, l .look .ensures .1))
 
 seek-told-requires : tie.Need-seek-told-requires
 seek-told-requires c κs =
@@ -55,7 +55,7 @@ seek-told-requires c κs =
       b-ready = s .pre .1;
       linked = l .fill-links .ensures .own;
       told = t .tell-lent .ensures .0;
-      made = m .make-planes .ensures .1;
+      room = m .make-planes .ensures .size;
     } in
     (b, t .tell-lent .ensures .1)
 

@@ -7,21 +7,29 @@ use borrow.Author.Needs.{needs}
 use Rattle.seek.proofs.seek_told.Statement.{statement}
 use Rattle.seek.proofs.seek_told.Tie as tie
 
+make-planes-requires : tie.Need-make-planes-requires
+make-planes-requires c κs =
+    let b = c .before .pre .0 in
+    let o = b .b-ready .within .sound in
+    ((o .rows, o .faces), (o .other, b .room))
+
 tell-lent-requires : tie.Need-tell-lent-requires
 tell-lent-requires c κs =
-    let s = c .before .before in
-    ((s .pre .0 .b-ready, search needs), (s .pre .0 .made, s .pre .1))
+    let m = c .before .before .before in
+    let s = m .before .before in
+    ((s .pre .0 .b-ready, search needs), (m .make-planes .ensures, s .pre .1))
 
 tell-parts-requires : tie.Need-tell-parts-requires
 tell-parts-requires c κs =
-    let s = c .before .before .before .before .before .before in
+    let t = c .before .before .before in
+    let s = t .before .before .before .before .before .before in
     parts-asked _ (s .args .a) (s .pre .0 .a-ready)
 
 first-of-requires : tie.Need-first-of-requires
 first-of-requires c κs =
     let p = c .before .before in
     let t = p .before .before .before .before in
-    let s = t .before .before .before in
+    let s = t .before .before .before .before .before .before in
     let v = seenIn (s .args .n) (now (s .args .rows)) (now (s .args .corners)) in
     let b = s .pre .0 in
     let e = p .tell-parts .ensures in
@@ -45,14 +53,16 @@ enum-told c = search needs
 fill-links-requires : tie.Need-fill-links-requires
 fill-links-requires c κs =
     let n = c .before in
-    let s = n .before .before .before .before .before .before .before .before .before .before .before .before in
+    let t = n .before .before .before .before .before .before .before .before .before in
+    let s = t .before .before .before .before .before .before in
     let o = s .pre .0 .b-ready .within .sound in
     ((o .corners, o .own), (search needs, o .vertices .0, o .vertices .1))
 
 tell-parts-requires-2 : tie.Need-tell-parts-requires-2
 tell-parts-requires-2 c κs =
     let l = c .before .before in
-    let s = l .before .before .before .before .before .before .before .before .before .before .before .before .before .before in
+    let t = l .before .before .before .before .before .before .before .before .before .before .before in
+    let s = t .before .before .before .before .before .before in
     parts-asked _ (s .args .b) (s .pre .0 .b-ready)
 
 first-of-requires-2 : tie.Need-first-of-requires-2
@@ -61,7 +71,7 @@ first-of-requires-2 c κs =
     let l = q .before .before .before in
     let p = l .before .before .before .before .before .before .before in
     let t = p .before .before .before .before in
-    let s = t .before .before .before in
+    let s = t .before .before .before .before .before .before in
     let v = seenIn (s .args .n) (now (s .args .rows)) (now (s .args .corners)) in
     let b = s .pre .0 in
     let e = p .tell-parts .ensures in
@@ -89,7 +99,8 @@ inside-still-requires c κs =
     let q = c .before .before .before .before .before .before .before in
     let l = q .before .before .before in
     let n = l .before .before in
-    let s = n .before .before .before .before .before .before .before .before .before .before .before .before in
+    let t = n .before .before .before .before .before .before .before .before .before in
+    let s = t .before .before .before .before .before .before in
     let v = seenIn (s .args .n) (now (s .args .rows)) (now (s .args .corners)) in (
       (s .pre .0 .a-ready, s .pre .0 .linked),
       (s .pre .0 .told, none-first (solidHits v (s .args .a)) (n .before .before .first-of .ensures) (n .enum-told .given .1)),
@@ -101,7 +112,7 @@ inside-still-requires-2 c κs =
     let f = n .before .before in
     let l = f .before .before .before .before .before .before .before .before in
     let t = l .before .before .before .before .before .before .before .before .before .before .before in
-    let s = t .before .before .before in
+    let s = t .before .before .before .before .before .before in
     let v = seenIn (s .args .n) (now (s .args .rows)) (now (s .args .corners)) in (
       (s .pre .0 .b-ready, l .fill-links .ensures .own),
       (t .tell-lent .ensures .0, none-first (solidHits v (s .args .b)) (f .first-of2 .ensures) (n .enum-told2 .given .1)),
@@ -112,7 +123,8 @@ returns-3 c =
     let i = c .before .before .before in
     let n = i .before in
     let m = n .before .before .before .before .before .before .before .before .before .before .before .before in
-    let s = m .before .before .before .before .before .before .before .before .before .before .before .before in
+    let t = m .before .before .before .before .before .before .before .before .before in
+    let s = t .before .before .before .before .before .before in
     let v = seenIn (s .args .n) (now (s .args .rows)) (now (s .args .corners)) in
     sought-none v (s .args .a) (s .args .b) (m .before .before .first-of .ensures) (m .enum-told .given .1)
     (n .before .before .first-of2 .ensures) (n .enum-told2 .given .1) (i .inside-still .ensures) (c .inside-still2 .ensures)
@@ -121,6 +133,7 @@ pub seek-told-spec : {M : Type 1} → statement M
 seek-told-spec =
     tie.close
     (tie.spec
+    make-planes-requires
     tell-lent-requires
     tell-parts-requires
     first-of-requires

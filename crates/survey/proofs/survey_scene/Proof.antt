@@ -12,19 +12,24 @@ make-planes-requires c κs = search needs
 tell-sides-requires : tie.Need-tell-sides-requires
 tell-sides-requires c κs = search needs
 
+make-planes-requires-2 : tie.Need-make-planes-requires-2
+make-planes-requires-2 c κs = search needs
+
 tell-sides-requires-2 : tie.Need-tell-sides-requires-2
 tell-sides-requires-2 c κs = search needs
 
 tell-parts-requires : tie.Need-tell-parts-requires
 tell-parts-requires c κs =
-    let s = c .before .before .before .before .before .before .before .before .before .before .before in
+    let d = c .before .before .before in
+    let m = d .before .before .before in
+    let s = m .before .before .before .before .before .before .before in
     parts-asked _ (s .args .a) (s .pre .0 .0)
 
 survey-part-requires : tie.Need-survey-part-requires
 survey-part-requires c κs =
     let p = c .before .before .before .before .before .before .before in
     let d = p .before .before .before .before in
-    let t = d .before .before .before in
+    let t = d .before .before .before .before .before in
     let s = t .before .before .before .before .before in
     let v = seenIn (s .args .n) (now (s .args .rows)) (now (s .args .corners)) in
     let r = s .pre .0 in
@@ -37,7 +42,8 @@ tell-parts-requires-2 : tie.Need-tell-parts-requires-2
 tell-parts-requires-2 c κs =
     let p = c .before .before .before .before .before .before .before .before .before .before .before .before in
     let d = p .before .before .before in
-    let s = d .before .before .before .before .before .before .before .before in
+    let m = d .before .before .before in
+    let s = m .before .before .before .before .before .before .before in
     parts-asked _ (s .args .b) (s .pre .0 .1)
 
 survey-part-requires-2 : tie.Need-survey-part-requires-2
@@ -46,7 +52,7 @@ survey-part-requires-2 c κs =
     let o = q .before .before .before .before in
     let p = o .before .before .before .before .before .before .before .before in
     let d = p .before .before .before .before in
-    let t = d .before .before .before in
+    let t = d .before .before .before .before .before in
     let s = t .before .before .before .before .before in
     let v = seenIn (s .args .n) (now (s .args .rows)) (now (s .args .corners)) in
     let r = s .pre .0 in
@@ -66,6 +72,7 @@ survey-scene-spec =
     (tie.spec
     make-planes-requires
     tell-sides-requires
+    make-planes-requires-2
     tell-sides-requires-2
     tell-parts-requires
     survey-part-requires

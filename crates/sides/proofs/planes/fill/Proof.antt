@@ -1,27 +1,33 @@
 -- Each turn stores the plane of one more face.
 use borrow.Author.Needs.{needs}
 use mathlib.Core.Path.{_≡_, ap, _∙_}
-use Prim.Native.Nat.{_+_, _-_, _≤_}
+use Prim.Native.Nat.{_-_, _≤_}
 use native.Mathlib.Omega.{arith}
-use Rattle.laws.specs.Filled.{filled, filled-more}
+use Rattle.laws.specs.Filled.{filled}
 use Rattle.scene.specs.Arrays.{rowIn, faceIn}
-use Rattle.scene.specs.Decode.{rowSet}
 use Rattle.sides.specs.Planes.{planeFor}
+use Rattle.sides.specs.Tables.{planesFrom, planes-more}
 use Rattle.sides.proofs.planes.fill.Statement.{statement}
 use Rattle.sides.proofs.planes.fill.Tie as tie
 
 abbrev Inv-loop : tie.InvT-loop
-Inv-loop rows corners n planes₀ e k₀ planes k = (k ≤ e) × (planes ≡ filled rowSet (λ j. planeFor (rowIn rows) (faceIn corners j)) k planes₀)
+Inv-loop rows corners first count planes₀ i₀ planes i = (i ≤ count) × (planes ≡ planesFrom (rowIn rows) (faceIn corners) first i planes₀)
 
 abbrev μ-loop : tie.MeasureT-loop
-μ-loop rows corners n planes₀ e k₀ planes k = e - k
-
-add-e : tie.Need-add-e Inv-loop μ-loop
-add-e c = search needs
+μ-loop rows corners first count planes₀ i₀ planes i = count - i
 
 loop-holds : tie.Need-loop-holds Inv-loop μ-loop
-unfolding filled
+unfolding planesFrom filled
 loop-holds c = search needs
+
+add-put : tie.Need-add-put Inv-loop μ-loop
+add-put c = search needs
+
+add-face-in : tie.Need-add-face-in Inv-loop μ-loop
+add-face-in c = search needs
+
+add-face-in-2 : tie.Need-add-face-in-2 Inv-loop μ-loop
+add-face-in-2 c = search needs
 
 face-in-requires : tie.Need-face-in-requires Inv-loop μ-loop
 face-in-requires c κs = search needs
@@ -34,8 +40,8 @@ plane-requires c κs =
 put-requires : tie.Need-put-requires Inv-loop μ-loop
 put-requires c κs = search needs
 
-add-k : tie.Need-add-k Inv-loop μ-loop
-add-k c = search needs
+add-i : tie.Need-add-i Inv-loop μ-loop
+add-i c = search needs
 
 loop-less : tie.Need-loop-less Inv-loop μ-loop
 loop-less c = search needs
@@ -44,13 +50,13 @@ loop-again : tie.Need-loop-again Inv-loop μ-loop
 loop-again c =
     let d = c .before in (
       omega arith,
-      c .put .ensures ∙ filled-more rowSet _ _ _ (d .before .before .before .before .loop .inv .1)
+      c .put .ensures ∙ planes-more _ _ _ _ _ (d .before .before .before .before .loop .inv .1)
           (d .plane .ensures ∙ ap (planeFor _) (d .before .face-in .ensures)),
     )
 
 returns : tie.Need-returns Inv-loop μ-loop
 returns c =
-    let e : c .before .loop .k ≡ c .before .before .args .n + 1 = omega arith in
+    let e : c .before .loop .i ≡ c .before .before .args .count = omega arith in
     cc (c .before .loop .inv .1)
 
 pub fill-spec : {M : Type 1} → statement M
@@ -59,12 +65,14 @@ fill-spec =
     (tie.spec
     Inv-loop
     μ-loop
-    add-e
     loop-holds
+    add-put
+    add-face-in
+    add-face-in-2
     face-in-requires
     plane-requires
     put-requires
-    add-k
+    add-i
     loop-less
     loop-again
     returns)

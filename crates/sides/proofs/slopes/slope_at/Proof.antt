@@ -7,8 +7,8 @@ use Rattle.sides.specs.Slopes.{slopeFor, isBlank, stored-sloped}
 use Rattle.sides.proofs.slopes.slope_at.Statement.{statement}
 use Rattle.sides.proofs.slopes.slope_at.Tie as tie
 
-plane-at-requires : tie.Need-plane-at-requires
-plane-at-requires c κs = search needs
+held-requires : tie.Need-held-requires
+held-requires c κs = search needs
 
 is-blank-requires : tie.Need-is-blank-requires
 is-blank-requires c κs = search needs
@@ -40,14 +40,14 @@ returns-2 c =
     let b = c .before in
     let d = b .before in
     let s = d .before .before in
-    let e = d .plane-at .ensures in
+    let e = d .held .ensures in
     (e ∙ s .pre .1 .made (s .args .k) (sym (ap isBlank e) ∙ sym (b .is-blank .ensures) ∙ c .if1 .left), s .pre .1)
 
 pub slope-at-spec : {M : Type 1} → statement M
 slope-at-spec =
     tie.close
     (tie.spec
-    plane-at-requires
+    held-requires
     is-blank-requires
     face-in-requires
     slope-requires

@@ -27,6 +27,9 @@ dot-requires c κs =
     rw (c .slope-at .ensures .0, p .1 .0 .1)
     (slope-dot (rowIn (now (a .rows))) (f .q) (f .p) (f .r) (p .0 .0) (h .q) (h .p) (h .r) (a .t))
 
+sub-plane-at : tie.Need-sub-plane-at
+sub-plane-at c = search needs
+
 plane-at-requires : tie.Need-plane-at-requires
 plane-at-requires c κs = search needs
 
@@ -76,4 +79,4 @@ returns c =
 
 pub tilt-at-spec : {M : Type 1} → statement M
 tilt-at-spec =
-    tie.close (tie.spec slope-at-requires dot-requires plane-at-requires dot-requires-2 plus-requires returns)
+    tie.close (tie.spec slope-at-requires dot-requires sub-plane-at plane-at-requires dot-requires-2 plus-requires returns)

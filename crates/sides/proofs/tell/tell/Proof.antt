@@ -3,13 +3,15 @@ use borrow.Author.Needs.{needs}
 use native.Mathlib.Omega.{arith}
 use denote.Ref.{now}
 use Rattle.scene.specs.Arrays.{rowIn, faceIn}
-use Rattle.sides.specs.Sides.{ready-low, ready-high}
+use Rattle.sides.specs.Sides.{planeIn, ready-low, ready-high}
 use Rattle.sides.specs.Ties.{told-one, told-two}
 use Rattle.sides.proofs.tell.tell.Statement.{statement}
 use Rattle.sides.proofs.tell.tell.Tie as tie
 
 tell-word-requires : tie.Need-tell-word-requires
-tell-word-requires c κs = search needs
+tell-word-requires c κs =
+    let p = c .before .pre in
+    (p .0, ((p .1 .0 .0, omega arith, omega arith, omega arith), p .1 .1))
 
 returns : tie.Need-returns
 returns c =
@@ -24,7 +26,7 @@ tell-word-requires-2 c κs =
       p .0,
       (
         search needs,
-        ready-low (rowIn (now (a .rows))) (faceIn (now (a .corners))) (rowIn (now (a .planes))) (a .first) (a .count)
+        ready-low (rowIn (now (a .rows))) (faceIn (now (a .corners))) (planeIn (now (a .planes)) (a .first)) (a .first) (a .count)
             (p .1 .1) 64 (omega arith),
       ),
     )
@@ -43,7 +45,7 @@ tell-word-requires-3 c κs =
       p .0,
       (
         search needs,
-        ready-high (rowIn (now (a .rows))) (faceIn (now (a .corners))) (rowIn (now (a .planes))) (a .first) (a .count)
+        ready-high (rowIn (now (a .rows))) (faceIn (now (a .corners))) (planeIn (now (a .planes)) (a .first)) (a .first) (a .count)
             (p .1 .1),
       ),
     )

@@ -10,19 +10,19 @@ use Rattle.laws.specs.Mask.{digit}
 use Rattle.laws.specs.Size.{called}
 use Rattle.scene.specs.Arrays.{rowIn, faceIn}
 use Rattle.face_masks.specs.Faces.{maskBy}
-use Rattle.sides.specs.Sides.{Ready, mask-begun, mask-under, mask-done}
+use Rattle.sides.specs.Sides.{planeIn, Ready, mask-begun, mask-under, mask-done}
 use Rattle.sides.specs.Slopes.{isZero, zero-read}
 use Rattle.sides.specs.Ties.{leads, flat}
 use Rattle.sides.proofs.tell.tell_at.Statement.{statement}
 use Rattle.sides.proofs.tell.tell_at.Tie as tie
 
 abbrev Inv-loop : tie.InvT-loop
-Inv-loop rows corners planes first count t r above₀ tied₀ k₀ above tied k =
+Inv-loop rows corners planes base first count t r above₀ tied₀ k₀ above tied k =
     (k ≤ count) × (above ≡ maskBy (leads (rowIn rows) t) (faceIn corners) (first + k) (count - k))
     × (tied ≡ maskBy (flat (rowIn rows) t) (faceIn corners) (first + k) (count - k))
 
 abbrev μ-loop : tie.MeasureT-loop
-μ-loop rows corners planes first count t r above₀ tied₀ k₀ above tied k = k
+μ-loop rows corners planes base first count t r above₀ tied₀ k₀ above tied k = k
 
 loop-holds : tie.Need-loop-holds Inv-loop μ-loop
 loop-holds c =
@@ -43,10 +43,10 @@ side-requires c κs =
     let a = l .before .args in
     let k = l .loop .k in
     let e : a .first + 1 + (k - 1) ≡ a .first + k = omega arith in
-    let here : Ready (rowIn (now (a .rows))) (faceIn (now (a .corners))) (rowIn (now (a .planes))) (a .t) (a .first + k) =
-    subst (λ (i : ℕ). Ready (rowIn (now (a .rows))) (faceIn (now (a .corners))) (rowIn (now (a .planes))) (a .t) i) e
+    let here : Ready (rowIn (now (a .rows))) (faceIn (now (a .corners))) (planeIn (now (a .planes)) (a .base)) (a .t) (a .first + k) =
+    subst (λ (i : ℕ). Ready (rowIn (now (a .rows))) (faceIn (now (a .corners))) (planeIn (now (a .planes)) (a .base)) (a .t) i) e
     (p .1 .1 .1 (k - 1) (omega arith)) in
-    (p .0, ((search needs, p .1 .0 .0, p .1 .0 .1), here))
+    (p .0, ((search needs, search needs, p .1 .0 .0, p .1 .0 .1), here))
 
 bit-requires : tie.Need-bit-requires Inv-loop μ-loop
 bit-requires c κs = search needs

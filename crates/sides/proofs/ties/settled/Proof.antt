@@ -6,6 +6,7 @@ use Prim.Native.Nat.{ℕ}
 use Rattle.scene.specs.Arrays.{rowIn, faceIn}
 use Rattle.scene.specs.declared.Row.{Row}
 use Rattle.scene.specs.declared.Face.{Face}
+use Rattle.sides.specs.Sides.{planeIn}
 use Rattle.sides.specs.Ties.{masks-settled, low-fits, high-fits, low-tied, high-tied}
 use Rattle.sides.proofs.ties.settled.Statement.{statement}
 use Rattle.sides.proofs.ties.settled.Tie as tie
@@ -34,10 +35,13 @@ ties-requires c κs =
     let p = s .pre in
     let f = p .1 .0 in
     let a = s .args in (
-      (p .0 .0, p .0 .1, omega arith),
+      (p .0 .0, p .0 .1, omega arith, omega arith),
       (
         (p .0 .2, r .row-at .ensures, d .shift-at .ensures),
-        (low-tied (row s) (face s) (a .first) (a .count) (a .t) (f .1) (p .1 .1 .0) (rowIn (now (a .planes))) (f .0) (f .2), p .1 .1 .1),
+        (
+          low-tied (row s) (face s) (a .first) (a .count) (a .t) (f .1) (p .1 .1 .0) (planeIn (now (a .planes)) (a .first)) (f .0) (f .2),
+          p .1 .1 .1,
+        ),
       ),
     )
 
@@ -53,11 +57,11 @@ ties-requires-2 c κs =
     let p = s .pre in
     let f = p .1 .0 in
     let a = s .args in (
-      (p .0 .0, p .0 .1, omega arith),
+      (p .0 .0, p .0 .1, omega arith, omega arith),
       (
         (p .0 .2, r .row-at .ensures, d .shift-at .ensures),
         (
-          high-tied (row s) (face s) (a .first) (a .count) (a .t) (f .1) (p .1 .1 .0) (rowIn (now (a .planes))) (f .0) (f .2),
+          high-tied (row s) (face s) (a .first) (a .count) (a .t) (f .1) (p .1 .1 .0) (planeIn (now (a .planes)) (a .first)) (f .0) (f .2),
           e .ties .ensures .1,
         ),
       ),

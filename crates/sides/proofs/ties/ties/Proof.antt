@@ -11,20 +11,20 @@ use Rattle.laws.specs.Mask.{digit}
 use Rattle.laws.specs.Walk.{walk-less}
 use Rattle.scene.specs.Arrays.{rowIn, faceIn}
 use Rattle.sides.specs.Candidates.{AtEach, kept-le, kept-none, each-turn, turn-rest}
-use Rattle.sides.specs.Sides.{above}
+use Rattle.sides.specs.Sides.{above, planeIn}
 use Rattle.sides.specs.Slopes.{Sloped}
 use Rattle.sides.specs.Ties.{Tied, settledOf}
 use Rattle.sides.proofs.ties.ties.Statement.{statement}
 use Rattle.sides.proofs.ties.ties.Tie as tie
 
 abbrev Inv-loop : tie.InvT-loop
-Inv-loop rows corners planes first t r s tied slopes₀ left₀ word₀ slopes left word =
-    (left ≤ tied) × AtEach (Tied (rowIn rows) (faceIn corners) (rowIn planes) first t) left
+Inv-loop rows corners planes base first t r s tied slopes₀ left₀ word₀ slopes left word =
+    (left ≤ tied) × AtEach (Tied (rowIn rows) (faceIn corners) (planeIn planes base) base first t) left
     × (word + settledOf (rowIn rows) (faceIn corners) first t left ≡ settledOf (rowIn rows) (faceIn corners) first t tied)
     × Sloped (rowIn rows) (faceIn corners) slopes
 
 abbrev μ-loop : tie.MeasureT-loop
-μ-loop rows corners planes first t r s tied slopes₀ left₀ word₀ slopes left word = left
+μ-loop rows corners planes base first t r s tied slopes₀ left₀ word₀ slopes left word = left
 
 loop-holds : tie.Need-loop-holds Inv-loop μ-loop
 loop-holds c = (omega arith, c .pre .1 .1 .0, omega arith, c .pre .1 .1 .1)
@@ -34,7 +34,8 @@ cast-k c = omega (arith, trailing-le 64 (c .before .loop .left))
 
 -- in a turn: the lowest tie is one, and so are the others
 here : (c : tie.In-loop Inv-loop μ-loop) → let s = c .before .before in let a = s .args in
-    Tied (rowIn (now (a .rows))) (faceIn (now (a .corners))) (rowIn (now (a .planes))) (a .first) (a .t) (trailingZeros 64 (c .before .loop .left))
+    Tied (rowIn (now (a .rows))) (faceIn (now (a .corners))) (planeIn (now (a .planes)) (a .base)) (a .base) (a .first) (a .t)
+    (trailingZeros 64 (c .before .loop .left))
 here c =
     let s = c .before .before in
     each-turn (c .before .loop .left) (omega arith) (omega (arith, s .fits .tied)) _ (c .before .loop .inv .1) .0
@@ -50,7 +51,7 @@ tie-above-requires c κs =
     let l = c .before .before in
     let p = l .before .pre in
     let h = here (c .before) in
-    ((p .0 .0, p .0 .1, h .number), (p .1 .0, (h .ready, (h .within, l .loop .inv .3))))
+    ((p .0 .0, p .0 .1, h .number .0, omega arith, h .number .1), (p .1 .0, (h .ready, (h .within, l .loop .inv .3))))
 
 bit-requires : tie.Need-bit-requires Inv-loop μ-loop
 bit-requires c κs = search needs

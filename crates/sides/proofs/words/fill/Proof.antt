@@ -5,7 +5,7 @@ use mathlib.Core.Path.{_≡_, ap, _∙_}
 use Prim.Native.Nat.{ℕ, _+_, _-_}
 use native.Mathlib.Omega.{arith}
 use Rattle.scene.specs.Arrays.{rowIn, faceIn}
-use Rattle.sides.specs.Sides.{sidesOf}
+use Rattle.sides.specs.Sides.{sidesOf, planeIn}
 use Rattle.sides.specs.Tables.{masksFrom, masks-join, ready-from}
 use Rattle.sides.proofs.words.fill.Statement.{statement}
 use Rattle.sides.proofs.words.fill.Tie as tie
@@ -28,8 +28,8 @@ fill-tied-requires c κs =
       p .0,
       (
         (omega (arith, d .fill-clear .ensures .0, p .1 .0), p .1 .0 .1, p .1 .0 .2),
-        λ i b. ready-from (rowIn (now (a .rows))) (faceIn (now (a .corners))) (rowIn (now (a .planes))) (a .k) (p .1 .1) (d .fill-clear .result) i
-            (omega arith),
+        λ i b. ready-from (rowIn (now (a .rows))) (faceIn (now (a .corners))) (planeIn (now (a .planes)) (a .k .other)) (a .k)
+            (p .1 .1) (d .fill-clear .result) i (omega arith),
       ),
     )
 
