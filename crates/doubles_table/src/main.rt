@@ -1,5 +1,5 @@
-// Takes the vertices on standard input, four to an entry, and prints each as it is taken or refused; of four that are taken also c0 in doubles, by
-// its bits. An entry is sixteen doubles of eight bytes, low byte first.
+// Takes the vertices on standard input, four to an entry, and prints each as it is taken or refused; of four that are taken also c0 in
+// doubles, by its bits. An entry is sixteen doubles of eight bytes, low byte first.
 ghost use Prim.Native.Nat.{_<_, _≤_};
 ghost use lib.ListN.{length};
 use doubles::Fault;

@@ -100,7 +100,8 @@ pub fn enclosed(
 
 // The edge from u to v pierces the face, in a scene of n points.
 pub fn pierces(engine: Engine, rows: &Rows, n: usize, u: usize, v: usize, f: Face) -> bool
-    requires points { ⌜ AllWithin limits (rowIn (now rows)) × (6 ≤ n) × (n ≤ mostPoints limits) × (u ≤ mostPoints limits) × (v ≤ mostPoints limits)
+    requires points { ⌜ AllWithin limits (rowIn (now rows)) × (6 ≤ n) × (n ≤ mostPoints limits) × (u ≤ mostPoints limits)
+        × (v ≤ mostPoints limits)
         × FaceWithin limits f ⌝ }
     requires edge { ⌜ Weighted n (rowIn (now rows)) × Beside n u v f ⌝ }
     ensures { λ r. ⌜ r ≡ pierced n (rowIn (now (rows .entry))) u v f ⌝ }

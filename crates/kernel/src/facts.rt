@@ -1,5 +1,5 @@
-// Everything that is asked of a whole scene in one answer, for which it is judged, decoded and surveyed once: the verdict, the counts, the words of
-// the enclosed vertices, and the listing into a lent list where that has room.
+// Everything that is asked of a whole scene in one answer, for which it is judged, decoded and surveyed once: the verdict, the counts, the
+// words of the enclosed vertices, and the listing into a lent list where that has room.
 ghost use mathlib.Core.Path.{_≡_};
 ghost use Rattle.judge.specs.Judge.{judged};
 ghost use Rattle.judge.specs.declared.Judged.the-variants.{Accepted};

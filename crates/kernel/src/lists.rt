@@ -42,8 +42,8 @@ pub fn listing(engine: Engine, s: &[u8], out: &mut [u16]) -> Listed
     Listed::Count(n)
 }
 
-// The part of the listing from the pair numbered `from` on (from 0) for which the lent list has room; the answer counts the whole. A program
-// prints a listing longer than its buffer part by part.
+// The part of the listing from the pair numbered `from` on (from 0) for which the lent list has room; the answer counts the whole. A
+// program prints a listing longer than its buffer part by part.
 pub fn listing_part(engine: Engine, s: &[u8], from: usize, out: &mut [u16]) -> Listed
     ensures { λ r. ⌜ IsPart (now (s .entry)) from (now (out .entry)) (now (out .exit)) r ⌝ }
 {

@@ -1,5 +1,5 @@
--- A face that an edge pierces parts its ends. It parts two sides of a triangle at most, and an edge lies in two faces of its solid at least:
--- so no more edges of a solid pierce a face than the solid has faces. Assumes nothing.
+-- A face that an edge pierces parts its ends. It parts two sides of a triangle at most, and an edge lies in two faces of its solid at
+-- least: so no more edges of a solid pierce a face than the solid has faces. Assumes nothing.
 use mathlib.Core.Path.{_≡_, sym, ap, _∙_}
 use mathlib.Core.Bool.{Bool, true, false, _&&_}
 use mathlib.Core.List.{List}

@@ -1,4 +1,5 @@
--- From whole numbers to signs: determinants that alternate, and whose three terms sum to zero, have signs that obey the rules. Assumes nothing.
+-- From whole numbers to signs: determinants that alternate, and whose three terms sum to zero, have signs that obey the rules.
+-- Assumes nothing.
 use mathlib.Core.Path.{_≡_, refl, sym, ap, _∙_, subst}
 use mathlib.Core.Logic.{_≢_}
 use mathlib.Core.Bool.{Bool, not}
@@ -75,7 +76,8 @@ terms-mixed : (x x' y y' z z' : ℤ) → x ≢ pos 0 → x' ≢ pos 0 → y ≢ 
 terms-mixed x x' y y' z z' h h' k k' l l' e =
     subst T
     (ap₃ (plus-mul x x' h h') (plus-mul y y' k k') (plus-mul z z' l l')
-    ∙ law (all λ a. all λ b. all λ c. mixed (not a) (not b) (not c) ≐ mixed a b c) tt (plus x ⊕ plus x') (plus y ⊕ plus y') (plus z ⊕ plus z'))
+    ∙ law (all λ a. all λ b. all λ c. mixed (not a) (not b) (not c) ≐ mixed a b c) tt (plus x ⊕ plus x') (plus y ⊕ plus y')
+    (plus z ⊕ plus z'))
     (sum-mixed (x *ℤ x') (y *ℤ y') (z *ℤ z') (nonzero-mul x x' h h') (nonzero-mul y y' k k') (nonzero-mul z z' l l') e)
   where
     ap₃ : {a a' b b' c c' : Bool} → a ≡ a' → b ≡ b' → c ≡ c' → mixed a b c ≡ mixed a' b' c'

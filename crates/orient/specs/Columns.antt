@@ -1,5 +1,5 @@
--- The terms as the code forms them: c0 is the determinant of the rows, c3 that of the shifts, and c1 and c2 are sums over the coordinates that
--- the shift stands for. Assumes nothing.
+-- The terms as the code forms them: c0 is the determinant of the rows, c3 that of the shifts, and c1 and c2 are sums over the coordinates
+-- that the shift stands for. Assumes nothing.
 use mathlib.Core.Path.{_≡_}
 use mathlib.Core.Bool.{Bool, true, false, cond}
 use mathlib.Core.List.{[]}

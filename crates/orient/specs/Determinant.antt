@@ -1,5 +1,5 @@
--- The determinant of four rows, along its first row, written once over any sum, difference and product: those of whole numbers, of numbers with an
--- infinitesimal part, or of expressions that a proof computes with. Assumes nothing.
+-- The determinant of four rows, along its first row, written once over any sum, difference and product: those of whole numbers, of numbers
+-- with an infinitesimal part, or of expressions that a proof computes with. Assumes nothing.
 use lib.IntN.{ℤ, _+ℤ_, _-ℤ_, _*ℤ_}
 use Rattle.scene.specs.declared.Row.{Row}
 
@@ -15,7 +15,8 @@ module _ {R : Type 0} (_plus_ _minus_ _times_ : R → R → R) where
   infixl 7 _times_
   -- of three rows of three entries
   abbrev det3 : (a b c p q r x y z : R) → R
-  det3 a b c p q r x y z = a times (q times z minus r times y) minus b times (p times z minus r times x) plus c times (p times y minus q times x)
+  det3 a b c p q r x y z =
+      a times (q times z minus r times y) minus b times (p times z minus r times x) plus c times (p times y minus q times x)
 
   -- each entry of the first row times the determinant of the other rows without its column, with a minus in every second column
   abbrev pub determinant : Entries R → Entries R → Entries R → Entries R → R

@@ -1,5 +1,5 @@
--- What is formed on the way to a determinant by minors, and how large it is: at most 24 times the product of the columns' sizes. The numbers
--- formed for a scene are at most 3.5 × 10^18. Assumes nothing.
+-- What is formed on the way to a determinant by minors, and how large it is: at most 24 times the product of the columns' sizes. The
+-- numbers formed for a scene are at most 3.5 × 10^18. Assumes nothing.
 use mathlib.Core.Path.{_≡_, subst}
 use Prim.Native.Nat.{ℕ, _+_, _*_, _^_, _≤_}
 use native.Mathlib.Nat.{le-trans, add-le-add, mul-le-mul, mul-le-mul-left}

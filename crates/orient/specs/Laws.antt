@@ -72,21 +72,36 @@ module _ (a b c d : Point) where
   terms12 =
       let x = points a b c d [] in
       let s = t-of Q P S U in
-      record { e0 = ring x (s .e0) (⊝ t .e0) tt; e1 = ring x (s .e1) (⊝ t .e1) tt; e2 = ring x (s .e2) (⊝ t .e2) tt; e3 = ring x (s .e3) (⊝ t .e3) tt }
+      record {
+        e0 = ring x (s .e0) (⊝ t .e0) tt;
+        e1 = ring x (s .e1) (⊝ t .e1) tt;
+        e2 = ring x (s .e2) (⊝ t .e2) tt;
+        e3 = ring x (s .e3) (⊝ t .e3) tt;
+      }
 
   pub terms23 : Opposite (terms a c b d) (terms a b c d)
   unfolding terms
   terms23 =
       let x = points a b c d [] in
       let s = t-of P S Q U in
-      record { e0 = ring x (s .e0) (⊝ t .e0) tt; e1 = ring x (s .e1) (⊝ t .e1) tt; e2 = ring x (s .e2) (⊝ t .e2) tt; e3 = ring x (s .e3) (⊝ t .e3) tt }
+      record {
+        e0 = ring x (s .e0) (⊝ t .e0) tt;
+        e1 = ring x (s .e1) (⊝ t .e1) tt;
+        e2 = ring x (s .e2) (⊝ t .e2) tt;
+        e3 = ring x (s .e3) (⊝ t .e3) tt;
+      }
 
   pub terms34 : Opposite (terms a b d c) (terms a b c d)
   unfolding terms
   terms34 =
       let x = points a b c d [] in
       let s = t-of P Q U S in
-      record { e0 = ring x (s .e0) (⊝ t .e0) tt; e1 = ring x (s .e1) (⊝ t .e1) tt; e2 = ring x (s .e2) (⊝ t .e2) tt; e3 = ring x (s .e3) (⊝ t .e3) tt }
+      record {
+        e0 = ring x (s .e0) (⊝ t .e0) tt;
+        e1 = ring x (s .e1) (⊝ t .e1) tt;
+        e2 = ring x (s .e2) (⊝ t .e2) tt;
+        e3 = ring x (s .e3) (⊝ t .e3) tt;
+      }
 
 -- ---- the last term
 
@@ -123,7 +138,8 @@ module _ (a b c d : Point) where
   -- the last term, by the factors of the shifts
   abbrev last : (i j k l : ℤ) → ℤ
   last i j k l =
-      powers (pos 0) _+ℤ_ _-ℤ_ _*ℤ_ (shift-by i (numbered a)) (shift-by j (numbered b)) (shift-by k (numbered c)) (shift-by l (numbered d)) .e3
+      powers (pos 0) _+ℤ_ _-ℤ_ _*ℤ_ (shift-by i (numbered a)) (shift-by j (numbered b)) (shift-by k (numbered c))
+      (shift-by l (numbered d)) .e3
 
   abbrev weights3 : Expr
   weights3 = P .w ⊗ Q .w ⊗ S .w

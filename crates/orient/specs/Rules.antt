@@ -1,5 +1,5 @@
--- The signs of a scene's points obey the rules, whatever the size of its numbers, since the shift is real: with 1/N for the infinitesimal, for
--- every large enough whole N, the determinants of four different points are not zero and have these signs. Assumes nothing.
+-- The signs of a scene's points obey the rules, whatever the size of its numbers, since the shift is real: with 1/N for the infinitesimal,
+-- for every large enough whole N, the determinants of four different points are not zero and have these signs. Assumes nothing.
 use mathlib.Core.Path.{_≡_, sym, ap, _∙_}
 use mathlib.Core.Logic.{_≢_, ⊎-elim}
 use Prim.Native.Nat.{ℕ, zero, suc, _+_, _≤_, _<_}
@@ -31,7 +31,8 @@ below-total : (f : ℕ → ℕ) (n i : ℕ) → Upto n i → f i ≤ total f n
 unfolding total
 below-total f zero i h = absurd (omega arith)
 below-total f (suc n) i h =
-    ⊎-elim (λ (e : i ≡ suc n). omega (arith, ap f e)) (λ (l : i < suc n). omega (arith, below-total f n i (omega arith))) (eq-or-lt-of-le (h .1))
+    ⊎-elim (λ (e : i ≡ suc n). omega (arith, ap f e)) (λ (l : i < suc n). omega (arith, below-total f n i (omega arith)))
+    (eq-or-lt-of-le (h .1))
 
 module _ (n : ℕ) (row : ℕ → Row) where
   abbrev size : ℕ → ℕ
@@ -39,7 +40,15 @@ module _ (n : ℕ) (row : ℕ → Row) where
 
   -- limits that these points keep
   abbrev kept : Limits
-  kept = record { leastVertices = 0; mostVertices = n; leastFaces = 0; mostFaces = 0; mostCoordinate = total size n; mostWeight = suc (total size n) }
+  kept =
+      record {
+        leastVertices = 0;
+        mostVertices = n;
+        leastFaces = 0;
+        mostFaces = 0;
+        mostCoordinate = total size n;
+        mostWeight = suc (total size n);
+      }
 
   within : (i : ℕ) → Upto n i → Within kept (pointAt row i)
   within i h = let t = below-total size n i h in omega arith
@@ -47,7 +56,8 @@ module _ (n : ℕ) (row : ℕ → Row) where
   pub enough : ℕ
   enough = size1 kept + size2 kept + size3 kept
 
-  terms-upto : (m a b c d : ℕ) → enough ≤ m → Four (Upto n) a b c d → TermsUpto m (pointAt row a) (pointAt row b) (pointAt row c) (pointAt row d)
+  terms-upto : (m a b c d : ℕ) → enough ≤ m → Four (Upto n) a b c d →
+      TermsUpto m (pointAt row a) (pointAt row b) (pointAt row c) (pointAt row d)
   unfolding enough
   terms-upto m a b c d h f =
       let v : AreWithin kept (pointAt row a) (pointAt row b) (pointAt row c) (pointAt row d) =

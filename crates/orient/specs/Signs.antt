@@ -62,13 +62,21 @@ pub record Rules (In : ℕ → Type 0) (s : ℕ → ℕ → ℕ → ℕ → Bool
   pub three : (u v h p q r : ℕ) → Six In u v h p q r → T (mixed (s u v h p ⊕ s u v q r) (s u v h q ⊕ s u v r p) (s u v h r ⊕ s u v p q))
 
 -- signs that agree with these, where the points differ
-pub rules-same : (In : ℕ → Type 0) (s t : ℕ → ℕ → ℕ → ℕ → Bool) → ((a b c d : ℕ) → Four In a b c d → t a b c d ≡ s a b c d) → Rules In s → Rules In t
+pub rules-same : (In : ℕ → Type 0) (s t : ℕ → ℕ → ℕ → ℕ → Bool) → ((a b c d : ℕ) → Four In a b c d → t a b c d ≡ s a b c d) →
+    Rules In s → Rules In t
 rules-same In s t e r =
     record {
       swap1 = λ a b c d f. rw (e b a c d (search ne-sym), e a b c d f) (r .swap1 a b c d f);
       swap2 = λ a b c d f. rw (e a c b d (search ne-sym), e a b c d f) (r .swap2 a b c d f);
       swap3 = λ a b c d f. rw (e a b d c (search ne-sym), e a b c d f) (r .swap3 a b c d f);
       three = λ u v h p q r′ f.
-          rw (e u v h p (search), e u v q r′ (search), e u v h q (search), e u v r′ p (search ne-sym), e u v h r′ (search), e u v p q (search))
+          rw (
+            e u v h p (search),
+            e u v q r′ (search),
+            e u v h q (search),
+            e u v r′ p (search ne-sym),
+            e u v h r′ (search),
+            e u v p q (search),
+          )
           (r .three u v h p q r′ f);
     }

@@ -1,5 +1,5 @@
--- How large the four terms are, and each number formed on the way to them: over the limits as symbols, and read off at the limits of a scene.
--- Assumes nothing.
+-- How large the four terms are, and each number formed on the way to them: over the limits as symbols, and read off at the limits of a
+-- scene. Assumes nothing.
 use mathlib.Core.Path.{_≡_}
 use mathlib.Core.Bool.{Bool, true, false, cond}
 use Prim.Native.Nat.{ℕ, zero, suc, _+_, _*_, _^_, _≤_}
@@ -64,7 +64,8 @@ module _ (C W n : ℕ) where
   powers0 : 24 * (C * C * C * W) ≡ 24 * (C ^ 3 * W)
   powers0 = rw cube (omega arith)
 
-  powers1 : 24 * (W * n * C * C * W) + 24 * (C * (W * n * n) * C * W) + 24 * (C * C * (W * n * n * n) * W) ≡ 24 * (C ^ 2 * W ^ 2 * (n ^ 3 + n ^ 2 + n))
+  powers1 : 24 * (W * n * C * C * W) + 24 * (C * (W * n * n) * C * W) + 24 * (C * C * (W * n * n * n) * W)
+      ≡ 24 * (C ^ 2 * W ^ 2 * (n ^ 3 + n ^ 2 + n))
   powers1 = simp (square, cube) (omega arith)
 
   powers2 :
@@ -145,15 +146,18 @@ module _ (l : Limits) where
       }
 
   module _ {a b c d : Point} (hw : 1 ≤ W) (v : AreWithin l a b c d) where
-    pub part-within : (sx sy sz : Bool) → 1 ≤ C → DetWithin (partSize sx sy sz) (rowOf a sx sy sz) (rowOf b sx sy sz) (rowOf c sx sy sz) (rowOf d sx sy sz)
+    pub part-within : (sx sy sz : Bool) → 1 ≤ C →
+        DetWithin (partSize sx sy sz) (rowOf a sx sy sz) (rowOf b sx sy sz) (rowOf c sx sy sz) (rowOf d sx sy sz)
     part-within sx sy sz hc =
-        det-within _ _ _ _ (row-size sx sy sz hw (v .0)) (row-size sx sy sz hw (v .1)) (row-size sx sy sz hw (v .2)) (row-size sx sy sz hw (v .3))
+        det-within _ _ _ _ (row-size sx sy sz hw (v .0)) (row-size sx sy sz hw (v .1)) (row-size sx sy sz hw (v .2))
+        (row-size sx sy sz hw (v .3))
         (some-size sx sy sz hc hw)
 
     pub part-size : (sx sy sz : Bool) → Small (partSize sx sy sz) (partOf a b c d sx sy sz)
     unfolding partOf
     part-size sx sy sz =
-        det-size _ _ _ _ (row-size sx sy sz hw (v .0)) (row-size sx sy sz hw (v .1)) (row-size sx sy sz hw (v .2)) (row-size sx sy sz hw (v .3))
+        det-size _ _ _ _ (row-size sx sy sz hw (v .0)) (row-size sx sy sz hw (v .1)) (row-size sx sy sz hw (v .2))
+        (row-size sx sy sz hw (v .3))
 
     pub c0-size : Small size0 (c0 a b c d)
     c0-size = rw (c0-parts, ← of-size0) (part-size false false false)

@@ -1,5 +1,5 @@
--- The last term on one slide: count the pairs of numbers that are out of order and the negative weights; c3 is positive where the sum of the two
--- counts is odd. Two neighbours exchanged turn the answer. Assumes nothing.
+-- The last term on one slide: count the pairs of numbers that are out of order and the negative weights; c3 is positive where the sum of
+-- the two counts is odd. Two neighbours exchanged turn the answer. Assumes nothing.
 use mathlib.Core.Path.{_≡_, _∙_}
 use mathlib.Core.Bool.{Bool, true, false, not}
 use Prim.Native.Nat.{ℕ, _+_, _%_}
@@ -45,7 +45,8 @@ pub counts-psi : (ab ac ad bc bd cd wa wb wc wd : Bool) →
     not wa ⊙ not wb ⊙ not wc ⊙ not wd ⊙ not (not ab ⊙ not ac ⊙ not ad ⊙ not bc ⊙ not bd ⊙ not cd) ≡ counted ab ac ad bc bd cd wa wb wc wd
 counts-psi =
     law (all λ ab. all λ ac. all λ ad. all λ bc. all λ bd. all λ cd. all λ wa. all λ wb. all λ wc. all λ wd.
-    not wa ⊙ not wb ⊙ not wc ⊙ not wd ⊙ not (not ab ⊙ not ac ⊙ not ad ⊙ not bc ⊙ not bd ⊙ not cd) ≐ counted ab ac ad bc bd cd wa wb wc wd) tt
+    not wa ⊙ not wb ⊙ not wc ⊙ not wd ⊙ not (not ab ⊙ not ac ⊙ not ad ⊙ not bc ⊙ not bd ⊙ not cd) ≐ counted ab ac ad bc bd cd wa wb wc wd)
+    tt
 
 pub counts-far : (ab ac bc wa wb wc : Bool) →
     not wa ⊙ not wb ⊙ not wc ⊙ not (not ab ⊙ not ac ⊙ not bc ⊙ true) ≡ counted ab ac false bc false false wa wb wc false

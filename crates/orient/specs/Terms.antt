@@ -1,5 +1,5 @@
--- The sign of four points: the determinant of their shifted rows is c0 + c1·e + c2·e² + c3·e³, e an infinitesimal above zero, and the first term
--- that is not zero gives the sign. Assumes nothing.
+-- The sign of four points: the determinant of their shifted rows is c0 + c1·e + c2·e² + c3·e³, e an infinitesimal above zero, and the first
+-- term that is not zero gives the sign. Assumes nothing.
 use mathlib.Core.Bool.{Bool, true, false}
 use Prim.Native.Nat.{ℕ, zero, suc}
 use lib.IntN.{ℤ, pos, negsuc, _+ℤ_, _-ℤ_, _*ℤ_}

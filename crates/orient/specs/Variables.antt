@@ -28,7 +28,8 @@ det = determinant _⊕_ _⊖_ _⊗_
 -- ---- point j is the variables 6j to 6j + 5, and those of the list come after four points
 
 abbrev pub point : ℕ → Numbered Expr
-point j = record { x = var (6 * j); y = var (6 * j + 1); z = var (6 * j + 2); w = var (6 * j + 3); k = var (6 * j + 4); i = var (6 * j + 5) }
+point j =
+    record { x = var (6 * j); y = var (6 * j + 1); z = var (6 * j + 2); w = var (6 * j + 3); k = var (6 * j + 4); i = var (6 * j + 5) }
 
 abbrev pub P : Numbered Expr
 P = point 0

@@ -1,5 +1,5 @@
--- A scene's points have weights that are not 0, but for the last, which has the highest number; hence c3 of four different points is not 0, they
--- have a sign, and the slide tells that of c3. Assumes nothing.
+-- A scene's points have weights that are not 0, but for the last, which has the highest number; hence c3 of four different points is not 0,
+-- they have a sign, and the slide tells that of c3. Assumes nothing.
 use mathlib.Core.Path.{_≡_, refl, sym, _∙_}
 use mathlib.Core.Logic.{_≢_, ⊎-elim}
 use mathlib.Core.Bool.{Bool, true, false, not}
@@ -72,7 +72,8 @@ module _ (n : ℕ) (row : ℕ → Row) (weighted : Weighted n row) where
     all-weighted wd =
         same (c3-psi (at a) (at b) (at c) (at d) wa wb wc wd)
         (weight ((row a) .w) wa times weight ((row b) .w) wb times weight ((row c) .w) wc times weight ((row d) .w) wd times negated
-        (difference a b (f .ab) times difference a c (f .ac) times difference a d (f .ad) times difference b c (f .bc) times difference b d (f .bd)
+        (difference a b (f .ab) times difference a c (f .ac) times difference a d (f .ad) times difference b c
+        (f .bc) times difference b d (f .bd)
         times difference c d (f .cd)))
         (counts-psi (ltb b a) (ltb c a) (ltb d a) (ltb c b) (ltb d b) (ltb d c) (neg a) (neg b) (neg c) (neg d))
 
@@ -84,13 +85,15 @@ module _ (n : ℕ) (row : ℕ → Row) (weighted : Weighted n row) where
         (difference a b (f .ab) times difference a c (f .ac) times difference b c (f .bc)
         times outward a b c d (f .a-in .0) (f .b-in .0) (f .c-in .0) (omega arith) (omega arith) (omega arith)))
         (counts-far (ltb b a) (ltb c a) (ltb c b) (neg a) (neg b) (neg c)
-        ∙ (λ i. counted (ltb b a) (ltb c a) (in-order a an i) (ltb c b) (in-order b bn i) (in-order c cn i) (neg a) (neg b) (neg c) (ltZ (sym zd i) (pos 0))))
+        ∙ (λ i. counted (ltb b a) (ltb c a) (in-order a an i) (ltb c b) (in-order b bn i) (in-order c cn i) (neg a) (neg b) (neg c)
+        (ltZ (sym zd i) (pos 0))))
       where
         in-order : (k : ℕ) → k < n → false ≡ ltb d k
         in-order k l = sym (le-ltb d k (omega arith))
 
     highest-last : Last a b c d
-    highest-last = ⊎-elim (λ e. by e (ℤ-discrete ((row d) .w) (pos 0))) (λ l. all-weighted (weighted d (f .d-in .0) l)) (eq-or-lt-of-le (f .d-in .1))
+    highest-last =
+        ⊎-elim (λ e. by e (ℤ-discrete ((row d) .w) (pos 0))) (λ l. all-weighted (weighted d (f .d-in .0) l)) (eq-or-lt-of-le (f .d-in .1))
       where
         by : d ≡ n → Dec ((row d) .w ≡ pos 0) → Last a b c d
         by e (yes h) = last-at-infinity e h

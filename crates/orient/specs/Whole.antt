@@ -37,7 +37,8 @@ wholeDet N a b c d = det4 (wholeRow N a) (wholeRow N b) (wholeRow N c) (wholeRow
 abbrev M : Expr
 M = var 24
 
-pub by-powers : (N : ℤ) (a b c d : Point) → N *ℤ N *ℤ N *ℤ c0 a b c d +ℤ N *ℤ N *ℤ c1 a b c d +ℤ N *ℤ c2 a b c d +ℤ c3 a b c d ≡ wholeDet N a b c d
+pub by-powers : (N : ℤ) (a b c d : Point) →
+    N *ℤ N *ℤ N *ℤ c0 a b c d +ℤ N *ℤ N *ℤ c1 a b c d +ℤ N *ℤ c2 a b c d +ℤ c3 a b c d ≡ wholeDet N a b c d
 unfolding terms wholeDet det4
 by-powers N a b c d =
     let t = t-of P Q S U in

@@ -38,7 +38,8 @@ pub fn survey_of(
 ) -> Survey
     requires { ⌜ judged (now s) ≡ Accepted ⌝ }
     requires { ⌜ Sized (now aends) (now amasks) × Sized (now bends) (now bmasks) ⌝ }
-    ensures { λ r. ⌜ SurveyIs (viewOf (now (s .entry))) (now (aends .exit)) (now (amasks .exit)) (now (bends .exit)) (now (bmasks .exit)) r ⌝ }
+    ensures { λ r. ⌜ SurveyIs (viewOf (now (s .entry))) (now (aends .exit)) (now (amasks .exit)) (now (bends .exit))
+        (now (bmasks .exit)) r ⌝ }
 {
     let mut rows: Rows = [0; Scene::ROWS];
     let mut corners: Corners = [0; Scene::CORNERS];
@@ -135,8 +136,8 @@ fn lacks_room(all: bool, n: usize, places: usize) -> bool
     false
 }
 
-// The pairs from the one numbered `from` on, as far as there is room, and how many there are in all. Where all of them are asked for, and there is no
-// room for all, none is written: they are counted before any is.
+// The pairs from the one numbered `from` on, as far as there is room, and how many there are in all. Where all of them are asked for, and
+// there is no room for all, none is written: they are counted before any is.
 pub fn pour_read(
     t: Survey,
     s: &[u8],

@@ -1,6 +1,6 @@
--- A scene decoded once: the rows of its points in one array, four numbers each, and the corners of its faces in another, three numbers each, at
--- the scene's own numbers. Where the scene has no such number the array holds zeros, as `row` and `face` say, so that array and tables are the
--- same function of the number. Assumes nothing.
+-- A scene decoded once: the rows of its points in one array, four numbers each, and the corners of its faces in another, three numbers
+-- each, at the scene's own numbers. Where the scene has no such number the array holds zeros, as `row` and `face` say, so that array and
+-- tables are the same function of the number. Assumes nothing.
 use mathlib.Core.List.{List}
 use Prim.Native.Nat.{ℕ, _+_, _*_, _≤_}
 use lib.IntN.{ℤ, pos, natAbs}
@@ -10,7 +10,8 @@ use Rattle.scene.specs.declared.Row.{Row}
 use Rattle.scene.specs.declared.Face.{Face}
 
 abbrev pub rowIn : List ℤ → ℕ → Row
-rowIn l i = record { x = getD l (4 * i) (pos 0); y = getD l (4 * i + 1) (pos 0); z = getD l (4 * i + 2) (pos 0); w = getD l (4 * i + 3) (pos 0) }
+rowIn l i =
+    record { x = getD l (4 * i) (pos 0); y = getD l (4 * i + 1) (pos 0); z = getD l (4 * i + 2) (pos 0); w = getD l (4 * i + 3) (pos 0) }
 
 abbrev pub faceIn : List ℕ → ℕ → Face
 faceIn l k = record { p = getD l (3 * k) 0; q = getD l (3 * k + 1) 0; r = getD l (3 * k + 2) 0 }

@@ -15,5 +15,6 @@ copy-more from out₀ i e h k =
     ∙ sym (append-snoc (take i from) (getD from i 0) (drop (suc i) out₀))
     ∙ rw (add-one, take-suc from i 0 h)
 
-pub copy-all : (from out₀ : List ℕ) {out : List ℕ} {i : ℕ} → out ≡ take i from ++ drop i out₀ → i ≡ length from → out ≡ from ++ drop (length from) out₀
+pub copy-all : (from out₀ : List ℕ) {out : List ℕ} {i : ℕ} → out ≡ take i from ++ drop i out₀ → i ≡ length from →
+    out ≡ from ++ drop (length from) out₀
 copy-all from out₀ e h = e ∙ rw (h, take-length)

@@ -38,7 +38,8 @@ module _ (l : List ℤ) (n : ℕ) (p : Row) where
   row-keeps = simp length-set
 
   -- at a place of another number, and at one of its own four
-  elsewhere : (b : ℕ) → (b ≡ 4 * n → ⊥) → (b ≡ 4 * n + 1 → ⊥) → (b ≡ 4 * n + 2 → ⊥) → (b ≡ 4 * n + 3 → ⊥) → getD (rowSet l n p) b (pos 0) ≡ getD l b (pos 0)
+  elsewhere : (b : ℕ) → (b ≡ 4 * n → ⊥) → (b ≡ 4 * n + 1 → ⊥) → (b ≡ 4 * n + 2 → ⊥) → (b ≡ 4 * n + 3 → ⊥) →
+      getD (rowSet l n p) b (pos 0) ≡ getD l b (pos 0)
   elsewhere b h0 h1 h2 h3 =
       getD-set-other l3 (4 * n + 3) b (p .w) (pos 0) h3 ∙ getD-set-other l2 (4 * n + 2) b (p .z) (pos 0) h2
       ∙ getD-set-other l1 (4 * n + 1) b (p .y) (pos 0) h1 ∙ getD-set-other l (4 * n) b (p .x) (pos 0) h0
@@ -50,7 +51,8 @@ module _ (l : List ℤ) (n : ℕ) (p : Row) where
       let e3 : length l3 ≡ length l = simp length-set in
       let w : getD (rowSet l n p) (4 * n + 3) (pos 0) ≡ p .w = getD-set-same l3 (4 * n + 3) (p .w) (pos 0) (omega arith) in
       let z : getD (rowSet l n p) (4 * n + 2) (pos 0) ≡ p .z =
-      getD-set-other l3 (4 * n + 3) (4 * n + 2) (p .w) (pos 0) (λ e. omega (arith, e)) ∙ getD-set-same l2 (4 * n + 2) (p .z) (pos 0) (omega arith) in
+      getD-set-other l3 (4 * n + 3) (4 * n + 2) (p .w) (pos 0) (λ e. omega (arith, e))
+      ∙ getD-set-same l2 (4 * n + 2) (p .z) (pos 0) (omega arith) in
       let y : getD (rowSet l n p) (4 * n + 1) (pos 0) ≡ p .y =
       getD-set-other l3 (4 * n + 3) (4 * n + 1) (p .w) (pos 0) (λ e. omega (arith, e))
       ∙ getD-set-other l2 (4 * n + 2) (4 * n + 1) (p .z) (pos 0) (λ e. omega (arith, e))
@@ -58,7 +60,8 @@ module _ (l : List ℤ) (n : ℕ) (p : Row) where
       let x : getD (rowSet l n p) (4 * n) (pos 0) ≡ p .x =
       getD-set-other l3 (4 * n + 3) (4 * n) (p .w) (pos 0) (λ e. omega (arith, e))
       ∙ getD-set-other l2 (4 * n + 2) (4 * n) (p .z) (pos 0) (λ e. omega (arith, e))
-      ∙ getD-set-other l1 (4 * n + 1) (4 * n) (p .y) (pos 0) (λ e. omega (arith, e)) ∙ getD-set-same l (4 * n) (p .x) (pos 0) (omega arith) in
+      ∙ getD-set-other l1 (4 * n + 1) (4 * n) (p .y) (pos 0) (λ e. omega (arith, e))
+      ∙ getD-set-same l (4 * n) (p .x) (pos 0) (omega arith) in
       made-row x y z w
 
 pub row-other : (l : List ℤ) (n j : ℕ) (p : Row) → (j ≡ n → ⊥) → rowIn (rowSet l n p) j ≡ rowIn l j
@@ -97,7 +100,8 @@ face-same l n f h =
     let q : getD (faceSet l n f) (3 * n + 1) 0 ≡ f .q =
     getD-set-other l2 (3 * n + 2) (3 * n + 1) (f .r) 0 (λ e. omega (arith, e)) ∙ getD-set-same l1 (3 * n + 1) (f .q) 0 (omega arith) in
     let p : getD (faceSet l n f) (3 * n) 0 ≡ f .p =
-    getD-set-other l2 (3 * n + 2) (3 * n) (f .r) 0 (λ e. omega (arith, e)) ∙ getD-set-other l1 (3 * n + 1) (3 * n) (f .q) 0 (λ e. omega (arith, e))
+    getD-set-other l2 (3 * n + 2) (3 * n) (f .r) 0 (λ e. omega (arith, e))
+    ∙ getD-set-other l1 (3 * n + 1) (3 * n) (f .q) 0 (λ e. omega (arith, e))
     ∙ getD-set-same l (3 * n) (f .p) 0 (omega arith) in
     made-face p q r
 
@@ -111,7 +115,8 @@ face-other l n j f d = made-face (at (3 * j) (λ e. omega (arith, e)) (λ e. ome
         getD-set-other (set (set l (3 * n) (f .p)) (3 * n + 1) (f .q)) (3 * n + 2) b (f .r) 0 h2
         ∙ getD-set-other (set l (3 * n) (f .p)) (3 * n + 1) b (f .q) 0 h1 ∙ getD-set-other l (3 * n) b (f .p) 0 h0
 
-pub faces-decoded : (g : ℕ → Face) (n m : ℕ) {l : List ℕ} → l ≡ filled faceSet g n (replicate m 0) → 3 * n ≤ m → ((j : ℕ) → n ≤ j → g j ≡ noFace) → faceIn l ≡ g
+pub faces-decoded : (g : ℕ → Face) (n m : ℕ) {l : List ℕ} → l ≡ filled faceSet g n (replicate m 0) → 3 * n ≤ m →
+    ((j : ℕ) → n ≤ j → g j ≡ noFace) → faceIn l ≡ g
 faces-decoded g n m e h z =
     ap faceIn e
     ∙ filled-is faceSet faceIn (λ i k. 3 * i + 2 < k) face-keeps face-same face-other g n (replicate m 0)

@@ -42,7 +42,8 @@ module _ (s : List ℕ) where
   all-rows i =
       let a : List Row = run (rowAt s) 1 (vertsA s) in
       let b : List Row = run (rowAt s) (vertsA s + 1) (vertsB s) in
-      let e : a ++ b ≡ rows = ap (λ (k : ℕ). a ++ run (rowAt s) k (vertsB s)) (omega arith) ∙ run-append (rowAt s) 1 (vertsA s) (vertsB s) in
+      let e : a ++ b ≡ rows = ap (λ (k : ℕ). a ++ run (rowAt s) k (vertsB s)) (omega arith)
+      ∙ run-append (rowAt s) 1 (vertsA s) (vertsB s) in
       ap (λ (l : List Row). getD l i noRow) (sym (append-assoc a b (rowAt s 0 ∷ [])) ∙ ap (λ (l : List Row). l ++ rowAt s 0 ∷ []) e)
 
   long : length rows ≡ verts s
@@ -66,7 +67,8 @@ module _ (s : List ℕ) where
 
   pub row-none : (i : ℕ) → verts s + 1 < i → row (tablesOf s) i ≡ noRow
   row-none zero h = absurd (omega arith)
-  row-none (suc i) h = all-rows i ∙ List·getD-eq-default (rows ++ rowAt s 0 ∷ []) noRow (omega (arith, long, length-append rows (rowAt s 0 ∷ [])))
+  row-none (suc i) h =
+      all-rows i ∙ List·getD-eq-default (rows ++ rowAt s 0 ∷ []) noRow (omega (arith, long, length-append rows (rowAt s 0 ∷ [])))
 
   -- the faces by the scene's numbers, B's raised
   abbrev of-a : List Face
@@ -97,7 +99,8 @@ module _ (s : List ℕ) where
       let e : k ≡ length (noFace ∷ of-a) + i = omega (arith, long-a) in
       ap (face (tablesOf s)) e
       ∙ getD-append-add (noFace ∷ of-a) (map (raise m) of-b) i noFace
-      ∙ getD-same (map (raise m) of-b) i noFace (raise m noFace) (omega (arith, length-map (raise m) of-b, length-run (faceAt s) (facesA s) (facesB s)))
+      ∙ getD-same (map (raise m) of-b) i noFace (raise m noFace)
+      (omega (arith, length-map (raise m) of-b, length-run (faceAt s) (facesA s) (facesB s)))
       ∙ List·getD-map (raise m) of-b i noFace
       ∙ ap₂ raise size-a (run-at (faceAt s) (facesA s) (facesB s) i noFace (omega arith) ∙ ap (faceAt s) (omega arith))
 
@@ -106,7 +109,8 @@ module _ (s : List ℕ) where
   face-none k h =
       let m : ℕ = size (tablesOf s .a) in
       List·getD-eq-default (noFace ∷ of-a ++ map (raise m) of-b) noFace {n = k}
-      (omega (arith, length-append of-a (map (raise m) of-b), length-map (raise m) of-b, long-a, length-run (faceAt s) (facesA s) (facesB s)))
+      (omega
+      (arith, length-append of-a (map (raise m) of-b), length-map (raise m) of-b, long-a, length-run (faceAt s) (facesA s) (facesB s)))
 
   -- three bytes behind the mark of the file's face i
   pub face-read : (i : ℕ) {at p q r : ℕ} → at ≡ faceStart s i → p ≡ byteAt s (at + 2) → q ≡ byteAt s (at + 3) → r ≡ byteAt s (at + 4) →

@@ -1,5 +1,5 @@
--- A scene as a question reads it: how many vertices and faces each solid has, and the rows and the faces by the scene's own numbers. Whatever makes a
--- view, bytes, a session or a map, every question and every theorem reads it alike. Assumes nothing.
+-- A scene as a question reads it: how many vertices and faces each solid has, and the rows and the faces by the scene's own numbers.
+-- Whatever makes a view, bytes, a session or a map, every question and every theorem reads it alike. Assumes nothing.
 use mathlib.Core.Path.{_≡_, sym, ap, _∙_}
 use mathlib.Core.Bool.{Bool, true, false, cond}
 use mathlib.Core.List.{List}
@@ -72,13 +72,35 @@ module _ (s : List ℕ) (k : ℕ) {c : Scene} (e : c ≡ file.countsOf s) where
   pub counted-a : k ≡ 1 →
       Read (record { low = 0; verts = c .«vertices_a»; first = 0; count = c .«faces_a»; other = c .«faces_a»; others = c .«faces_b» })
   counted-a h =
-      (λ i. record { low = 0; verts = e i .«vertices_a»; first = 0; count = e i .«faces_a»; other = e i .«faces_a»; others = e i .«faces_b» })
+      (λ i. record {
+        low = 0;
+        verts = e i .«vertices_a»;
+        first = 0;
+        count = e i .«faces_a»;
+        other = e i .«faces_a»;
+        others = e i .«faces_b»;
+      })
       ∙ sym (solid-a (viewOf s) h)
 
   pub counted-b : (k ≡ 1 → ⊥) →
-      Read (record { low = c .«vertices_a»; verts = c .«vertices_b»; first = c .«faces_a»; count = c .«faces_b»; other = 0; others = c .«faces_a» })
+      Read
+      (record {
+        low = c .«vertices_a»;
+        verts = c .«vertices_b»;
+        first = c .«faces_a»;
+        count = c .«faces_b»;
+        other = 0;
+        others = c .«faces_a»;
+      })
   counted-b h =
-      (λ i. record { low = e i .«vertices_a»; verts = e i .«vertices_b»; first = e i .«faces_a»; count = e i .«faces_b»; other = 0; others = e i .«faces_a» })
+      (λ i. record {
+        low = e i .«vertices_a»;
+        verts = e i .«vertices_b»;
+        first = e i .«faces_a»;
+        count = e i .«faces_b»;
+        other = 0;
+        others = e i .«faces_a»;
+      })
       ∙ sym (solid-b (viewOf s) h)
 
 -- what is so of both is so of each

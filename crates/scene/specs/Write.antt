@@ -45,8 +45,8 @@ pub record HeaderFits (c : Scene) : Type 0 where
   pub vertices-b : c .«vertices_b» < 256
   pub faces-b : c .«faces_b» < 256
 
--- ---- l with such bytes in it: the row of the file's point j (0 the far point, then the vertices), the corners of the face whose record starts at k,
--- a mark at k, the header
+-- ---- l with such bytes in it: the row of the file's point j (0 the far point, then the vertices), the corners of the face whose record
+-- starts at k, a mark at k, the header
 
 unfoldable pub rowPut : List ℕ → ℕ → Row → List ℕ
 rowPut l j r = sets l (pointStart j + 2) (rowBytes r)

@@ -86,7 +86,8 @@ module _ (l : List ℕ) (j : ℕ) (r : Row) where
         let x : coordinateAt s (k + 2) ≡ r .x = row-coordinate (k + 2) 0 (r .x) (fits .x) (omega arith) (omega arith) refl refl in
         let y : coordinateAt s (k + 4) ≡ r .y = row-coordinate (k + 4) 2 (r .y) (fits .y) (omega arith) (omega arith) refl refl in
         let z : coordinateAt s (k + 6) ≡ r .z = row-coordinate (k + 6) 4 (r .z) (fits .z) (omega arith) (omega arith) refl refl in
-        let w : weightAt s (k + 8) ≡ r .w = ap (signed 128) (row-byte (k + 8) 6 (omega arith) (omega arith)) ∙ signed-unsigned 128 (r .w) (fits .w) in
+        let w : weightAt s (k + 8) ≡ r .w = ap (signed 128) (row-byte (k + 8) 6 (omega arith) (omega arith))
+        ∙ signed-unsigned 128 (r .w) (fits .w) in
         λ i. record { x = x i; y = y i; z = z i; w = w i }
 
 -- ---- the corners of a face
@@ -169,7 +170,8 @@ module _ (l : List ℕ) (c : Scene) where
 
 pub row-stored : (l : List ℕ) (j : ℕ) (r : Row) {a b c d : ℕ} {l1 l2 l3 : List ℕ} →
     l1 ≡ twoPut l (pointStart j + 2) a → l2 ≡ twoPut l1 (pointStart j + 4) b → l3 ≡ twoPut l2 (pointStart j + 6) c →
-    a ≡ unsigned 32768 (r .x) → b ≡ unsigned 32768 (r .y) → c ≡ unsigned 32768 (r .z) → d ≡ unsigned 128 (r .w) → set l3 (pointStart j + 8) d ≡ rowPut l j r
+    a ≡ unsigned 32768 (r .x) → b ≡ unsigned 32768 (r .y) → c ≡ unsigned 32768 (r .z) → d ≡ unsigned 128 (r .w) →
+    set l3 (pointStart j + 8) d ≡ rowPut l j r
 unfolding twoPut rowPut
 row-stored l j r e1 e2 e3 a b c d = rw (e3, e2, e1, a, b, c, d) (simp towards-suc)
 

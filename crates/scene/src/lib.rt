@@ -126,8 +126,8 @@ pub struct Face {
     pub r: usize,
 }
 
-// A solid: its vertices are the points above low, `verts` of them; its faces are those above first, `count` of them; and the other solid's are those
-// above other, `others` of them.
+// A solid: its vertices are the points above low, `verts` of them; its faces are those above first, `count` of them; and the other solid's
+// are those above other, `others` of them.
 pub struct Solid {
     pub low: usize,
     pub verts: usize,

@@ -130,7 +130,8 @@ masks-join g low m (suc n) l =
     let k : suc (m + n) ≡ m + suc n = omega arith in
     (λ i. wordSet (masks-join g low m n l i) (e i) (g (e i))) ∙ ap (λ (k : ℕ). masksFrom g low k l) k
 
-pub ready-from : (row : ℕ → Row) (face : ℕ → Face) (plane : ℕ → Row) (k : Solid) → ReadyFor row face plane k → (m i : ℕ) → m + i < k .verts →
+pub ready-from : (row : ℕ → Row) (face : ℕ → Face) (plane : ℕ → Row) (k : Solid) → ReadyFor row face plane k → (m i : ℕ) →
+    m + i < k .verts →
     ReadyAll row face plane (k .low + m + 1 + i) (k .other) (k .others)
 ready-from row face plane k h m i b =
     let e : k .low + 1 + (m + i) ≡ k .low + m + 1 + i = omega arith in

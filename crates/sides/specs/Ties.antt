@@ -64,7 +64,8 @@ settledOf row face first t = kept (λ k. above row t (face (first + 1 + k)))
 -- ---- one face
 
 -- a number that is not zero says its sign; where it is zero the rest does
-split : (rest : Sign) (z : ℤ) → digit (isPlus (sign z or rest)) ≡ digit (ltZ (negℤ z) (pos 0)) + digit (isZero (negℤ z) && isPlus (sign z or rest))
+split : (rest : Sign) (z : ℤ) →
+    digit (isPlus (sign z or rest)) ≡ digit (ltZ (negℤ z) (pos 0)) + digit (isZero (negℤ z) && isPlus (sign z or rest))
 split rest (pos zero) = let e : digit (isPlus rest) ≡ 0 + digit (isPlus rest) = omega arith in e
 split rest (pos (suc n)) = refl
 split rest (negsuc n) = sym (rw (le-ltb (suc n) 0 (omega arith)))

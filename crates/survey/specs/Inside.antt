@@ -32,7 +32,8 @@ lowest-at p z a (suc n) zero l t h =
     rw (sym (ap p e) ∙ t) (sym e)
 lowest-at p z a (suc n) (suc d) l t h =
     let e : a + suc d ≡ suc a + d = omega arith in
-    rw (h a (omega arith) (omega arith)) (lowest-at p z (suc a) n d (omega arith) (ap p (sym e) ∙ t) (λ j b c. h j (omega arith) (omega arith)) ∙ sym e)
+    rw (h a (omega arith) (omega arith))
+    (lowest-at p z (suc a) n d (omega arith) (ap p (sym e) ∙ t) (λ j b c. h j (omega arith) (omega arith)) ∙ sym e)
 
 module _ (s : Seen) (k : Solid) {w : ℕ} (e : w ≡ insideWord s k) where
   pub inside-ones : ones w ≡ insideCount s k
@@ -58,7 +59,8 @@ module _ (s : Seen) (k : Solid) {w : ℕ} (e : w ≡ insideWord s k) where
       place : (j : ℕ) → k .low + 1 ≤ j → k .low + 1 + (j - (k .low + 1)) ≡ j
       place j a = omega arith
 
-      by : Dec (w ≡ 0) → lowestOfWord w (k .low) (k .verts) ≡ fold (λ u rest. cond (isInside s k u) u rest) high (k .low + 1) (high - (k .low + 1))
+      by : Dec (w ≡ 0) → lowestOfWord w (k .low) (k .verts) ≡ fold (λ u rest. cond (isInside s k u) u rest) high (k .low + 1)
+          (high - (k .low + 1))
       by (yes z) =
           ap (λ (b : Bool). cond b high (k .low + 1 + trailingZeros 64 w)) (eq-eqb w 0 z)
           ∙ sym (lowest-none (isInside s k) high (k .low + 1) (high - (k .low + 1)) (off z))

@@ -42,7 +42,8 @@ surveyed-pairs s a b t ends-a masks-a ends-b masks-b sa sb p q =
 pub table-most : (first : ℕ) (ends masks : List ℕ) (n : ℕ) → length (tableHits first ends masks n) ≤ n * width
 table-most first ends masks n = bounded (λ j. entryHits first (entryIn ends masks j)) width n (λ j. entry-most first (entryIn ends masks j))
 
-pub pairs-count : (t : Survey) (a b : ℕ) (ends-a masks-a ends-b masks-b : List ℕ) {x y : ℕ} → x ≡ length (tableHits a ends-a masks-a (t .a .edges)) →
+pub pairs-count : (t : Survey) (a b : ℕ) (ends-a masks-a ends-b masks-b : List ℕ) {x y : ℕ} →
+    x ≡ length (tableHits a ends-a masks-a (t .a .edges)) →
     y ≡ length (tableHits b ends-b masks-b (t .b .edges)) → x + y ≡ length (pairsOf t a b ends-a masks-a ends-b masks-b)
 unfolding pairsOf
 pairs-count t a b ends-a masks-a ends-b masks-b p q =

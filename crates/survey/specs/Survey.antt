@@ -1,5 +1,5 @@
--- The survey of a scene: of each solid its edges in the order of the listing with their masks, in a table, and the word of its enclosed vertices.
--- All answers are read off it. Assumes nothing.
+-- The survey of a scene: of each solid its edges in the order of the listing with their masks, in a table, and the word of its enclosed
+-- vertices. All answers are read off it. Assumes nothing.
 use mathlib.Core.Path.{_≡_}
 use mathlib.Core.List.{List, _++_}
 use Prim.Native.Nat.{ℕ, _*_, _≤_}

@@ -20,7 +20,8 @@ use table::pour::pour;
 // How many pairs, whatever the ends and the numbers of the faces.
 pub fn count_pairs(t: Survey, amasks: &Masks, bmasks: &Masks) -> usize
     requires { ⌜ Fits t ⌝ }
-    ensures { λ r. ⌜ ((a b : ℕ) (ends-a ends-b : List ℕ) → r ≡ length (pairsOf t a b ends-a (now (amasks .entry)) ends-b (now (bmasks .entry)))) ⌝ }
+    ensures { λ r.
+        ⌜ ((a b : ℕ) (ends-a ends-b : List ℕ) → r ≡ length (pairsOf t a b ends-a (now (amasks .entry)) ends-b (now (bmasks .entry)))) ⌝ }
 {
     let x = count(amasks, t.a.edges);
     let y = count(bmasks, t.b.edges);

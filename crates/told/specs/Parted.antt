@@ -1,5 +1,5 @@
--- The tables that narrow the questions about a solid's edges: told by the other solid's words, or left empty. They serve one solid, then the
--- other: their entries for vertices do not meet, and those for faces are all told again. Assumes nothing.
+-- The tables that narrow the questions about a solid's edges: told by the other solid's words, or left empty. They serve one solid, then
+-- the other: their entries for vertices do not meet, and those for faces are all told again. Assumes nothing.
 use mathlib.Core.Path.{_≡_, refl, sym, ap, _∙_}
 use mathlib.Core.Bool.{Bool, true, false, cond, _&&_, true≢false}
 use mathlib.Core.List.{List}

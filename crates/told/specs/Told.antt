@@ -1,5 +1,5 @@
--- The tables of sides: with the planes of the other solid's faces made, the words of a solid's vertices and of the far point can be told, and
--- once they are stored they stand. Assumes nothing.
+-- The tables of sides: with the planes of the other solid's faces made, the words of a solid's vertices and of the far point can be told,
+-- and once they are stored they stand. Assumes nothing.
 use mathlib.Core.Path.{_≡_, sym, ap, _∙_, subst}
 use mathlib.Core.List.{List}
 use Prim.Native.Nat.{ℕ, _+_, _-_, _*_, _≤_, _<_}
@@ -59,7 +59,9 @@ module _ (s : Seen) (k : Solid) (r : Ready s k) where
       (r .within .sound .outward (k .low + 1 + i) (omega arith, omega arith)) .0
 
   faces : (i : ℕ) → i < k .others → FaceOf (r .low) (r .high) (s .face (k .other + 1 + i))
-  faces i b = each-run (FaceOf (r .low) (r .high)) (s .face) (k .other + 1) (k .others) (r .closed .faces) (k .other + 1 + i) (omega arith) (omega arith)
+  faces i b =
+      each-run (FaceOf (r .low) (r .high)) (s .face) (k .other + 1) (k .others) (r .closed .faces) (k .other + 1 + i)
+      (omega arith) (omega arith)
 
   far-ready : {planes : List ℤ} → Planes planes → ReadyFor (s .row) (s .face) (planeIn planes (k .other)) (farOf (s .points) k)
   far-ready {planes} e i b =

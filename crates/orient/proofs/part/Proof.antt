@@ -23,7 +23,12 @@ shifted-requires-4 c κs = search needs
 det-requires : tie.Need-det-requires
 det-requires c κs =
     let s = c .before .before .before .before in
-    rw (c .before .before .before .shifted .ensures, c .before .before .shifted2 .ensures, c .before .shifted3 .ensures, c .shifted4 .ensures)
+    rw (
+      c .before .before .before .shifted .ensures,
+      c .before .before .shifted2 .ensures,
+      c .before .shifted3 .ensures,
+      c .shifted4 .ensures,
+    )
     (part-formed (s .args .sx) (s .args .sy) (s .args .sz) (s .pre))
 
 returns : tie.Need-returns
@@ -33,7 +38,8 @@ returns c =
     let d3 = d4 .before in
     let d2 = d3 .before in
     called (c .det .ok)
-    (c .det .ensures ∙ (λ i. det4 (d2 .before .shifted .ensures i) (d2 .shifted2 .ensures i) (d3 .shifted3 .ensures i) (d4 .shifted4 .ensures i)))
+    (c .det .ensures
+    ∙ (λ i. det4 (d2 .before .shifted .ensures i) (d2 .shifted2 .ensures i) (d3 .shifted3 .ensures i) (d4 .shifted4 .ensures i)))
 
 pub part-spec : {M : Type 1} → statement M
 part-spec =

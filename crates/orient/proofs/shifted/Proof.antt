@@ -1,4 +1,5 @@
--- `orient::shifted` meets its contract: the three products of the shift are as small as is asked, and each coordinate is picked. Assumes nothing.
+-- `orient::shifted` meets its contract: the three products of the shift are as small as is asked, and each coordinate is picked.
+-- Assumes nothing.
 use borrow.Author.Needs.{needs}
 use mathlib.Core.Path.{_∙_}
 use mathlib.Core.Bool.{cond}

@@ -32,7 +32,8 @@ returns c =
     let d = c .before in
     called (c .det .ok)
     (c .det .ensures
-    ∙ (λ i. det4 (d .before .before .before .row .ensures i) (d .before .before .row2 .ensures i) (d .before .row3 .ensures i) (d .row4 .ensures i))
+    ∙ (λ i. det4 (d .before .before .before .row .ensures i) (d .before .before .row2 .ensures i) (d .before .row3 .ensures i)
+    (d .row4 .ensures i))
     ∙ sym (c0-parts _ _ _ _))
 
 pub term0-spec : {M : Type 1} → statement M

@@ -23,7 +23,8 @@ terms-of-requires c κs =
     let d3 = c .before in
     let d2 = d3 .before in
     let d1 = d2 .before in
-    rw (d1 .point-at .ensures, d2 .point-at2 .ensures, d3 .point-at3 .ensures, c .point-at4 .ensures) (points-within limits _ _ _ _ _ (d1 .before .pre))
+    rw (d1 .point-at .ensures, d2 .point-at2 .ensures, d3 .point-at3 .ensures, c .point-at4 .ensures)
+    (points-within limits _ _ _ _ _ (d1 .before .pre))
 
 returns : tie.Need-returns
 unfolding termsAt

@@ -27,7 +27,8 @@ returns : tie.Need-returns
 returns c =
     let s = c .before .before .before .before .before in
     let v = seenIn (s .args .n) (now (s .args .rows)) (now (s .args .corners)) in
-    told v (s .args .k) (s .pre .0 .0) _ (s .pre .0 .1) (c .before .before .before .before .far .ensures) (c .before .before .fill .ensures) (c .fill2 .ensures)
+    told v (s .args .k) (s .pre .0 .0) _ (s .pre .0 .1) (c .before .before .before .before .far .ensures) (c .before .before .fill .ensures)
+    (c .fill2 .ensures)
 
 pub tell-sides-spec : {M : Type 1} → statement M
 tell-sides-spec =

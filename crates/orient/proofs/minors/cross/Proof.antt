@@ -1,4 +1,5 @@
--- `orient::minors::cross` meets its contract: each product and their difference are at most the sum of the products' sizes. Assumes nothing.
+-- `orient::minors::cross` meets its contract: each product and their difference are at most the sum of the products' sizes.
+-- Assumes nothing.
 use native.Mathlib.Omega.{arith}
 use Rattle.laws.specs.Size.{fit, kept, var, times, less}
 use Rattle.orient.proofs.minors.cross.Statement.{statement}

@@ -48,7 +48,10 @@ loop-less : tie.Need-loop-less Inv-loop μ-loop
 loop-less c = search needs
 
 loop-again : tie.Need-loop-again Inv-loop μ-loop
-loop-again c = (omega arith, c .put-face .ensures ∙ filled-more faceSet _ _ _ (c .before .before .before .before .loop .inv .1) (c .before .corners .ensures))
+loop-again c = (
+  omega arith,
+  c .put-face .ensures ∙ filled-more faceSet _ _ _ (c .before .before .before .before .loop .inv .1) (c .before .corners .ensures),
+)
 
 returns : tie.Need-returns Inv-loop μ-loop
 returns c =

@@ -26,13 +26,15 @@ cast-out-3 : tie.Need-cast-out-3
 cast-out-3 c = search needs
 
 slice-write-out-3 : tie.Need-slice-write-out-3
-slice-write-out-3 c = simp length-set (omega (arith, ap length (c .before .before .before .before .before .put-two .ensures) ∙ two-length _ _ _))
+slice-write-out-3 c =
+    simp length-set (omega (arith, ap length (c .before .before .before .before .before .put-two .ensures) ∙ two-length _ _ _))
 
 cast-out-4 : tie.Need-cast-out-4
 cast-out-4 c = search needs
 
 slice-write-out-4 : tie.Need-slice-write-out-4
-slice-write-out-4 c = simp length-set (omega (arith, ap length (c .before .before .before .before .before .before .put-two .ensures) ∙ two-length _ _ _))
+slice-write-out-4 c =
+    simp length-set (omega (arith, ap length (c .before .before .before .before .before .before .put-two .ensures) ∙ two-length _ _ _))
 
 same-length : tie.Need-same-length
 same-length c = search needs

@@ -60,7 +60,8 @@ returns-2 c =
     let l = f .before .before .before .before in
     let s = l .before in
     let v = seenIn (s .args .n) (now (s .args .rows)) (now (s .args .corners)) in (
-      search (left-found v (s .args .k) (s .args .u) (l .loop .left) (omega arith) (l .loop .inv .0) refl (f .look-at .ensures .0) (l .loop .inv .2)),
+      search (left-found v (s .args .k) (s .args .u) (l .loop .left) (omega arith) (l .loop .inv .0) refl (f .look-at .ensures .0)
+          (l .loop .inv .2)),
       f .look-at .ensures .1,
     )
 

@@ -51,7 +51,8 @@ sign-by-requires c κs =
       search needs,
       (
         ask-qp (s .pre .1 .1),
-        called (c .dot .ok) (dot-term (row s) (a .u) (a .v) (a .f .q) (a .f .p) (at-q d) (d .before .before .before .row-at .ensures) (c .dot .ensures)),
+        called (c .dot .ok)
+            (dot-term (row s) (a .u) (a .v) (a .f .q) (a .f .p) (at-q d) (d .before .before .before .row-at .ensures) (c .dot .ensures)),
       ),
     )
 
@@ -109,7 +110,8 @@ sign-by-requires-3 c κs =
       search needs,
       (
         ask-pr (s .pre .1 .1),
-        called (c .dot3 .ok) (dot-term (row s) (a .u) (a .v) (a .f .p) (a .f .r) (at-p d2) (d .before .row-at3 .ensures) (c .dot3 .ensures)),
+        called (c .dot3 .ok)
+            (dot-term (row s) (a .u) (a .v) (a .f .p) (a .f .r) (at-p d2) (d .before .row-at3 .ensures) (c .dot3 .ensures)),
       ),
     )
 

@@ -53,7 +53,8 @@ tell-word-requires-3 c κs =
 returns-2 : tie.Need-returns-2
 returns-2 c =
     let a = c .before .before .before .args in
-    told-two (rowIn (now (a .rows))) (faceIn (now (a .corners))) (a .first) _ _ (c .before .before .if1 .left) (c .before .tell-word2 .ensures)
+    told-two (rowIn (now (a .rows))) (faceIn (now (a .corners))) (a .first) _ _ (c .before .before .if1 .left)
+    (c .before .tell-word2 .ensures)
     (c .tell-word3 .ensures)
 
 pub tell-spec : {M : Type 1} → statement M

@@ -72,7 +72,8 @@ loop-again c =
       mask-under (leads (rowIn (now (a .rows))) (a .t)) face (a .first) (a .count) (l .loop .k) (omega arith) (omega arith) (omega arith)
           (l .loop .inv .1) (b .bit .ensures ∙ ap (λ (z : ℤ). digit (ltZ z (pos 0))) (called (d .side .ok) (d .side .ensures))),
       mask-under (flat (rowIn (now (a .rows))) (a .t)) face (a .first) (a .count) (l .loop .k) (omega arith) (omega arith) (omega arith)
-          (l .loop .inv .2) (c .bit2 .ensures ∙ ap digit (zero-read {n = n} (called {z = n} (d .side .ok) refl) ∙ ap isZero (d .side .ensures))),
+          (l .loop .inv .2) (c .bit2 .ensures
+          ∙ ap digit (zero-read {n = n} (called {z = n} (d .side .ok) refl) ∙ ap isZero (d .side .ensures))),
     )
 
 returns : tie.Need-returns Inv-loop μ-loop

@@ -33,7 +33,8 @@ returns-2 c =
     let s = d .before in
     let a = s .args in (
       c .above-of .ensures
-          ∙ masks-clear (rowIn (now (a .rows))) (faceIn (now (a .corners))) (a .first) (a .count) (a .t) (s .pre .1 .0 .1) (d .tell .ensures)
+          ∙ masks-clear (rowIn (now (a .rows))) (faceIn (now (a .corners))) (a .first) (a .count) (a .t) (s .pre .1 .0 .1)
+          (d .tell .ensures)
           (sym (h .has-ties .ensures) ∙ e .if1 .left),
       s .pre .1 .1 .1,
     )

@@ -18,7 +18,8 @@ returns c =
     let d = c .before in
     let s = d .before .before in
     let a = s .args in (
-      tilt-told (rowIn (now (a .rows))) (faceIn (now (a .corners)) (a .k)) (a .t) (s .pre .1 .1 .1 .0) (d .tilt-at .ok) (d .tilt-at .ensures .0)
+      tilt-told (rowIn (now (a .rows))) (faceIn (now (a .corners)) (a .k)) (a .t) (s .pre .1 .1 .1 .0) (d .tilt-at .ok)
+          (d .tilt-at .ensures .0)
           (c .if1 .taken),
       d .tilt-at .ensures .1,
     )

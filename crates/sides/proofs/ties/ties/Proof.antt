@@ -60,7 +60,8 @@ shl-word : tie.Need-shl-word Inv-loop μ-loop
 shl-word c = here (c .before .before .before) .small
 
 -- after a turn, what is settled so far and what is settled of the rest
-rest : (c : tie.After-bit Inv-loop μ-loop) → let l = c .before .before .before .before in let w = l .loop .left in let a = l .before .args in
+rest : (c : tie.After-bit Inv-loop μ-loop) → let l = c .before .before .before .before in let w = l .loop .left in
+    let a = l .before .args in
     l .loop .word + c .bit .result * 2 ^ trailingZeros 64 w % 2 ^ 64
     + settledOf (rowIn (now (a .rows))) (faceIn (now (a .corners))) (a .first) (a .t) (bitAnd w (w - 1))
     ≡ settledOf (rowIn (now (a .rows))) (faceIn (now (a .corners))) (a .first) (a .t) (a .tied)

@@ -64,7 +64,8 @@ loop-again c =
       omega arith,
       c .put .ensures
           ∙ masks-more _ _ _ _ (l .loop .inv .1)
-          (u .above-of .ensures ∙ masks-clear (rowIn (now (a .rows))) (faceIn (now (a .corners))) (a .k .other) (a .k .others) _ (omega arith) (d .tell .ensures)
+          (u .above-of .ensures ∙ masks-clear (rowIn (now (a .rows))) (faceIn (now (a .corners))) (a .k .other)
+          (a .k .others) _ (omega arith) (d .tell .ensures)
           (sym (h .has-ties .ensures) ∙ e .if1 .left)),
     )
 

@@ -27,7 +27,8 @@ add-result c =
 returns : tie.Need-returns
 returns c =
     let s = c .before .before in
-    λ a b p q. pairs-count (s .args .t) a b p (now (s .args .amasks)) q (now (s .args .bmasks)) (c .before .count .ensures a p) (c .count2 .ensures b q)
+    λ a b p q. pairs-count (s .args .t) a b p (now (s .args .amasks)) q (now (s .args .bmasks)) (c .before .count .ensures a p)
+    (c .count2 .ensures b q)
 
 pub count-pairs-spec : {M : Type 1} → statement M
 count-pairs-spec =

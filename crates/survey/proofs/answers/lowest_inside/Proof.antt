@@ -15,7 +15,9 @@ add-result-2 : tie.Need-add-result-2
 add-result-2 c = search needs
 
 returns : tie.Need-returns
-returns c = let s = c .before .args in told-yes (s .low + 1 + s .verts) (s .low + 1 + trailingZeros 64 (s .inside)) (eq-eqb (s .inside) 0 (c .if1 .taken))
+returns c =
+    let s = c .before .args in
+    told-yes (s .low + 1 + s .verts) (s .low + 1 + trailingZeros 64 (s .inside)) (eq-eqb (s .inside) 0 (c .if1 .taken))
 
 add-result-3 : tie.Need-add-result-3
 add-result-3 c = search needs
@@ -27,7 +29,9 @@ add-result-4 : tie.Need-add-result-4
 add-result-4 c = omega (arith, trailing-le 64 (c .before .args .inside))
 
 returns-2 : tie.Need-returns-2
-returns-2 c = let s = c .before .args in told-no (s .low + 1 + s .verts) (s .low + 1 + trailingZeros 64 (s .inside)) (ne-eqb (s .inside) 0 (c .if1 .left))
+returns-2 c =
+    let s = c .before .args in
+    told-no (s .low + 1 + s .verts) (s .low + 1 + trailingZeros 64 (s .inside)) (ne-eqb (s .inside) 0 (c .if1 .left))
 
 pub lowest-inside-spec : {M : Type 1} → statement M
 lowest-inside-spec =
