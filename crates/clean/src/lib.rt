@@ -22,6 +22,7 @@ use scene::Row;
 use scene::Rows;
 use scene::Scene;
 use scene::decode;
+use scene::decode::row_in;
 use scene::read::byte;
 
 pub enum Answer {
@@ -127,17 +128,4 @@ fn in_plane(rows: &Rows, p: Row, d: usize) -> bool
     ensures { λ r. ⌜ r ≡ inPlane (rowIn (now (rows .entry))) p d ⌝ }
 {
     dot(p, row_in(rows, d)) == 0
-}
-
-fn row_in(rows: &Rows, i: usize) -> Row
-    requires { ⌜ i ≤ mostPoints limits ⌝ }
-    ensures { λ r. ⌜ r ≡ rowIn (now (rows .entry)) i ⌝ }
-{
-    let at = 4 * i;
-    Row {
-        x: rows[at] as i64,
-        y: rows[at + 1] as i64,
-        z: rows[at + 2] as i64,
-        w: rows[at + 3] as i64,
-    }
 }

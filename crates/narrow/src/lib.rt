@@ -20,8 +20,8 @@ use face_masks::WORD;
 use orient::minors::join;
 use scene::Corners;
 use scene::Rows;
+use scene::decode::row_in;
 use sides::crossed;
-use sides::planes::row_at;
 use sides::words::Words;
 use sides::words::bit;
 use sides::words::mask_at;
@@ -97,7 +97,7 @@ fn mask_parted(
     let b = mask_at(words, v);
     let near = narrowed(cuts, 0, at, a.low ^ b.low);
     let next = narrowed(cuts, WORD, at, a.high ^ b.high);
-    let l = join(row_at(rows, u), row_at(rows, v));
+    let l = join(row_in(rows, u), row_in(rows, v));
     let low = crossed(engine, rows, corners, n, u, v, l, first, near);
     let high = crossed(engine, rows, corners, n, u, v, l, first + WORD, next);
     Mask {

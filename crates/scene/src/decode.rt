@@ -72,6 +72,20 @@ pub fn faces(s: &[u8], a: &mut Corners)
     }
 }
 
+// The row of point i, of rows that were decoded.
+pub fn row_in(rows: &Rows, i: usize) -> Row
+    requires { ⌜ i ≤ mostPoints limits ⌝ }
+    ensures { λ r. ⌜ r ≡ rowIn (now (rows .entry)) i ⌝ }
+{
+    let at = 4 * i;
+    Row {
+        x: rows[at] as i64,
+        y: rows[at + 1] as i64,
+        z: rows[at + 2] as i64,
+        w: rows[at + 3] as i64,
+    }
+}
+
 // The face numbered k, of corners that were decoded.
 pub fn face_in(corners: &Corners, k: usize) -> Face
     requires { ⌜ k ≤ 2 * limits .mostFaces ⌝ }

@@ -15,7 +15,6 @@ ghost use Rattle.orient.specs.Minors.{joinOf};
 ghost use Rattle.sides.specs.Sides.{above, sidesOf};
 ghost use Rattle.sides.specs.Tables.{maskIn};
 ghost use Rattle.sides.specs.Crossing.{crossedOf, Candidates};
-use crate::planes::row_at;
 use crate::words::Words;
 use crate::words::bit;
 use crate::words::mask_at;
@@ -28,6 +27,7 @@ use scene::Corners;
 use scene::Face;
 use scene::Rows;
 use scene::decode::face_in;
+use scene::decode::row_in;
 
 mod crossing;
 pub mod planes;
@@ -93,7 +93,7 @@ pub fn between(
         × (b ≡ sidesOf (rowIn (now rows)) (faceIn (now corners)) first count v) ⌝ }
     ensures { λ r. ⌜ valueOf r ≡ maskAgainst n (rowIn (now (rows .entry))) (faceIn (now (corners .entry))) u v first count ⌝ }
 {
-    let l = join(row_at(rows, u), row_at(rows, v));
+    let l = join(row_in(rows, u), row_in(rows, v));
     let low = crossed(engine, rows, corners, n, u, v, l, first, a.low ^ b.low);
     let high = crossed(
         engine,

@@ -20,6 +20,7 @@ use scene::Row;
 use scene::Rows;
 use scene::Scene;
 use scene::decode::face_in;
+use scene::decode::row_in;
 
 // A plane for each face of one solid, at its number within the solid.
 pub type Planes = [i64; 4 * (Scene::MOST_FACES + 1)];
@@ -43,9 +44,9 @@ fn plane(rows: &Rows, f: Face) -> Row
     requires { ⌜ AllWithin limits (rowIn (now rows)) × FaceWithin limits f ⌝ }
     ensures { λ r. ⌜ r ≡ planeFor (rowIn (now (rows .entry))) f ⌝ }
 {
-    let p = row_at(rows, f.p);
-    let q = row_at(rows, f.q);
-    let r = row_at(rows, f.r);
+    let p = row_in(rows, f.p);
+    let q = row_in(rows, f.q);
+    let r = row_in(rows, f.r);
     if are_units(q, p, r) {
         return units::plane(q, p, r);
     }
@@ -86,20 +87,6 @@ pub fn plane_at(planes: &Planes, j: usize) -> Row
         y: planes[i + 1],
         z: planes[i + 2],
         w: planes[i + 3],
-    }
-}
-
-// The row of point i.
-pub fn row_at(rows: &Rows, i: usize) -> Row
-    requires { ⌜ i ≤ mostPoints limits ⌝ }
-    ensures { λ r. ⌜ r ≡ rowIn (now (rows .entry)) i ⌝ }
-{
-    let at = 4 * i;
-    Row {
-        x: rows[at] as i64,
-        y: rows[at + 1] as i64,
-        z: rows[at + 2] as i64,
-        w: rows[at + 3] as i64,
     }
 }
 

@@ -16,7 +16,6 @@ ghost use Rattle.sides.specs.SlopeSizes.{SumWithin, plusSize};
 use crate::planes::Planes;
 use crate::planes::dot;
 use crate::planes::plane_at;
-use crate::planes::row_at;
 use crate::planes::through;
 use crate::units::are_units;
 use crate::units::seen;
@@ -30,6 +29,7 @@ use scene::Row;
 use scene::Rows;
 use scene::Scene;
 use scene::decode::face_in;
+use scene::decode::row_in;
 
 // A slope for each face of a scene, at its number; zeros where it is not made.
 pub type Slopes = [i64; 4 * (2 * Scene::MOST_FACES + 1)];
@@ -111,9 +111,9 @@ fn slope(rows: &Rows, f: Face) -> Row
     requires { ⌜ AllWithin limits (rowIn (now rows)) × FaceWithin limits f ⌝ }
     ensures { λ r. ⌜ r ≡ slopeFor (rowIn (now (rows .entry))) f ⌝ }
 {
-    let p = row_at(rows, f.p);
-    let q = row_at(rows, f.q);
-    let r = row_at(rows, f.r);
+    let p = row_in(rows, f.p);
+    let q = row_in(rows, f.q);
+    let r = row_in(rows, f.r);
     if are_units(q, p, r) {
         return slope_seen(rows, f);
     }
@@ -130,10 +130,10 @@ fn slope_seen(rows: &Rows, f: Face) -> Row
         × Units (rowIn (now rows) (f .q)) (rowIn (now rows) (f .p)) (rowIn (now rows) (f .r)) ⌝ }
     ensures { λ r. ⌜ r ≡ slopeFor (rowIn (now (rows .entry))) f ⌝ }
 {
-    let r = row_at(rows, f.r);
+    let r = row_in(rows, f.r);
     let o = shift_at(rows, f.r);
-    let u = less(row_at(rows, f.q), r);
-    let v = less(row_at(rows, f.p), r);
+    let u = less(row_in(rows, f.q), r);
+    let v = less(row_in(rows, f.p), r);
     added(
         seen(less(shift_at(rows, f.q), o), v, r),
         seen(u, less(shift_at(rows, f.p), o), r),

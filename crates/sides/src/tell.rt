@@ -8,13 +8,13 @@ ghost use Rattle.sides.specs.Ties.{turnedAt, AreDigits, IsTold, hasTies,
 use crate::planes::Planes;
 use crate::planes::dot;
 use crate::planes::plane_at;
-use crate::planes::row_at;
 use crate::words::bit;
 use face_masks::Mask;
 use face_masks::WORD;
 use scene::Corners;
 use scene::Row;
 use scene::Rows;
+use scene::decode::row_in;
 
 // Of so few faces that a word holds them: those that a point lies above, and those in whose planes it lies.
 pub struct Digits {
@@ -91,7 +91,7 @@ fn tell_word(
     requires ready { ⌜ ReadyAll (rowIn (now rows)) (faceIn (now corners)) (planeIn (now planes) base) t first count ⌝ }
     ensures { λ r. ⌜ AreDigits (rowIn (now (rows .entry))) (faceIn (now (corners .entry))) first count t r ⌝ }
 {
-    let r = row_at(rows, t);
+    let r = row_in(rows, t);
     if r.w == 1 {
         let unit = Row {
             x: r.x,

@@ -10,7 +10,6 @@ ghost use Rattle.sides.specs.Candidates.{AtEach};
 ghost use Rattle.sides.specs.Slopes.{Sloped};
 ghost use Rattle.sides.specs.Ties.{IsTold, Tied, settledOf};
 use crate::planes::Planes;
-use crate::planes::row_at;
 use crate::slopes::Slopes;
 use crate::slopes::tilt_at;
 use crate::tell::Told;
@@ -26,6 +25,7 @@ use scene::Corners;
 use scene::Row;
 use scene::Rows;
 use scene::decode::face_in;
+use scene::decode::row_in;
 
 // Of the `count` faces of a solid, numbered from first + 1 on, those that point t lies above.
 pub fn sides(
@@ -72,7 +72,7 @@ fn settled(
 {
     let l = m.low;
     let h = m.high;
-    let r = row_at(rows, t);
+    let r = row_in(rows, t);
     let s = shift_at(rows, t);
     let near = ties(rows, corners, planes, first, first, t, r, s, l.tied, slopes);
     let next = ties(

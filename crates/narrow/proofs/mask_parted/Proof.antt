@@ -62,23 +62,23 @@ narrowed-requires-2 c κs =
       omega (arith, p),
     )
 
-row-at-requires : tie.Need-row-at-requires
-row-at-requires c κs = c .before .before .before .before .before .before .before .before .pre .1 .0 .2
+row-in-requires : tie.Need-row-in-requires
+row-in-requires c κs = c .before .before .before .before .before .before .before .before .pre .1 .0 .2
 
-row-at-requires-2 : tie.Need-row-at-requires-2
-row-at-requires-2 c κs = c .before .before .before .before .before .before .before .before .before .pre .1 .0 .3
+row-in-requires-2 : tie.Need-row-in-requires-2
+row-in-requires-2 c κs = c .before .before .before .before .before .before .before .before .before .pre .1 .0 .3
 
 join-requires : tie.Need-join-requires
 join-requires c κs =
     let d = c .before .before in
     let p = d .before .before .before .before .before .before .before .before .pre in
-    rw (c .before .row-at .ensures, c .row-at2 .ensures) (join-formed (p .0 .0 _) (p .0 .0 _))
+    rw (c .before .row-in .ensures, c .row-in2 .ensures) (join-formed (p .0 .0 _) (p .0 .0 _))
 
 -- the edge's line
 line : (c : tie.After-join) → let d = c .before .before .before in
     let s = d .before .before .before .before .before .before .before .before in
     c .join .result ≡ joinOf (row s (s .args .u)) (row s (s .args .v))
-line c = c .join .ensures ∙ (λ i. joinOf (c .before .before .row-at .ensures i) (c .before .row-at2 .ensures i))
+line c = c .join .ensures ∙ (λ i. joinOf (c .before .before .row-in .ensures i) (c .before .row-in2 .ensures i))
 
 crossed-requires : tie.Need-crossed-requires
 crossed-requires c κs =
@@ -145,8 +145,8 @@ mask-parted-spec =
     mask-at-requires-2
     narrowed-requires
     narrowed-requires-2
-    row-at-requires
-    row-at-requires-2
+    row-in-requires
+    row-in-requires-2
     join-requires
     crossed-requires
     add-crossed

@@ -14,20 +14,20 @@ use Rattle.sides.proofs.between.Tie as tie
 abbrev row : tie.Start → ℕ → Row
 row s = rowIn (now (s .args .rows))
 
-row-at-requires : tie.Need-row-at-requires
-row-at-requires c κs = search needs
+row-in-requires : tie.Need-row-in-requires
+row-in-requires c κs = search needs
 
-row-at-requires-2 : tie.Need-row-at-requires-2
-row-at-requires-2 c κs = search needs
+row-in-requires-2 : tie.Need-row-in-requires-2
+row-in-requires-2 c κs = search needs
 
 join-requires : tie.Need-join-requires
 join-requires c κs =
     let p = c .before .before .pre in
-    rw (c .before .row-at .ensures, c .row-at2 .ensures) (join-formed (p .0 .0 _) (p .0 .0 _))
+    rw (c .before .row-in .ensures, c .row-in2 .ensures) (join-formed (p .0 .0 _) (p .0 .0 _))
 
 -- the edge's line
 line : (c : tie.After-join) → let s = c .before .before .before in c .join .result ≡ joinOf (row s (s .args .u)) (row s (s .args .v))
-line c = c .join .ensures ∙ (λ i. joinOf (c .before .before .row-at .ensures i) (c .before .row-at2 .ensures i))
+line c = c .join .ensures ∙ (λ i. joinOf (c .before .before .row-in .ensures i) (c .before .row-in2 .ensures i))
 
 crossed-requires : tie.Need-crossed-requires
 crossed-requires c κs =
@@ -82,8 +82,8 @@ pub between-spec : {M : Type 1} → statement M
 between-spec =
     tie.close
     (tie.spec
-    row-at-requires
-    row-at-requires-2
+    row-in-requires
+    row-in-requires-2
     join-requires
     crossed-requires
     add-crossed

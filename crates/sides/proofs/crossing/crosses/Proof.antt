@@ -15,32 +15,32 @@ use Rattle.sides.proofs.crossing.crosses.Tie as tie
 abbrev row : tie.Start → ℕ → Row
 row s = rowIn (now (s .args .rows))
 
-row-at-requires : tie.Need-row-at-requires
-row-at-requires c κs = search needs
+row-in-requires : tie.Need-row-in-requires
+row-in-requires c κs = search needs
 
-row-at-requires-2 : tie.Need-row-at-requires-2
-row-at-requires-2 c κs = search needs
+row-in-requires-2 : tie.Need-row-in-requires-2
+row-in-requires-2 c κs = search needs
 
-row-at-requires-3 : tie.Need-row-at-requires-3
-row-at-requires-3 c κs = search needs
+row-in-requires-3 : tie.Need-row-in-requires-3
+row-in-requires-3 c κs = search needs
 
 span-requires : tie.Need-span-requires
 span-requires c κs =
     let s = c .before .before .before in
     let p = s .pre in
-    span-asked (row s) (s .args .u) (s .args .v) (s .args .f .q) (p .1 .0) (c .before .row-at2 .ensures) (p .0 .0)
+    span-asked (row s) (s .args .u) (s .args .v) (s .args .f .q) (p .1 .0) (c .before .row-in2 .ensures) (p .0 .0)
 
 -- the plane of the edge and q
 at-q : (c : tie.After-span) → let s = c .before .before .before .before in c .span .result
     ≡ planeOf (row s (s .args .u)) (row s (s .args .v)) (row s (s .args .f .q))
 at-q c =
     let s = c .before .before .before .before in
-    spanned (row s) (s .args .u) (s .args .v) (s .args .f .q) (s .pre .1 .0) (c .before .before .row-at2 .ensures) (c .span .ensures)
+    spanned (row s) (s .args .u) (s .args .v) (s .args .f .q) (s .pre .1 .0) (c .before .before .row-in2 .ensures) (c .span .ensures)
 
 dot-requires : tie.Need-dot-requires
 dot-requires c κs =
     let s = c .before .before .before .before in
-    dot-asked (row s) (s .args .u) (s .args .v) (s .args .f .q) (s .args .f .p) (at-q c) (c .before .before .before .row-at .ensures)
+    dot-asked (row s) (s .args .u) (s .args .v) (s .args .f .q) (s .args .f .p) (at-q c) (c .before .before .before .row-in .ensures)
     (s .pre .0 .0)
 
 sign-by-requires : tie.Need-sign-by-requires
@@ -52,7 +52,7 @@ sign-by-requires c κs =
       (
         ask-qp (s .pre .1 .1),
         called (c .dot .ok)
-            (dot-term (row s) (a .u) (a .v) (a .f .q) (a .f .p) (at-q d) (d .before .before .before .row-at .ensures) (c .dot .ensures)),
+            (dot-term (row s) (a .u) (a .v) (a .f .q) (a .f .p) (at-q d) (d .before .before .before .row-in .ensures) (c .dot .ensures)),
       ),
     )
 
@@ -60,7 +60,7 @@ dot-requires-2 : tie.Need-dot-requires-2
 dot-requires-2 c κs =
     let d = c .before .before in
     let s = d .before .before .before .before in
-    dot-asked (row s) (s .args .u) (s .args .v) (s .args .f .q) (s .args .f .r) (at-q d) (d .before .row-at3 .ensures) (s .pre .0 .0)
+    dot-asked (row s) (s .args .u) (s .args .v) (s .args .f .q) (s .args .f .r) (at-q d) (d .before .row-in3 .ensures) (s .pre .0 .0)
 
 sign-by-requires-2 : tie.Need-sign-by-requires-2
 sign-by-requires-2 c κs =
@@ -70,7 +70,7 @@ sign-by-requires-2 c κs =
       search needs,
       (
         ask-qr (s .pre .1 .1),
-        called (c .dot2 .ok) (dot-term (row s) (a .u) (a .v) (a .f .q) (a .f .r) (at-q d) (d .before .row-at3 .ensures) (c .dot2 .ensures)),
+        called (c .dot2 .ok) (dot-term (row s) (a .u) (a .v) (a .f .q) (a .f .r) (at-q d) (d .before .row-in3 .ensures) (c .dot2 .ensures)),
       ),
     )
 
@@ -84,7 +84,7 @@ span-requires-2 c κs =
     let d = c .before .before .before .before .before in
     let s = d .before .before .before .before in
     let p = s .pre in
-    span-asked (row s) (s .args .u) (s .args .v) (s .args .f .p) (p .1 .0) (d .before .before .before .row-at .ensures) (p .0 .0)
+    span-asked (row s) (s .args .u) (s .args .v) (s .args .f .p) (p .1 .0) (d .before .before .before .row-in .ensures) (p .0 .0)
 
 -- the plane of the edge and p
 at-p : (c : tie.After-span2) → let s = c .before .before .before .before .before .before .before .before .before .before in
@@ -92,14 +92,14 @@ at-p : (c : tie.After-span2) → let s = c .before .before .before .before .befo
 at-p c =
     let d = c .before .before .before .before .before .before in
     let s = d .before .before .before .before in
-    spanned (row s) (s .args .u) (s .args .v) (s .args .f .p) (s .pre .1 .0) (d .before .before .before .row-at .ensures)
+    spanned (row s) (s .args .u) (s .args .v) (s .args .f .p) (s .pre .1 .0) (d .before .before .before .row-in .ensures)
     (c .span2 .ensures)
 
 dot-requires-3 : tie.Need-dot-requires-3
 dot-requires-3 c κs =
     let d = c .before .before .before .before .before .before in
     let s = d .before .before .before .before in
-    dot-asked (row s) (s .args .u) (s .args .v) (s .args .f .p) (s .args .f .r) (at-p c) (d .before .row-at3 .ensures) (s .pre .0 .0)
+    dot-asked (row s) (s .args .u) (s .args .v) (s .args .f .p) (s .args .f .r) (at-p c) (d .before .row-in3 .ensures) (s .pre .0 .0)
 
 sign-by-requires-3 : tie.Need-sign-by-requires-3
 sign-by-requires-3 c κs =
@@ -111,7 +111,7 @@ sign-by-requires-3 c κs =
       (
         ask-pr (s .pre .1 .1),
         called (c .dot3 .ok)
-            (dot-term (row s) (a .u) (a .v) (a .f .p) (a .f .r) (at-p d2) (d .before .row-at3 .ensures) (c .dot3 .ensures)),
+            (dot-term (row s) (a .u) (a .v) (a .f .p) (a .f .r) (at-p d2) (d .before .row-in3 .ensures) (c .dot3 .ensures)),
       ),
     )
 
@@ -125,9 +125,9 @@ pub crosses-spec : {M : Type 1} → statement M
 crosses-spec =
     tie.close
     (tie.spec
-    row-at-requires
-    row-at-requires-2
-    row-at-requires-3
+    row-in-requires
+    row-in-requires-2
+    row-in-requires-3
     span-requires
     dot-requires
     sign-by-requires

@@ -12,14 +12,14 @@ use Rattle.sides.specs.Units.{units-are}
 use Rattle.sides.proofs.planes.plane.Statement.{statement}
 use Rattle.sides.proofs.planes.plane.Tie as tie
 
-row-at-requires : tie.Need-row-at-requires
-row-at-requires c κs = search needs
+row-in-requires : tie.Need-row-in-requires
+row-in-requires c κs = search needs
 
-row-at-requires-2 : tie.Need-row-at-requires-2
-row-at-requires-2 c κs = search needs
+row-in-requires-2 : tie.Need-row-in-requires-2
+row-in-requires-2 c κs = search needs
 
-row-at-requires-3 : tie.Need-row-at-requires-3
-row-at-requires-3 c κs = search needs
+row-in-requires-3 : tie.Need-row-in-requires-3
+row-in-requires-3 c κs = search needs
 
 are-units-requires : tie.Need-are-units-requires
 are-units-requires c κs = search needs
@@ -34,9 +34,9 @@ plane-requires c κs =
     let d2 = d3 .before in
     let d1 = d2 .before in
     let s = d1 .before in (
-      within s _ (d2 .row-at2 .ensures),
-      within s _ (d1 .row-at .ensures),
-      within s _ (d3 .row-at3 .ensures),
+      within s _ (d2 .row-in2 .ensures),
+      within s _ (d1 .row-in .ensures),
+      within s _ (d3 .row-in3 .ensures),
       units-are _ _ _ (sym (e .are-units .ensures) ∙ c .if1 .taken),
     )
 
@@ -46,7 +46,7 @@ returns c =
     let d3 = c .before .before .before in
     let d2 = d3 .before in
     let d1 = d2 .before in
-    c .plane .ensures ∙ (λ i. planeOf (d2 .row-at2 .ensures i) (d1 .row-at .ensures i) (d3 .row-at3 .ensures i))
+    c .plane .ensures ∙ (λ i. planeOf (d2 .row-in2 .ensures i) (d1 .row-in .ensures i) (d3 .row-in3 .ensures i))
 
 through-requires : tie.Need-through-requires
 through-requires c κs =
@@ -54,7 +54,7 @@ through-requires c κs =
     let d2 = d3 .before in
     let d1 = d2 .before in
     let pre = d1 .before .pre in
-    rw (d3 .row-at3 .ensures, d1 .row-at .ensures, d2 .row-at2 .ensures) (plane-formed (pre .0 _) (pre .0 _) (pre .0 _))
+    rw (d3 .row-in3 .ensures, d1 .row-in .ensures, d2 .row-in2 .ensures) (plane-formed (pre .0 _) (pre .0 _) (pre .0 _))
 
 returns-2 : tie.Need-returns-2
 unfolding planeFor
@@ -62,15 +62,15 @@ returns-2 c =
     let d3 = c .before .before .before in
     let d2 = d3 .before in
     let d1 = d2 .before in
-    c .through .ensures ∙ (λ i. planeOf (d2 .row-at2 .ensures i) (d1 .row-at .ensures i) (d3 .row-at3 .ensures i))
+    c .through .ensures ∙ (λ i. planeOf (d2 .row-in2 .ensures i) (d1 .row-in .ensures i) (d3 .row-in3 .ensures i))
 
 pub plane-spec : {M : Type 1} → statement M
 plane-spec =
     tie.close
     (tie.spec
-    row-at-requires
-    row-at-requires-2
-    row-at-requires-3
+    row-in-requires
+    row-in-requires-2
+    row-in-requires-3
     are-units-requires
     plane-requires
     returns

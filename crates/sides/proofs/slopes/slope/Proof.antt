@@ -10,14 +10,14 @@ use Rattle.sides.specs.Units.{units-are}
 use Rattle.sides.proofs.slopes.slope.Statement.{statement}
 use Rattle.sides.proofs.slopes.slope.Tie as tie
 
-row-at-requires : tie.Need-row-at-requires
-row-at-requires c κs = search needs
+row-in-requires : tie.Need-row-in-requires
+row-in-requires c κs = search needs
 
-row-at-requires-2 : tie.Need-row-at-requires-2
-row-at-requires-2 c κs = search needs
+row-in-requires-2 : tie.Need-row-in-requires-2
+row-in-requires-2 c κs = search needs
 
-row-at-requires-3 : tie.Need-row-at-requires-3
-row-at-requires-3 c κs = search needs
+row-in-requires-3 : tie.Need-row-in-requires-3
+row-in-requires-3 c κs = search needs
 
 are-units-requires : tie.Need-are-units-requires
 are-units-requires c κs = search needs
@@ -31,7 +31,7 @@ slope-seen-requires c κs =
     let s = r1 .before in (
       s .pre .0,
       s .pre .1,
-      rw (sym (r2 .row-at2 .ensures), sym (r1 .row-at .ensures), sym (r3 .row-at3 .ensures))
+      rw (sym (r2 .row-in2 .ensures), sym (r1 .row-in .ensures), sym (r3 .row-in3 .ensures))
           (units-are _ _ _ (sym (e .are-units .ensures) ∙ c .if1 .taken)),
     )
 
@@ -48,7 +48,7 @@ through-requires c κs =
     let s = r1 .before in
     let f = s .args .f in
     let h = s .pre .1 in
-    rw (c .shift-at .ensures, r1 .row-at .ensures, r3 .row-at3 .ensures)
+    rw (c .shift-at .ensures, r1 .row-in .ensures, r3 .row-in3 .ensures)
     (first-formed (rowIn (now (s .args .rows))) (f .q) (f .p) (f .r) (s .pre .0) (h .q) (h .p) (h .r))
 
 shift-at-requires-2 : tie.Need-shift-at-requires-2
@@ -61,7 +61,7 @@ through-requires-2 c κs =
     let s = r2 .before .before in
     let f = s .args .f in
     let h = s .pre .1 in
-    rw (c .shift-at2 .ensures, r2 .row-at2 .ensures, r3 .row-at3 .ensures)
+    rw (c .shift-at2 .ensures, r2 .row-in2 .ensures, r3 .row-in3 .ensures)
     (second-formed (rowIn (now (s .args .rows))) (f .q) (f .p) (f .r) (s .pre .0) (h .q) (h .p) (h .r))
 
 shift-at-requires-3 : tie.Need-shift-at-requires-3
@@ -76,7 +76,7 @@ through-requires-3 c κs =
     let s = r1 .before in
     let f = s .args .f in
     let h = s .pre .1 in
-    rw (c .shift-at3 .ensures, r2 .row-at2 .ensures, r1 .row-at .ensures)
+    rw (c .shift-at3 .ensures, r2 .row-in2 .ensures, r1 .row-in .ensures)
     (third-formed (rowIn (now (s .args .rows))) (f .q) (f .p) (f .r) (s .pre .0) (h .q) (h .p) (h .r))
 
 added-requires : tie.Need-added-requires
@@ -99,9 +99,9 @@ added-requires c κs =
       s1 .shift-at .ensures,
       s2 .shift-at2 .ensures,
       s3 .shift-at3 .ensures,
-      r1 .row-at .ensures,
-      r2 .row-at2 .ensures,
-      r3 .row-at3 .ensures,
+      r1 .row-in .ensures,
+      r2 .row-in2 .ensures,
+      r3 .row-in3 .ensures,
     )
     (slope-formed (rowIn (now (s .args .rows))) (f .q) (f .p) (f .r) (s .pre .0) (h .q) (h .p) (h .r))
 
@@ -117,9 +117,9 @@ returns-2 c =
     let r3 = s1 .before .before .before in
     let r2 = r3 .before in
     let r1 = r2 .before in
-    let p = r1 .row-at .ensures in
-    let q = r2 .row-at2 .ensures in
-    let r = r3 .row-at3 .ensures in
+    let p = r1 .row-in .ensures in
+    let q = r2 .row-in2 .ensures in
+    let r = r3 .row-in3 .ensures in
     c .added .ensures
     ∙ (λ i.
     sumOf ((t1 .through .ensures ∙ (λ j. planeOf (s1 .shift-at .ensures j) (p j) (r j))) i)
@@ -130,9 +130,9 @@ pub slope-spec : {M : Type 1} → statement M
 slope-spec =
     tie.close
     (tie.spec
-    row-at-requires
-    row-at-requires-2
-    row-at-requires-3
+    row-in-requires
+    row-in-requires-2
+    row-in-requires-3
     are-units-requires
     slope-seen-requires
     returns

@@ -34,17 +34,17 @@ du s = lessOf (shiftAt (row s) (s .args .f .q)) (shiftAt (row s) (s .args .f .r)
 abbrev dv : (s : tie.Start) → Row
 dv s = lessOf (shiftAt (row s) (s .args .f .p)) (shiftAt (row s) (s .args .f .r))
 
-r-is : (c : tie.After-less) → let s = start c in c .before .before .before .row-at .result ≡ row s (s .args .f .r)
-r-is c = c .before .before .before .row-at .ensures
+r-is : (c : tie.After-less) → let s = start c in c .before .before .before .row-in .result ≡ row s (s .args .f .r)
+r-is c = c .before .before .before .row-in .ensures
 
 o-is : (c : tie.After-less) → let s = start c in c .before .before .shift-at .result ≡ shiftAt (row s) (s .args .f .r)
 o-is c = c .before .before .shift-at .ensures
 
 u-is : (c : tie.After-less) → c .less .result ≡ u (start c)
-u-is c = c .less .ensures ∙ (λ i. lessOf (c .before .row-at2 .ensures i) (r-is c i))
+u-is c = c .less .ensures ∙ (λ i. lessOf (c .before .row-in2 .ensures i) (r-is c i))
 
 v-is : (c : tie.After-less2) → c .less2 .result ≡ v (start (c .before .before))
-v-is c = c .less2 .ensures ∙ (λ i. lessOf (c .before .row-at3 .ensures i) (r-is (c .before .before) i))
+v-is c = c .less2 .ensures ∙ (λ i. lessOf (c .before .row-in3 .ensures i) (r-is (c .before .before) i))
 
 du-is : (c : tie.After-less3) → c .less3 .result ≡ du (start (c .before .before .before .before))
 du-is c = c .less3 .ensures ∙ (λ i. lessOf (c .before .shift-at2 .ensures i) (o-is (c .before .before .before .before) i))
@@ -55,28 +55,28 @@ dv-is c =
 
 -- ---- what each step asks for
 
-row-at-requires : tie.Need-row-at-requires
-row-at-requires c κs = search needs
+row-in-requires : tie.Need-row-in-requires
+row-in-requires c κs = search needs
 
 shift-at-requires : tie.Need-shift-at-requires
 shift-at-requires c κs = search needs
 
-row-at-requires-2 : tie.Need-row-at-requires-2
-row-at-requires-2 c κs = search needs
+row-in-requires-2 : tie.Need-row-in-requires-2
+row-in-requires-2 c κs = search needs
 
 less-requires : tie.Need-less-requires
 less-requires c κs =
     let d = c .before .before in
     let p = d .before .pre .0 in
-    rw (c .row-at2 .ensures, d .row-at .ensures) (unit-less (p _) (p _))
+    rw (c .row-in2 .ensures, d .row-in .ensures) (unit-less (p _) (p _))
 
-row-at-requires-3 : tie.Need-row-at-requires-3
-row-at-requires-3 c κs = search needs
+row-in-requires-3 : tie.Need-row-in-requires-3
+row-in-requires-3 c κs = search needs
 
 less-requires-2 : tie.Need-less-requires-2
 less-requires-2 c κs =
     let p = start (c .before) .pre .0 in
-    rw (c .row-at3 .ensures, r-is (c .before)) (unit-less (p _) (p _))
+    rw (c .row-in3 .ensures, r-is (c .before)) (unit-less (p _) (p _))
 
 shift-at-requires-2 : tie.Need-shift-at-requires-2
 shift-at-requires-2 c κs = search needs
@@ -172,11 +172,11 @@ pub slope-seen-spec : {M : Type 1} → statement M
 slope-seen-spec =
     tie.close
     (tie.spec
-    row-at-requires
+    row-in-requires
     shift-at-requires
-    row-at-requires-2
+    row-in-requires-2
     less-requires
-    row-at-requires-3
+    row-in-requires-3
     less-requires-2
     shift-at-requires-2
     less-requires-3

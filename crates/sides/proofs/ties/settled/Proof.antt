@@ -21,8 +21,8 @@ face s = faceIn (now (s .args .corners))
 abbrev start : tie.After-ties → tie.Start
 start e = e .before .before .before .before .before .before
 
-row-at-requires : tie.Need-row-at-requires
-row-at-requires c κs = search needs
+row-in-requires : tie.Need-row-in-requires
+row-in-requires c κs = search needs
 
 shift-at-requires : tie.Need-shift-at-requires
 shift-at-requires c κs = search needs
@@ -37,7 +37,7 @@ ties-requires c κs =
     let a = s .args in (
       (p .0 .0, p .0 .1, omega arith, omega arith),
       (
-        (p .0 .2, r .row-at .ensures, d .shift-at .ensures),
+        (p .0 .2, r .row-in .ensures, d .shift-at .ensures),
         (
           low-tied (row s) (face s) (a .first) (a .count) (a .t) (f .1) (p .1 .1 .0) (planeIn (now (a .planes)) (a .first)) (f .0) (f .2),
           p .1 .1 .1,
@@ -59,7 +59,7 @@ ties-requires-2 c κs =
     let a = s .args in (
       (p .0 .0, p .0 .1, omega arith, omega arith),
       (
-        (p .0 .2, r .row-at .ensures, d .shift-at .ensures),
+        (p .0 .2, r .row-in .ensures, d .shift-at .ensures),
         (
           high-tied (row s) (face s) (a .first) (a .count) (a .t) (f .1) (p .1 .1 .0) (planeIn (now (a .planes)) (a .first)) (f .0) (f .2),
           e .ties .ensures .1,
@@ -103,4 +103,4 @@ returns c =
     )
 
 pub settled-spec : {M : Type 1} → statement M
-settled-spec = tie.close (tie.spec row-at-requires shift-at-requires ties-requires add-ties ties-requires-2 add-t18 add-t19 returns)
+settled-spec = tie.close (tie.spec row-in-requires shift-at-requires ties-requires add-ties ties-requires-2 add-t18 add-t19 returns)
