@@ -1,7 +1,7 @@
 -- A question's rules: the scene's come first, so that the turn of a refusal tells which of them gave it; and what the tests of each
 -- question decide. Assumes nothing.
 use mathlib.Core.Path.{_≡_, refl, sym, ap}
-use mathlib.Core.Logic.{_⊎_, ⊎-elim, _↔_, Iff·rfl, Iff·symm, Iff·trans, Iff·and}
+use mathlib.Core.Logic.{⊎-elim, _↔_, Iff·rfl, Iff·symm, Iff·trans, Iff·and}
 use mathlib.Core.Bool.{Bool, true, false}
 use mathlib.Core.List.{List}
 use Prim.Native.Nat.{ℕ, suc, _≤_, _<_}

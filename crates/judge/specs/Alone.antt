@@ -10,7 +10,6 @@ use borrow.Author.Tests.{eqb-true, ne-eqb}
 use lib.Bits.{bitOr}
 use lib.Dec.{eqb}
 use lib.ListN.{getD}
-use Rattle.laws.specs.Bools.{law, all, _≐_}
 use Rattle.laws.specs.Mask.{maskOf, or-masks, place-mask, mask-test}
 use Rattle.laws.specs.Range.{countOf}
 use Rattle.scene.specs.Records.{vertsA, vertsB, facesA, facesB, faces}

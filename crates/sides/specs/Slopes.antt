@@ -23,7 +23,7 @@ use Rattle.scene.specs.Decode.{rowSet, row-keeps, row-same, row-other, rows-dec
 use Rattle.scene.specs.Tables.{noRow}
 use Rattle.scene.specs.declared.Row.{Row}
 use Rattle.scene.specs.declared.Face.{Face}
-use Rattle.orient.specs.Bits.{read, tie-turned}
+use Rattle.orient.specs.Bits.{tie-turned}
 use Rattle.orient.specs.Determinant.{Entries}
 use Rattle.orient.specs.Laws.{terms12}
 use Rattle.orient.specs.Minors.{cross-of}

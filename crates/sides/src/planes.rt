@@ -1,7 +1,7 @@
 // The planes of a solid's faces: each face's four minors, made once, give the determinant of its corners and a point by four products.
 ghost use mathlib.Core.Path.{_≡_};
 ghost use Prim.Native.Nat.{_+_, _*_, _≤_};
-ghost use Rattle.scene.specs.Limits.{limits, mostPoints};
+ghost use Rattle.scene.specs.Limits.{limits};
 ghost use Rattle.scene.specs.Arrays.{rowIn, faceIn, AllWithin, FaceWithin, FacesWithin};
 ghost use Rattle.scene.specs.Decode.{rowSet};
 ghost use Rattle.orient.specs.Formed.{mostFormed};

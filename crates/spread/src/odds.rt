@@ -1,6 +1,6 @@
 // A word for each vertex of a solid: the neighbours to which an edge of an odd mask leads.
 ghost use mathlib.Core.Path.{_≡_};
-ghost use Prim.Native.Nat.{ℕ, _+_, _-_, _≤_, _<_};
+ghost use Prim.Native.Nat.{ℕ, _+_, _≤_, _<_};
 ghost use lib.ListN.{length};
 ghost use Rattle.links.specs.Links.{words};
 ghost use Rattle.table.specs.Table.{mostEdges, entryIn, entriesIn};

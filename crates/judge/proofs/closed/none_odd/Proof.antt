@@ -1,6 +1,5 @@
 -- The words of A's vertices, then of B's.
 use mathlib.Core.Bool.{false≢true}
-use denote.Ref.{now}
 use Rattle.judge.specs.Alone.{none-odd}
 use borrow.Author.Tests.{not-false}
 use borrow.Author.Needs.{needs}

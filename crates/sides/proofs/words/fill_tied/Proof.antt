@@ -1,5 +1,4 @@
 -- A new table of slopes is blank.
-use borrow.Author.Needs.{needs}
 use mathlib.Core.Path.{_≡_}
 use native.Mathlib.Omega.{arith}
 use Rattle.laws.specs.Filled.{filled}
