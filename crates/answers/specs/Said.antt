@@ -1,5 +1,5 @@
--- The lines of answers that `lines` does not have: a mask by its number, a record with its refusal, the counts above a listing, clean or not.
--- Assumes nothing.
+-- The lines of answers that `lines` does not have: a mask by its number, a record with its refusal, the counts above a listing, whether a
+-- scene is clean. Assumes nothing.
 use Prim.Native.Nat.{ℕ, _/_, _%_, _^_}
 use mathlib.Core.List.{List, [], _∷_}
 use Rattle.judge.specs.declared.Judged.{Judged}

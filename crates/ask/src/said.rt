@@ -48,7 +48,7 @@ pub fn usage() {
     );
     cli::say(
         b"ask",
-        b"the questions: judge, why, verdict, counts, listing [PLACES], enclosed V, pierces U V F, mask U V S, sign A B C D, record K, clean",
+        b"questions: judge, why, verdict, counts, listing [PLACES], enclosed V, pierces U V F, mask U V S, sign A B C D, record K, clean",
     );
 }
 
