@@ -27,26 +27,18 @@ fn usage() {
     cli::say(b"merge", b"usage: merge [--reports N] [FILE...]");
 }
 
-// A line about word i of the command line.
-fn word(i: usize, what: &[u8]) {
-    let mut name = io::buffer();
-    let n = os::arg(i, &mut name);
-    wrong(&name[..n], what);
-    say(b"\n");
-}
-
 pub fn no_number() {
     cli::say(b"merge", b"--reports: no number stands behind it");
     usage();
 }
 
 pub fn no_file(i: usize) {
-    word(i, b"an option where a file must stand");
+    cli::say_word(b"merge", b"", i, b": an option where a file must stand");
     usage();
 }
 
 pub fn twice(i: usize) {
-    word(i, b"named twice");
+    cli::say_word(b"merge", b"", i, b": named twice");
 }
 
 fn wrong(name: &[u8], why: &[u8]) {
