@@ -5,26 +5,23 @@ use native.Mathlib.Omega.{arith}
 use lib.ListN.{length, length-take, length-drop}
 use borrow.Author.Needs.{needs}
 use Rattle.totals.specs.Branches.{fed-within}
-use Rattle.merge.proofs.merge_reports.Statement.{statement}
-use Rattle.merge.proofs.merge_reports.Tie as tie
+use Rattle.merge.proofs.read_text.Statement.{statement}
+use Rattle.merge.proofs.read_text.Tie as tie
 
 abbrev Inv-loop : tie.InvT-loop
-Inv-loop piece₀ r₀ bytes₀ left₀ piece r bytes left = (length piece ≡ 65536) × (bytes + 65536 * left ≤ 65536 * 140737488355328)
+Inv-loop file piece₀ readable₀ r₀ bytes₀ left₀ piece readable r bytes left = (length piece ≡ 65536) × (bytes + 65536 * left ≤ 65536 * 140737488355328)
 
 abbrev μ-loop : tie.MeasureT-loop
-μ-loop piece₀ r₀ bytes₀ left₀ piece r bytes left = left
-
-nothing-requires : tie.Need-nothing-requires Inv-loop μ-loop
-nothing-requires c κs = search needs
+μ-loop file piece₀ readable₀ r₀ bytes₀ left₀ piece readable r bytes left = left
 
 loop-holds : tie.Need-loop-holds Inv-loop μ-loop
 loop-holds c = search needs
 
-slice-aggregate-read-full : tie.Need-slice-aggregate-read-full Inv-loop μ-loop
-slice-aggregate-read-full c = search needs
+slice-aggregate-read : tie.Need-slice-aggregate-read Inv-loop μ-loop
+slice-aggregate-read c = search needs
 
-read-full-requires : tie.Need-read-full-requires Inv-loop μ-loop
-read-full-requires c κs = search needs
+read-requires : tie.Need-read-requires Inv-loop μ-loop
+read-requires c κs = search needs
 
 sub-read : tie.Need-sub-read Inv-loop μ-loop
 sub-read c = search needs
@@ -35,11 +32,11 @@ part-read-start c = search needs
 part-read-end : tie.Need-part-read-end Inv-loop μ-loop
 part-read-end c = search needs
 
-read-requires : tie.Need-read-requires Inv-loop μ-loop
-read-requires c κs = search needs
+read-requires-2 : tie.Need-read-requires-2 Inv-loop μ-loop
+read-requires-2 c κs = search needs
 
 add-bytes : tie.Need-add-bytes Inv-loop μ-loop
-add-bytes c = let w = fed-within _ _ _ (c .before .before .read .ensures) in omega (arith, simp (length-take, length-drop) at w)
+add-bytes c = let w = fed-within _ _ _ (c .before .before .read2 .ensures) in omega (arith, simp (length-take, length-drop) at w)
 
 sub-left : tie.Need-sub-left Inv-loop μ-loop
 sub-left c = search needs
@@ -49,32 +46,31 @@ loop-less c = search needs
 
 loop-again : tie.Need-loop-again Inv-loop μ-loop
 loop-again c =
-    let w = fed-within _ _ _ (c .before .before .before .before .read .ensures) in
+    let w = fed-within _ _ _ (c .before .before .before .before .read2 .ensures) in
     (search needs, omega (arith, simp (length-take, length-drop) at w))
-
-answer-requires : tie.Need-answer-requires Inv-loop μ-loop
-answer-requires c κs = search needs
 
 returns : tie.Need-returns Inv-loop μ-loop
 returns c = search needs
 
-pub merge-reports-spec : {M : Type 1} → statement M
-merge-reports-spec =
+returns-2 : tie.Need-returns-2 Inv-loop μ-loop
+returns-2 c = search needs
+
+pub read-text-spec : {M : Type 1} → statement M
+read-text-spec =
     tie.close
     (tie.spec
     Inv-loop
     μ-loop
-    nothing-requires
     loop-holds
-    slice-aggregate-read-full
-    read-full-requires
+    slice-aggregate-read
+    read-requires
     sub-read
     part-read-start
     part-read-end
-    read-requires
+    read-requires-2
     add-bytes
     sub-left
     loop-less
     loop-again
-    answer-requires
-    returns)
+    returns
+    returns-2)
