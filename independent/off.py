@@ -214,8 +214,9 @@ def printed_by(program, words, data=b""):
 
 
 def pair_differs(program, names, texts, far):
-    """Whether a program writes otherwise of a pair of texts, or of the solids of their scene."""
-    expected, found = answer(*texts, far), printed_by(program, names + [str(n) for n in far])
+    """Whether a program writes otherwise of a pair of texts, one of which may be standard input, or of the solids of their scene."""
+    given = b"".join(text for name, text in zip(names, texts) if name == "-")
+    expected, found = answer(*texts, far), printed_by(program, names + [str(n) for n in far], given)
     asked = [(expected, found)]
     if expected[0]:
         for k, text in zip("12", texts):
@@ -239,7 +240,7 @@ def compare(program, seed, count):
             for name, text in zip(names, texts):
                 with open(name, "wb") as file:
                     file.write(text)
-            if pair_differs(program, names, texts, far):
+            if pair_differs(program, rng.choice([names, ["-", names[1]], [names[0], "-"]]), texts, far):
                 return 1
             made += not answer(*texts, far)[1]
     print(f"{count} pairs of texts alike, {made} of them scenes whose solids are written alike")

@@ -1,8 +1,8 @@
 -- Each operation passes at least one word, and no more than six.
 use Prim.Native.Nat.{_+_, _-_, _≤_}
 use borrow.Author.Needs.{needs}
-use Rattle.edit.proofs.wrong_word.Statement.{statement}
-use Rattle.edit.proofs.wrong_word.Tie as tie
+use Rattle.edit.proofs.words_of.Statement.{statement}
+use Rattle.edit.proofs.words_of.Tie as tie
 
 abbrev Inv-loop : tie.InvT-loop
 Inv-loop count i₀ i = i ≤ count + 5
@@ -34,14 +34,17 @@ loop-again c = search needs
 enum-known-a-2 : tie.Need-enum-known-a-2 Inv-loop μ-loop
 enum-known-a-2 c = search needs
 
+words-at-requires : tie.Need-words-at-requires Inv-loop μ-loop
+words-at-requires c κs = search needs
+
 returns : tie.Need-returns Inv-loop μ-loop
 returns c = search needs
 
 returns-2 : tie.Need-returns-2 Inv-loop μ-loop
 returns-2 c = search needs
 
-pub wrong-word-spec : {M : Type 1} → statement M
-wrong-word-spec =
+pub words-of-spec : {M : Type 1} → statement M
+words-of-spec =
     tie.close
     (tie.spec
     Inv-loop
@@ -54,5 +57,6 @@ wrong-word-spec =
     loop-less
     loop-again
     enum-known-a-2
+    words-at-requires
     returns
     returns-2)

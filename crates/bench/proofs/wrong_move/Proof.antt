@@ -1,17 +1,14 @@
 -- Word after word.
 use Prim.Native.Nat.{_-_, _≤_}
 use borrow.Author.Needs.{needs}
-use Rattle.bench.proofs.wrong_word.Statement.{statement}
-use Rattle.bench.proofs.wrong_word.Tie as tie
+use Rattle.bench.proofs.wrong_move.Statement.{statement}
+use Rattle.bench.proofs.wrong_move.Tie as tie
 
 abbrev Inv-loop : tie.InvT-loop
 Inv-loop count i₀ i = i ≤ count
 
 abbrev μ-loop : tie.MeasureT-loop
 μ-loop count i₀ i = count - i
-
-returns : tie.Need-returns Inv-loop μ-loop
-returns c = search needs
 
 loop-holds : tie.Need-loop-holds Inv-loop μ-loop
 loop-holds c = search needs
@@ -22,8 +19,8 @@ is-name-requires c κs = search needs
 is-number-requires : tie.Need-is-number-requires Inv-loop μ-loop
 is-number-requires c κs = search needs
 
-returns-2 : tie.Need-returns-2 Inv-loop μ-loop
-returns-2 c = search needs
+returns : tie.Need-returns Inv-loop μ-loop
+returns c = search needs
 
 add-i : tie.Need-add-i Inv-loop μ-loop
 add-i c = search needs
@@ -34,25 +31,24 @@ loop-less c = search needs
 loop-again : tie.Need-loop-again Inv-loop μ-loop
 loop-again c = search needs
 
+returns-2 : tie.Need-returns-2 Inv-loop μ-loop
+returns-2 c = search needs
+
 returns-3 : tie.Need-returns-3 Inv-loop μ-loop
 returns-3 c = search needs
 
-returns-4 : tie.Need-returns-4 Inv-loop μ-loop
-returns-4 c = search needs
-
-pub wrong-word-spec : {M : Type 1} → statement M
-wrong-word-spec =
+pub wrong-move-spec : {M : Type 1} → statement M
+wrong-move-spec =
     tie.close
     (tie.spec
     Inv-loop
     μ-loop
-    returns
     loop-holds
     is-name-requires
     is-number-requires
-    returns-2
+    returns
     add-i
     loop-less
     loop-again
-    returns-3
-    returns-4)
+    returns-2
+    returns-3)
