@@ -9,6 +9,19 @@
 
 A name of `-` is standard input or output. What is wrong is said on standard error with the file and the line; the exit status is
 then 2, and no file is changed.
+
+One line of a text is one of these; `#` opens a comment, and the text's first comment says what the
+scene shows:
+
+    solid A              the lines that follow belong to A (or B)
+    v X Y Z [W]          a vertex; the weight is 1 where it is left out
+    f I J K              a face: three vertex numbers within the solid, from 1
+    far X Y Z [W]        the far point
+    like NAME            the bytes of the text NAME.txt in the same folder, to be damaged by the lines below
+    record K MARK N ...  writes record K anew
+    set OFFSET BYTE ...  writes bytes over those that stand there, whatever they mean
+    append BYTE ...      adds bytes at the end
+    cut N                takes the last N bytes away
 """
 
 import signal
@@ -21,11 +34,6 @@ from making.files import Wrong, contents_of, refuse_same, say, write_to
 HERE = Path(__file__).resolve().parent
 INDEPENDENT = HERE.parent / "independent"
 TABLE_HEAD = "| name | what it shows | the report begins |\n|---|---|---|\n"
-
-
-def usage():
-    """This file's head, and the form of a text from the head of the file about it."""
-    return f"{__doc__}\n{texts.__doc__.split(chr(10), 2)[2]}"
 
 
 def what_it_shows(name):
@@ -110,18 +118,24 @@ def main(words):
     if command and least <= len(words) - 1 <= most:
         return command(*words[1:])
     if words in (["-h"], ["--help"]):
-        write_to("-", usage().encode())
+        write_to("-", __doc__.encode())
         return 0
-    say(usage().rstrip())
+    say(__doc__.rstrip())
     return 2
+
+
+def run(words):
+    """The exit status; what is wrong is said."""
+    try:
+        return main(words)
+    except Wrong as wrong:
+        say(f"make.py: {wrong}")
+        return 2
 
 
 if __name__ == "__main__":
     signal.signal(signal.SIGPIPE, signal.SIG_DFL)
     try:
-        sys.exit(main(sys.argv[1:]))
-    except Wrong as wrong:
-        say(f"make.py: {wrong}")
-        sys.exit(2)
+        sys.exit(run(sys.argv[1:]))
     except KeyboardInterrupt:
         sys.exit(130)

@@ -5,7 +5,7 @@ Nothing is guessed in silence: each change is a note.
 
 from collections import Counter
 from fractions import Fraction
-from itertools import combinations
+from itertools import combinations, islice
 from math import lcm
 
 from making import polygons
@@ -88,10 +88,11 @@ class Cutting:
 
     def note(self, notes):
         if self.polygons:
-            made = sum(len(corners) - 2 for corners in self.polygons)
-            notes.append(f"faces of more than three corners: {len(self.polygons)}, cut into {made} triangles (not convex: {self.not_convex})")
+            many, made = len(self.polygons), sum(len(corners) - 2 for corners in self.polygons)
+            notes.append(f"faces of more than three corners: {many}, cut into {made} triangles; not convex: {self.not_convex}")
         if self.through_infinity:
-            notes.append(f"faces with weights of both signs or 0: {self.through_infinity}, cut from the first corner; another cut may be meant")
+            count = self.through_infinity
+            notes.append(f"faces of weights of both signs or 0: {count}, cut from the first corner, where another cut may be meant")
 
 
 def cut_into_triangles(path, rows, faces, notes):
@@ -172,21 +173,16 @@ def rounded(rows, scale, notes):
 # ---- what the solid is like -----------------------------------------------------------------
 
 
-def determinant(rows):
-    """By the first row."""
-    if len(rows) == 1:
-        return rows[0][0]
-    minors = ([row[:k] + row[k + 1:] for row in rows[1:]] for k in range(len(rows)))
-    return sum((-1) ** k * rows[0][k] * determinant(minor) for k, minor in enumerate(minors) if rows[0][k])
-
-
-def has_no_area(rows):
-    return not any(determinant([row[:k] + row[k + 1:] for row in rows]) for k in range(4))
+def plane(rows):
+    """The four numbers of the plane through three points, all 0 where they are on one line."""
+    parts = ([row[:k] + row[k + 1:] for row in rows] for k in range(4))
+    return [(-1) ** k * polygons.dot(p, polygons.cross(q, r)) for k, (p, q, r) in enumerate(parts)]
 
 
 def is_flat(rows):
-    """Whether all corners lie in one plane: each with each three neighbours."""
-    return not any(determinant([rows[k - 2], rows[k - 1], rows[k], row]) for k in range(len(rows)) for row in rows)
+    """Whether all corners lie in the plane of the first three that have one."""
+    planes = (found for three in combinations(rows, 3) if any(found := plane(three)))
+    return not any(polygons.dot(found, row) for found in islice(planes, 1) for row in rows)
 
 
 def places(rows):
@@ -199,7 +195,7 @@ def note_rounding(before, rows, triangles, cut, notes):
     together = places(before) - places(rows)
     if together:
         notes.append(f"vertices that rounding has put where another one stands: {together}; a greater scale may keep them apart")
-    without = sum(has_no_area([rows[corner] for corner in triangle]) for triangle in triangles)
+    without = sum(not any(plane([rows[corner] for corner in triangle])) for triangle in triangles)
     if without:
         notes.append(f"triangles of no area: {without}, kept, since the solid would be open without them")
     bent = sum(not is_flat([rows[corner] for corner in corners]) for corners in cut)

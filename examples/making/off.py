@@ -6,6 +6,7 @@ in a texture, which is left out; the keyword tells how much of that a vertex has
 
 import re
 from fractions import Fraction
+from itertools import product
 
 from making.files import Wrong, at, contents_of, looks_like_scene, shown, without_mark
 
@@ -116,20 +117,24 @@ class Drawing:
 
     def read_vertices(self, count):
         """The rows.  Behind a vertex the keyword's numbers must stand on its line; a colour has three or four."""
-        places = [name for name, key in (("normals", "normal"), ("colours", "colour"), ("places in a texture", "texture")) if self.keyword[key]]
-        colours = (3, 4) if self.keyword["colour"] else (0,)
-        behind = [3 * bool(self.keyword["normal"]) + colour + 2 * bool(self.keyword["texture"]) for colour in colours]
-        if places:
-            self.notes.append(f"left out: the vertices' {', '.join(places)}")
+        behind = self.numbers_behind_vertices()
         rows = []
         for k in range(count):
             row = [self.items.number(f"a coordinate of vertex {k}") for _ in range(4 if self.keyword["weight"] else 3)]
             rows.append(tuple((row + [Fraction(1)])[:4]))
-            more = self.items.rest_of_line("a number") if places else 0
-            if places and more not in behind:
+            more = self.items.rest_of_line("a number") if behind else 0
+            if behind and more not in behind:
                 wanted = " or ".join(map(str, behind))
                 self.items.wrong(f"{more} numbers stand behind the coordinates of vertex {k}, and {self.keyword[0]} has {wanted} there")
         return rows
+
+    def numbers_behind_vertices(self):
+        """How many numbers may stand there; nothing where the keyword speaks of none."""
+        counts = {"normal": (3,), "colour": (3, 4), "texture": (2,)}
+        there = [key for key in counts if self.keyword[key]]
+        if there:
+            self.notes.append(f"left out: the vertices' {', '.join(there)}")
+        return sorted(map(sum, product(*(counts[key] for key in there)))) if there else []
 
     def read_faces(self, count):
         """The corners.  Where nothing but triangles is left they may stand on any lines, else what follows one on its line is a colour."""

@@ -16,12 +16,19 @@ def turn(p, q, r):
     return (q[0] - p[0]) * (r[1] - p[1]) - (q[1] - p[1]) * (r[0] - p[0])
 
 
+def dot(p, q):
+    return sum(a * b for a, b in zip(p, q))
+
+
 def seen(points):
-    """The corners as seen along the axis nearest to the polygon's normal, from the side from which they go round to the left."""
+    """The corners as seen along the polygon's normal, whether it is flat or not, from the side from which they go round to the left:
+    moved along the normal into one plane, all times the same number, without the coordinate in which the normal is longest."""
     normal = [sum(parts) for parts in zip(*(cross(p, q) for p, q in zip(points, points[1:] + points[:1])))]
+    square = dot(normal, normal)
+    moved = [tuple(square * a - dot(p, normal) * n for a, n in zip(p, normal)) for p in points]
     axis = max(range(3), key=lambda k: abs(normal[k]))
     first, second = (axis + 1) % 3, (axis + 2) % 3
-    return [(p[first], p[second] if normal[axis] > 0 else -p[second]) for p in points]
+    return [(p[first], p[second] if normal[axis] > 0 else -p[second]) for p in moved]
 
 
 def on_one_line(points):

@@ -1,18 +1,4 @@
-"""Readable texts of scenes: the bytes that a text describes, and the text of bytes.
-
-One line of a text is one of these; `#` opens a comment, and the text's first comment says what the
-scene shows:
-
-    solid A              the lines that follow belong to A (or B)
-    v X Y Z [W]          a vertex; the weight is 1 where it is left out
-    f I J K              a face: three vertex numbers within the solid, from 1
-    far X Y Z [W]        the far point
-    like NAME            the bytes of the text NAME.txt in the same folder, to be damaged by the lines below
-    record K MARK N ...  writes record K anew
-    set OFFSET BYTE ...  writes bytes over those that stand there, whatever they mean
-    append BYTE ...      adds bytes at the end
-    cut N                takes the last N bytes away
-"""
+"""Readable texts of scenes: the bytes that a text describes, and the text of bytes. The form of a text stands at the head of make.py."""
 
 import struct
 from pathlib import Path
@@ -26,27 +12,28 @@ COUNTS = range(255 + 1)
 LONGEST_NUMBER = 4000  # Python reads no number of more than 4300 digits
 
 
-def decoded(path, contents):
-    """The text that bytes are; a byte order mark and the line ends of Windows are passed over, and that is said."""
-    if looks_like_scene(contents):
-        raise Wrong(f"this is a scene already; `make.py text {path}` makes a text of it")
-    text = without_mark(contents)
-    if text != contents:
-        say(f"note: {input_name(path)}, line 1: a byte order mark is passed over")
-    if b"\r\n" in text:
-        line = text[:text.index(b"\r\n")].count(b"\n") + 1
-        say(f"note: {input_name(path)}, line {line}: this line ends as in Windows (CRLF), and is read like any other")
-    try:
-        return text.decode()
-    except UnicodeDecodeError as error:
-        line = text[:error.start].count(b"\n") + 1
-        raise Wrong(f"line {line}: the byte {text[error.start]} is not UTF-8; save the text as UTF-8") from None
+def line_at(text, offset):
+    """The number of the line in which a byte stands."""
+    return text.count(b"\n", 0, offset) + 1
 
 
 def lines_of(path):
+    """The lines of a text; a byte order mark and the line ends of Windows are passed over, and that is said."""
     contents = contents_of(path)
     with at(path):
-        return decoded(path, contents).splitlines()
+        if looks_like_scene(contents):
+            raise Wrong(f"this is a scene already; `make.py text {path}` makes a text of it")
+        text = without_mark(contents)
+    if text != contents:
+        say(f"note: {input_name(path)}, line 1: a byte order mark is passed over")
+    if b"\r\n" in text:
+        line = line_at(text, text.index(b"\r\n"))
+        say(f"note: {input_name(path)}, line {line}: this line ends as in Windows (CRLF), and is read like any other")
+    try:
+        return text.decode().splitlines()
+    except UnicodeDecodeError as error:
+        with at(path, line_at(text, error.start)):
+            raise Wrong(f"the byte {text[error.start]} is not UTF-8; save the text as UTF-8") from None
 
 
 # ---- a text's bytes -------------------------------------------------------------------------
@@ -86,7 +73,7 @@ def row_of(words):
 
 def written_over(data, offset, new):
     if not 0 <= offset <= len(data) - len(new):
-        raise Wrong(f"there are the bytes 0 to {len(data) - 1}, and this line writes the bytes {offset} to {offset + len(new) - 1}")
+        raise Wrong(f"this line writes {len(new)} bytes from byte {offset} on, and there are {len(data)} bytes, counted from 0")
     return data[:offset] + new + data[offset + len(new):]
 
 
