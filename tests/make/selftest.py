@@ -55,24 +55,32 @@ def accepted_texts(bench):
 
 
 def files_that_cannot_be_read(bench):
-    for command in ["scene"], ["text"], ["off"]:
-        more = ["out"] if command == ["off"] else []
-        bench.said(f"{command} of a folder", command + ["."] + more, 2, "make.py: .: Is a directory")
-        bench.said(f"{command} of nothing", command + ["nothing"] + more, 2, "make.py: nothing: No such file or directory")
-        locked = bench.file("locked", TEXT)
-        locked.chmod(0)
-        bench.said(f"{command} of a locked file", command + ["locked"] + more, 2, "make.py: locked: Permission denied", before=as_nobody)
-    bench.said("a closed standard input", ["scene", "-"], 2, "make.py: standard input: ", before=without(0))
+    bench.file("locked", TEXT).chmod(0)
+    for command in "scene", "text", "off":
+        more = ["out"] if command == "off" else []
+        bench.said(f"{command} of a folder", [command, ".", *more], 2, "make.py: .: Is a directory")
+        bench.said(f"{command} of nothing", [command, "nothing", *more], 2, "make.py: nothing: No such file or directory")
+        bench.said(f"{command} of a locked file", [command, "locked", *more], 2, "make.py: locked: Permission denied", before=as_nobody)
+        bench.said(f"{command} of a closed standard input", [command, "-", *more], 2, "make.py: standard input: ", before=without(0))
+
+
+def inputs(bench):
+    """A command, and what it takes."""
+    return [("scene", TEXT), ("text", bench.run(["scene", "-"], TEXT)[1]), ("off", b"OFF " + TETRAHEDRON)]
+
+
+def outputs_that_cannot_be_written(bench):
+    for command, data in inputs(bench):
+        for what, before in ("No space left on device", with_full_output), ("Bad file descriptor", without(1)):
+            bench.said(f"{command}: {what}", [command, "-", "-"], 2, f"make.py: standard output: {what}", data=data, before=before)
+    bench.said("help: no space", ["--help"], 2, "make.py: standard output: No space left on device", before=with_full_output)
+    alone = bench.run(["off", "-", "-"], TETRAHEDRON, without(2))
+    bench.check("a closed standard error", alone == (0, b"OFF\n" + TETRAHEDRON, ""), alone)
 
 
 def files_that_cannot_be_written(bench):
-    text, scene = bench.file("mine.txt", TEXT), bench.file("mine.scene", b"as it was")
-    full = "make.py: standard output: No space left on device"
-    for words in ["scene", "mine.txt", "-"], ["--help"], ["text", "-"], ["off", "-", "-"]:
-        data = {"text": bench.run(["scene", "-"], TEXT)[1], "off": b"OFF " + TETRAHEDRON}.get(words[0], b"")
-        bench.said(f"a full standard output: {words}", words, 2, full, data=data, before=with_full_output)
-    bench.said("a closed standard output", ["scene", "mine.txt", "-"], 2, "make.py: standard output: ", before=without(1))
-    bench.check("a closed standard error", bench.run(["off", "-", "-"], TETRAHEDRON, without(2))[:2] == (0, b"OFF\n" + TETRAHEDRON))
+    bench.file("mine.txt", TEXT)
+    scene = bench.file("mine.scene", b"as it was")
     bench.said("a full device", ["scene", "mine.txt", "/dev/full"], 2, "make.py: /dev/full: No space left on device")
     bench.said("no folder", ["scene", "mine.txt", "no/where"], 2, "make.py: no/where: No such file or directory")
     bench.said("a folder", ["scene", "mine.txt", "."], 2, "make.py: .: Is a directory")
@@ -80,15 +88,18 @@ def files_that_cannot_be_written(bench):
     scene.chmod(0o444)
     bench.said("a file that is not one's own", ["scene", "mine.txt"], 2, "make.py: mine.scene: Permission denied", before=as_nobody)
     bench.check("after failing writes a file is as it was", scene.read_bytes() == b"as it was")
-    for command in ["scene"], ["text"], ["off"]:
-        target = bench.file("same", {"text": bench.run(["scene", "-"], TEXT)[1], "off": b"OFF " + TETRAHEDRON}.get(command[0], TEXT))
-        before = target.read_bytes()
-        bench.said(f"{command} into its input", command + ["same", "./same"], 2, "which would be lost")
-        bench.check(f"{command} into its input, which stays", target.read_bytes() == before)
-    link = bench.work / "link"
-    link.symlink_to("mine.txt")
-    bench.said("through a link into the input", ["scene", "mine.txt", "link"], 2, "which would be lost")
-    bench.check("the input is there", text.read_bytes() == TEXT and link.is_symlink())
+
+
+def inputs_are_kept(bench):
+    (bench.work / "link").symlink_to("same")
+    for command, data in inputs(bench):
+        same = bench.file("same", data)
+        bench.said(f"{command} into its input", [command, "same", "./same"], 2, "which would be lost")
+        bench.said(f"{command} through a link into its input", [command, "same", "link"], 2, "which would be lost")
+        bench.check(f"{command}: the input is as it was", same.read_bytes() == data)
+    bench.said("through a link", ["scene", "mine.txt", "link"], 0, "")
+    scene = bench.run(["scene", "-"], TEXT)[1]
+    bench.check("what the link names is written", (bench.work / "link").is_symlink() and same.read_bytes() == scene)
 
 
 def alone(bench):
@@ -206,8 +217,8 @@ def polygons_at_random(bench, count):
 def main():
     with tempfile.TemporaryDirectory() as folder:
         bench = Bench(Path(folder))
-        for test in (alone, wrong_texts, accepted_texts, files_that_cannot_be_read, files_that_cannot_be_written, wrong_use, wrong_drawings,
-                     drawings_and_notes):
+        for test in (alone, wrong_texts, accepted_texts, files_that_cannot_be_read, outputs_that_cannot_be_written,
+                     files_that_cannot_be_written, inputs_are_kept, wrong_use, wrong_drawings, drawings_and_notes):
             test(bench)
         for test in dialects_at_random, damage_at_random, texts_at_random, polygons_at_random:
             test(bench, 300)
