@@ -19,6 +19,8 @@ def cases(folder, checks):
         with hosts(place, office.folder, shared) as both:
             common(text, what, office, both, checks)
             breaks_down(text, what, office, both, checks)
+            if shared:
+                broken_off(text, what, office, both, checks)
             full_disk(text, what, office, office.folder if shared else both.home("two"), checks)
 
 
@@ -37,15 +39,21 @@ def common(text, what, office, both, checks):
     checks.right(f"{what}, both there again", run(text, office.folder), office)
 
 
+def stuck(both):
+    """A folder with a program that marks half of the second share, says so by a file, and then hangs; and that file."""
+    reached, program = both.folder / "reached", both.folder / "stuck" / "bodhranhaze-blocks"
+    program.parent.mkdir()
+    program.write_text(f'#!/bin/sh\n{shutil.which(program.name)} mark "$2" 2 4\ntouch {reached}\nexec sleep 300\n')
+    program.chmod(0o755)
+    return program.parent, reached
+
+
 def breaks_down(text, what, office, both, checks):
-    """A host that marks half of its share, and then is gone."""
-    office.fill(4, 40)
-    reached, stuck = both.folder / "reached", both.folder / "stuck" / "bodhranhaze-blocks"
-    stuck.parent.mkdir()
-    stuck.write_text(f'#!/bin/sh\n{shutil.which(stuck.name)} mark "$2" 2 4\ntouch {reached}\nexec sleep 300\n')
-    stuck.chmod(0o755)
+    """A host that hangs in the midst of its share, and then is gone."""
+    folder, reached = stuck(both)
     both.end("two")
-    both.begin("two", f"{stuck.parent}:/usr/bin:/bin")
+    both.begin("two", f"{folder}:/usr/bin:/bin")
+    office.fill(4, 40)
     process = start(text, office.folder)
     room.until("half of a share", reached.exists)
     both.end("two")
@@ -54,8 +62,22 @@ def breaks_down(text, what, office, both, checks):
     checks.right(f"{what}, and is there again", run(text, office.folder), office)
 
 
-def full_disk(text, what, office, disk, checks):
+def broken_off(text, what, office, both, checks):
+    """The lines are ended while a host hangs; the last of them is run by itself."""
+    both.end("two")
+    both.begin("two", f"{both.folder}/stuck:/usr/bin:/bin")
     office.fill(5, 40)
+    marked = len(office.reports()) + 30
+    process = start(text, office.folder)
+    room.until("one share and a half", lambda: len(office.reports()) == marked)
+    room.end(process)
+    checks.told(f"{what}, broken off", run(text.splitlines()[-1], office.folder), office.share(4, 4))
+    both.end("two")
+    both.begin("two")
+
+
+def full_disk(text, what, office, disk, checks):
+    office.fill(6, 40)
     filling = room.fill(disk)
     done = run(text, office.folder)
     checks.told(f"{what}, a full disk", done, office.names() if disk == office.folder else office.share(2, 2))

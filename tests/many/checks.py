@@ -9,6 +9,13 @@ class Checks:
     def __init__(self):
         self.passed = self.failed = 0
 
+    def all_of(self, name, cases, folder):
+        """The cases of a part; what keeps one from being run is a failure too."""
+        try:
+            cases(folder, self)
+        except (OSError, ValueError, subprocess.SubprocessError) as trouble:
+            self._count(f"{name}: {trouble}", None, False)
+
     def right(self, case, done, office):
         """All is there: the report is that of the independent program."""
         self._count(case, done, done.returncode == 0 and done.stdout == office.expected())

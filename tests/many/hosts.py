@@ -2,6 +2,7 @@
 
 import contextlib
 import os
+import shutil
 import subprocess
 
 import room
@@ -17,7 +18,7 @@ UsePAM no
 PasswordAuthentication no
 PidFile none
 Subsystem sftp internal-sftp
-SetEnv PATH={path}
+SetEnv {variables}
 ForceCommand cd {home} && eval "$SSH_ORIGINAL_COMMAND"
 """
 CLIENT = """
@@ -41,6 +42,7 @@ class Hosts:
 
     def __init__(self, folder, office, shared):
         self.folder, self.office, self.shared, self.running = folder, office, shared, {}
+        self.path = os.environ["PATH"]
         for name in ("keys", "bin"):
             (folder / name).mkdir(parents=True, exist_ok=True)
         self._keys()
@@ -65,12 +67,14 @@ class Hosts:
     def begin(self, name, path=None):
         """Starts a host; `path` is where it looks for programs."""
         config = self.folder / f"{name}.sshd"
-        config.write_text(DAEMON.format(port=PORTS[name], keys=self.folder / "keys", home=self.home(name), path=path or os.environ["PATH"]))
+        known = {word: text for word, text in os.environ.items() if word.startswith("BODHRANHAZE_")}
+        variables = " ".join(f'"{word}={text}"' for word, text in {**known, "PATH": path or self.path}.items())
+        config.write_text(DAEMON.format(port=PORTS[name], keys=self.folder / "keys", home=self.home(name), variables=variables))
         if not self.home(name).exists():
             room.small_disk(self.home(name), "2m")
         hide = "true" if self.shared else f"mount -t tmpfs tmpfs {self.office}"
         with open(self.folder / f"{name}.log", "a") as log:
-            self.running[name] = subprocess.Popen(["unshare", "--mount", "sh", "-c", f"{hide} && exec /usr/sbin/sshd -D -e -f {config}"], stderr=log)
+            self.running[name] = subprocess.Popen(["unshare", "--mount", "sh", "-c", f"{hide} && exec {shutil.which('sshd')} -D -e -f {config}"], stderr=log)
         room.until(f"the host {name} listens", lambda: room.listening(PORTS[name]))
 
     def end(self, name):
@@ -81,13 +85,12 @@ class Hosts:
 @contextlib.contextmanager
 def hosts(folder, office, shared):
     both = Hosts(folder, office, shared)
-    before = os.environ["PATH"]
     try:
         for name in PORTS:
-            both.begin(name, before)
-        os.environ["PATH"] = f"{folder}/bin:{before}"
+            both.begin(name)
+        os.environ["PATH"] = f"{folder}/bin:{both.path}"
         yield both
     finally:
-        os.environ["PATH"] = before
+        os.environ["PATH"] = both.path
         for name in list(both.running):
             both.end(name)

@@ -10,43 +10,46 @@ import alone
 import by_slurm
 import by_ssh
 import room
+import timing
 from checks import Checks
 
-MOST_SECONDS = 900
-NEEDED = {"ssh": ["ssh", "sshd", "rsync"], "Slurm": ["munged", "slurmctld", "slurmd", "sbatch", "scancel", "scontrol"]}
+MOST_SECONDS = 1200
+SSH = ["ssh", "ssh-keygen", "sshd", "rsync"]
+SLURM = ["munged", "slurmctld", "slurmd", "sbatch", "scancel", "scontrol"]
+PARTS = {"alone": (alone, []), "ssh": (by_ssh, SSH), "Slurm": (by_slurm, SLURM), "time": (timing, SSH + SLURM)}
 
 
-def lacking(what):
+def lacking(needed):
     """Why a part is left out; empty where nothing lacks."""
-    if not room.own():
+    if needed and not room.own():
         return "this user may not make namespaces"
-    missing = [name for name in NEEDED[what] if not shutil.which(name)]
-    return f"not installed: {' '.join(missing)} (--install does)" if missing else ""
+    missing = [name for name in needed if not shutil.which(name)]
+    return f"not installed: {' '.join(missing)} (--install does it)" if missing else ""
 
 
-def too_long(number, frame):
+def ended(number, frame):
     sys.exit(f"ended by signal {number}; the limit is {MOST_SECONDS} seconds")
 
 
-def main(work, prefix):
+def main(work, prefix, names):
     for number in (signal.SIGALRM, signal.SIGTERM):
-        signal.signal(number, too_long)
+        signal.signal(number, ended)
     signal.alarm(MOST_SECONDS)
     os.environ["PATH"] = f"{prefix}/bin:/usr/local/bin:/usr/bin:/bin:/usr/local/sbin:/usr/sbin:/sbin"
-    checks = Checks()
     if room.own():
         room.furnish()
-    alone.cases(work / "alone", checks)
-    for what, part in (("ssh", by_ssh), ("Slurm", by_slurm)):
-        why = lacking(what)
+    checks = Checks()
+    for name in names:
+        part, needed = PARTS[name]
+        why = lacking(needed)
         if why:
-            print(f"{what} left out: {why}")
+            print(f"{name} left out: {why}")
         else:
-            part.cases(work / what, checks)
+            checks.all_of(name, part.cases, work / name)
     print(f"{checks.passed} passed, {checks.failed} failed")
     return 1 if checks.failed else 0
 
 
 if __name__ == "__main__":
     sys.stdout.reconfigure(line_buffering=True)
-    sys.exit(main(pathlib.Path(sys.argv[1]), sys.argv[2]))
+    sys.exit(main(pathlib.Path(sys.argv[1]), sys.argv[2], sys.argv[3:]))

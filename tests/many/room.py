@@ -14,7 +14,7 @@ SIOCSIFFLAGS, SIOCSIFADDR, UP = 0x8914, 0x8916, 1
 
 def own():
     """Whether this runs in namespaces of its own; `run` says so."""
-    return bool(os.environ.get("APART"))
+    return bool(os.environ.get("OWN"))
 
 
 def furnish():
