@@ -21,6 +21,8 @@ def cases(folder, checks):
             breaks_down(text, what, office, both, checks)
             if shared:
                 broken_off(text, what, office, both, checks)
+            else:
+                other_blocks(text, what, office, both, checks)
             full_disk(text, what, office, office.folder if shared else both.home("two"), checks)
 
 
@@ -74,6 +76,16 @@ def broken_off(text, what, office, both, checks):
     checks.told(f"{what}, broken off", run(text.splitlines()[-1], office.folder), office.share(4, 4))
     both.end("two")
     both.begin("two")
+
+
+def other_blocks(text, what, office, both, checks):
+    """A block of another class in a host's folder: it counts the shares otherwise."""
+    office.fill(5, 40)
+    other = both.home("two") / "blocks" / "0000.block"
+    other.write_bytes(b"")
+    checks.told(f"{what}, with other blocks in one", run(text, office.folder), office.share(2, 2))
+    other.unlink()
+    checks.right(f"{what}, without them", run(text, office.folder), office)
 
 
 def full_disk(text, what, office, disk, checks):
