@@ -1,4 +1,4 @@
-"""Two hosts by ssh, with the office's folder and with folders of their own: twice, one broken, one off, one without the programs, a full disk."""
+"""Two hosts by ssh, with the office's folder and with folders of their own: twice, one off, broken, without the programs, a full disk."""
 
 import shutil
 

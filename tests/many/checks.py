@@ -13,7 +13,7 @@ class Checks:
         """The cases of a part; what keeps one from being run is a failure too."""
         try:
             cases(folder, self)
-        except (OSError, ValueError, subprocess.SubprocessError) as trouble:
+        except Exception as trouble:
             self._count(f"{name}: {trouble}", None, False)
 
     def right(self, case, done, office):
@@ -42,7 +42,8 @@ class Checks:
 
 def start(text, folder):
     """Lines of the shell, in a folder."""
-    return subprocess.Popen(["sh", "-c", text], cwd=folder, stdin=subprocess.DEVNULL, stdout=subprocess.PIPE, stderr=subprocess.PIPE, text=True)
+    pipe = subprocess.PIPE
+    return subprocess.Popen(["sh", "-c", text], cwd=folder, stdin=subprocess.DEVNULL, stdout=pipe, stderr=pipe, text=True)
 
 
 def finish(process):

@@ -73,8 +73,9 @@ class Hosts:
         if not self.home(name).exists():
             room.small_disk(self.home(name), "2m")
         hide = "true" if self.shared else f"mount -t tmpfs tmpfs {self.office}"
+        daemon = f"{hide} && exec {shutil.which('sshd')} -D -e -f {config}"
         with open(self.folder / f"{name}.log", "a") as log:
-            self.running[name] = subprocess.Popen(["unshare", "--mount", "sh", "-c", f"{hide} && exec {shutil.which('sshd')} -D -e -f {config}"], stderr=log)
+            self.running[name] = subprocess.Popen(["unshare", "--mount", "sh", "-c", daemon], stderr=log)
         room.until(f"the host {name} listens", lambda: room.listening(PORTS[name]))
 
     def end(self, name):

@@ -1,4 +1,4 @@
-"""All cases, one after the other: on one machine, by ssh, by Slurm; the last line counts those that passed. `run` starts it."""
+"""All cases: the office's day, many blocks on one machine, by ssh, by Slurm. The last line counts those that passed. `run` starts it."""
 
 import os
 import pathlib
@@ -9,6 +9,7 @@ import sys
 import alone
 import by_slurm
 import by_ssh
+import day
 import room
 import timing
 from checks import Checks
@@ -16,7 +17,7 @@ from checks import Checks
 MOST_SECONDS = 1200
 SSH = ["ssh", "ssh-keygen", "sshd", "rsync"]
 SLURM = ["munged", "slurmctld", "slurmd", "sbatch", "scancel", "scontrol"]
-PARTS = {"alone": (alone, []), "ssh": (by_ssh, SSH), "Slurm": (by_slurm, SLURM), "time": (timing, SSH + SLURM)}
+PARTS = {"day": (day, []), "alone": (alone, []), "ssh": (by_ssh, SSH), "Slurm": (by_slurm, SLURM), "time": (timing, SSH + SLURM)}
 
 
 def lacking(needed):

@@ -14,12 +14,13 @@ FAR_X = 8
 
 
 class Office:
-    """`folder` holds `blocks`, with random blocks of a seed."""
+    """`folder` holds `blocks`: those that stand there, or random ones of a seed."""
 
-    def __init__(self, folder, seed, count):
+    def __init__(self, folder, seed=0, count=0):
         self.folder, self.blocks = folder, folder / "blocks"
         self.blocks.mkdir(parents=True, exist_ok=True)
-        self.fill(seed, count)
+        if count:
+            self.fill(seed, count)
 
     def fill(self, seed, count):
         """Blocks of the same names, each unlike those of any other seed by its first scene; reports stay as they are."""
