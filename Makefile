@@ -2,7 +2,7 @@
 # make check               the gate, all tests
 # make install             copies what was built to PREFIX, below DESTDIR; this needs no kit
 # make uninstall           removes it
-# make dist                packs it for machines without the kit; it may be unpacked anywhere
+# make dist                packs it into target/ for machines without the kit; it may be unpacked anywhere
 
 PREFIX = /usr/local
 DESTDIR =
@@ -53,7 +53,7 @@ uninstall:
 dist:
 	rm -rf target/dist
 	@$(MAKE) --no-print-directory -s install DESTDIR=target/dist PREFIX=/$(PACK)
-	tar -C target/dist --sort=name --owner=0 --group=0 --numeric-owner -czf $(PACK).tar.gz $(PACK)
-	@echo $(PACK).tar.gz
+	tar -C target/dist --sort=name --owner=0 --group=0 --numeric-owner -czf target/$(PACK).tar.gz $(PACK)
+	@echo target/$(PACK).tar.gz
 
 .PHONY: all check install uninstall dist

@@ -9,7 +9,7 @@ import time
 from concurrent.futures import ThreadPoolExecutor
 from pathlib import Path
 
-from tree import ENVIRONMENT, PATH, PROGRAMS, ROOT, each, data, example, folder, holds, run, same, shell, test, version
+from tree import ENVIRONMENT, PATH, PROGRAMS, ROOT, Skipped, each, data, example, folder, holds, run, same, shell, test, version
 
 KIT = """#!/bin/sh
 case $1 in
@@ -33,7 +33,7 @@ class Repository:
         shutil.copytree(ROOT / "packaging", self.root / "packaging")
         shutil.copy(ROOT / "run", self.root)
         shutil.copytree(PROGRAMS, self.root / "built")
-        (self.root / "built/class").rename(self.root / "built/class_files") if (self.root / "built/class").exists() else None
+        (self.root / "built/class").rename(self.root / "built/class_files")
         for crate in ("report", "edit", "class_files"):
             (self.root / "crates" / crate / "src").mkdir(parents=True)
             (self.root / "crates" / crate / "src/main.rt").write_text("fn main() {}\n")
@@ -197,6 +197,13 @@ def an_interrupt_leaves_nothing(its):
 
 
 @repository
+def a_class_is_built_under_its_own_name(its):
+    ended = its.run("class", PRINTED)
+    holds(ended.status == 0 and ended.out.startswith(b"scenes 1\ncross 1\n"), ended)
+    same(its.calls(), ["class_files"])
+
+
+@repository
 def options_and_words_go_the_same_way(its):
     same(its.run("--version"), (0, version() + b"a kit\n", ""))
     holds(b"./run [--as-built]" in its.run("--help").out)
@@ -211,7 +218,7 @@ def options_and_words_go_the_same_way(its):
 def what_stands_here_is_run_as_built(program):
     """In the real repository, where it is built: no kit is in PATH."""
     if not (ROOT / "target/bin" / program).exists():
-        return
+        raise Skipped("it is not built here")
     ended = run([ROOT / "run", "--as-built", program], stdin=PRINTED if program == "report" else b"")
     same((ended.status, ended.err), (0, ""))
     holds(program != "report" or ended.out == ANSWER, ended.out)
