@@ -11,6 +11,8 @@ VERSION := $(shell sed -n 's/.*b"bodhranhaze \([0-9.]*\)\\n".*/\1/p' crates/cli/
 # class_files is installed as class, and so on: the libraries have the shorter names.
 CRATES = report ask edit map off bench marks merge class_files table_files pack_files
 DOCUMENTS = README.md LICENSE CHANGELOG.md $(wildcard docs/GUIDE.md docs/SCENE.md docs/C.md docs/OFFICE.md)
+COMMANDS = $(notdir $(wildcard packaging/bodhranhaze packaging/bodhranhaze-blocks))
+PAGES = $(notdir $(wildcard packaging/man/*))
 # What examples/make.py imports.
 EXACT = independent/exact.py independent/judge.py
 
@@ -28,7 +30,7 @@ install:
 	@for file in $(CRATES:%=bin/%) staticlib/libbodhranhaze.a shared/libbodhranhaze.so; do \
 	    [ -f target/$$file ] || { echo "make install: target/$$file is not there; make builds it" >&2; exit 1; }; \
 	done
-	install -D -m 755 packaging/bodhranhaze $(TREE)/bin/bodhranhaze
+	for command in $(COMMANDS); do install -D -m 755 packaging/$$command $(TREE)/bin/$$command || exit 1; done
 	for crate in $(CRATES); do install -D -m 755 target/bin/$$crate $(TREE)/libexec/bodhranhaze/$${crate%_files} || exit 1; done
 	$(INSTALL) include/bodhranhaze.h $(TREE)/include/bodhranhaze.h
 	$(INSTALL) target/staticlib/libbodhranhaze.a $(TREE)/lib/libbodhranhaze.a
@@ -36,8 +38,7 @@ install:
 	ln -sf libbodhranhaze.so.$(VERSION) $(TREE)/lib/libbodhranhaze.so.1
 	ln -sf libbodhranhaze.so.1 $(TREE)/lib/libbodhranhaze.so
 	$(INSTALL) packaging/bodhranhaze.pc $(TREE)/lib/pkgconfig/bodhranhaze.pc
-	for page in bodhranhaze.1 bodhranhaze.3 bodhranhaze-scene.5; do \
-	    $(INSTALL) packaging/man/$$page $(TREE)/share/man/man$${page##*.}/$$page || exit 1; done
+	for page in $(PAGES); do $(INSTALL) packaging/man/$$page $(TREE)/share/man/man$${page##*.}/$$page || exit 1; done
 	sed -i 's/@VERSION@/$(VERSION)/' $(TREE)/lib/pkgconfig/bodhranhaze.pc $(TREE)/share/man/man?/bodhranhaze*
 	$(INSTALL) packaging/completion.bash $(TREE)/share/bash-completion/completions/bodhranhaze
 	for file in $(EXACT) $$(find examples -name __pycache__ -prune -o -type f -print); do \
@@ -45,8 +46,8 @@ install:
 	for file in $(DOCUMENTS); do $(INSTALL) $$file $(TREE)/share/doc/bodhranhaze/$${file##*/} || exit 1; done
 
 uninstall:
-	rm -f $(TREE)/bin/bodhranhaze $(TREE)/include/bodhranhaze.h $(TREE)/lib/libbodhranhaze.* $(TREE)/lib/pkgconfig/bodhranhaze.pc
-	rm -f $(TREE)/share/man/man1/bodhranhaze.1 $(TREE)/share/man/man3/bodhranhaze.3 $(TREE)/share/man/man5/bodhranhaze-scene.5
+	rm -f $(COMMANDS:%=$(TREE)/bin/%) $(PAGES:%=$(TREE)/share/man/man?/%)
+	rm -f $(TREE)/include/bodhranhaze.h $(TREE)/lib/libbodhranhaze.* $(TREE)/lib/pkgconfig/bodhranhaze.pc
 	rm -f $(TREE)/share/bash-completion/completions/bodhranhaze
 	rm -rf $(TREE)/libexec/bodhranhaze $(TREE)/share/bodhranhaze $(TREE)/share/doc/bodhranhaze
 

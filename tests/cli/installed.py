@@ -7,6 +7,8 @@ import sys
 
 from tree import EXAMPLES, NAMES, ROOT, TREE, data, each, example, folder, holds, needs, run, same, test, version
 
+PAGES = ["man1/bodhranhaze.1", "man1/bodhranhaze-blocks.1", "man3/bodhranhaze.3", "man5/bodhranhaze-scene.5"]
+
 
 @test
 def the_tree_may_be_moved():
@@ -23,11 +25,11 @@ def the_version_stands_in_one_place():
     holds(f'b"{version().decode().strip()}\\n"' in source, version())
     number = version().decode().split()[1]
     holds((TREE / f"lib/libbodhranhaze.so.{number}").is_file())
-    for page in ("man1/bodhranhaze.1", "man3/bodhranhaze.3", "man5/bodhranhaze-scene.5"):
+    for page in PAGES:
         holds(version().decode().strip() in (TREE / "share/man" / page).read_text(), page)
 
 
-@each("man1/bodhranhaze.1", "man3/bodhranhaze.3", "man5/bodhranhaze-scene.5")
+@each(*PAGES)
 def a_page_is_well_formed(page):
     needs("groff")
     ended = run(["groff", "-man", "-Tutf8", "-ww", "-z", TREE / "share/man" / page])
