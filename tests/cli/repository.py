@@ -144,7 +144,7 @@ def what_is_not_proved_is_not_run(its):
     for _ in range(2):
         ended = its.run("report", PRINTED)
         same((ended.status, ended.out), (2, b""))
-        holds("crates/wrong stands in the way" in ended.err and "report is not proved" in ended.err, ended.err)
+        holds("crates/wrong stands in the way" in ended.err and "not proved: report" in ended.err, ended.err)
     (its.root / "crates/wrong").unlink()
     answers(its.run("report", PRINTED))
     same(len(its.calls()), 3)
