@@ -127,7 +127,7 @@ def two_at_once_wait_where_there_is_no_flock(its):
         (tools / name).symlink_to(shutil.which(name, path=PATH) or "/nowhere")
     its.environment["PATH"] = f"{its.root.parent}/kit:{tools}"
     at_once(its, 2)
-    holds(not (its.root / ".proving.d").exists())
+    holds(not (its.root / ".building.d").exists())
 
 
 @repository
@@ -193,7 +193,7 @@ def an_interrupt_leaves_nothing(its):
     (its.root / "alone").rmdir()
     answers(its.run("report", PRINTED))
     same(sorted(path.name for path in its.root.iterdir()),
-         [".proving", "built", "calls", "crates", "crates.txt", "packaging", "run", "target"])
+         [".building", "built", "calls", "crates", "crates.txt", "packaging", "run", "target"])
 
 
 @repository

@@ -18,6 +18,8 @@ NAMES = "report ask edit map off bench marks merge class table pack".split()
 EXAMPLES = TREE / "share/bodhranhaze/examples"
 # No kit is here.
 PATH = "/usr/bin:/bin"
+# What root adds to a run that may not be root's.
+AS_NOBODY = {"user": 65534, "group": 65534, "extra_groups": []} if os.geteuid() == 0 else {}
 
 TESTS = []
 
