@@ -9,7 +9,7 @@ import time
 
 import tree
 
-PARTS = "asked files reading writing statuses changes merging many bench words installed library packing repository".split()
+PARTS = "played asked files reading writing statuses changes merging many bench words installed library packing repository".split()
 
 
 def outcome(function):
