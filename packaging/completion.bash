@@ -1,6 +1,7 @@
 # Completion of bodhranhaze in bash: options and programs, then each program's own words, and files.
 _bodhranhaze() {
     local word=${COMP_WORDS[COMP_CWORD]} program='' words='' i
+    local programs='report ask edit map off bench marks merge class table pack'
     for ((i = 1; i < COMP_CWORD; i++)); do
         case ${COMP_WORDS[i]} in
             -o | --output) i=$((i + 1)) ;;
@@ -9,7 +10,7 @@ _bodhranhaze() {
         esac
     done
     case $program in
-        '') [[ $i -gt $COMP_CWORD ]] || words='--refusals --output --help --version report ask edit map off bench marks merge class table pack' ;;
+        '') [[ $i -gt $COMP_CWORD ]] || words="--refusals --output --help --version $programs" ;;
         ask) words='--formula judge why verdict counts pierces enclosed mask sign record listing clean' ;;
         edit) words='move far reverse' ;;
         off) words='--write' ;;

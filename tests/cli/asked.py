@@ -6,10 +6,12 @@ from tree import FRONT, NAMES, PROGRAMS, alone, each, front, holds, run, same, t
 
 # Words that no program takes.
 WRONG = [
-    "ask", "ask nothing", "ask --formula", "ask pierces 5 6", "ask pierces 5 x 1", "ask verdict x.scene y.scene", "edit mvoe 1", "edit move 1 2",
-    "edit move 1 2 3 x 5", "map 1 2 3", "map 1 0 0 0 0 1 0 0 0 0 1 0 0 0 0 x", "off", "off one.off", "off --write", "off --write 3", "off a b 1 2 3",
-    "bench", "bench one.scene", "bench x y one 1 2", "bench x y nobody 1 2 3 4 5", "merge --reports", "merge --reports x", "report x y", "marks x y",
-    "class", "class --names", "table", "table --names", "pack", "pack DIR", "pack DIR --names",
+    "report x y", "marks x y",
+    "ask", "ask nothing", "ask --formula", "ask pierces 5 6", "ask pierces 5 x 1", "ask verdict x.scene y.scene",
+    "edit mvoe 1", "edit move 1 2", "edit move 1 2 3 x 5", "map 1 2 3", "map 1 0 0 0 0 1 0 0 0 0 1 0 0 0 0 x",
+    "off", "off one.off", "off --write", "off --write 3", "off a b 1 2 3",
+    "bench", "bench one.scene", "bench x y one 1 2", "bench x y nobody 1 2 3 4 5",
+    "merge --reports", "merge --reports x", "class", "class --names", "table", "table --names", "pack", "pack DIR", "pack DIR --names",
 ]
 
 

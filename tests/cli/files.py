@@ -12,8 +12,10 @@ def a_file_and_standard_input_are_read_alike(title):
         words, path = given(title, room)
         named = front(*words, path)
         same(named.status, 0)
-        for ended in (front(*words, stdin=path), front(*words, "-", stdin=path), alone(*words, path), alone(*words, "-", stdin=path), alone(*words, stdin=path)):
-            same(ended, named)
+        for way in (front, alone):
+            same(way(*words, path)._replace(status=0), named)
+            same(way(*words, "-", stdin=path), named)
+            same(way(*words, stdin=path), named)
 
 
 def faulty(path, said):

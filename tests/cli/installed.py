@@ -55,8 +55,10 @@ def the_page_has_every_call():
 
 def completed(*words):
     """What bash offers for the last of the words."""
-    script = 'f=$1; shift; . "$f"; compopt() { :; }; COMP_WORDS=(bodhranhaze "$@"); COMP_CWORD=$#; _bodhranhaze; printf "%s\\n" "${COMPREPLY[@]}"'
-    return run(["bash", "-c", script, "bash", TREE / "share/bash-completion/completions/bodhranhaze", *words], cwd=EXAMPLES).out.decode().split()
+    script = ('. "$0"; compopt() { :; }; COMP_WORDS=(bodhranhaze "$@"); COMP_CWORD=$#; _bodhranhaze; '
+              'printf "%s\\n" "${COMPREPLY[@]}"')
+    source = TREE / "share/bash-completion/completions/bodhranhaze"
+    return run(["bash", "-c", script, source, *words], cwd=EXAMPLES).out.decode().split()
 
 
 @test

@@ -7,7 +7,8 @@ from pathlib import Path
 from tree import EXAMPLES, LOADER, ROOT, TREE, Skipped, folder, holds, needs, run, same, test
 
 LIB = TREE / "lib"
-SCENES = [EXAMPLES / f"{name}.scene" for name in ("printed", "apart", "a-in-b", "direction-b-in-a", "gear-meets", "refused-9-one", "refused-14")]
+NAMES = ["printed", "apart", "a-in-b", "direction-b-in-a", "gear-meets", "refused-9-one", "refused-14"]
+SCENES = [EXAMPLES / f"{name}.scene" for name in NAMES]
 
 
 def wanted():
@@ -46,16 +47,18 @@ def it_is_loaded_and_answers():
 def compiled_by_the_kit(tools, room, libraries):
     """viewer/survey.c by the compiler that stands beside the emulator."""
     lib = tools.parent / "lib"
-    run([tools / "clang", "--target=x86_64-unknown-linux-gnu", "-O2", "-fPIE", "-ffreestanding", "-nostdinc", f"-I{ROOT}/viewer/c", f"-I{TREE}/include",
-         "-c", ROOT / "viewer/survey.c", "-o", f"{room}/survey.o"])
-    starts, ends = [lib / name for name in ("Scrt1.o", "crti.o", "crtbeginS.o")], [lib / name for name in ("crtendS.o", "crtn.o")]
-    return run([tools / "ld.lld", "-pie", "-dynamic-linker", lib / "ld-linux-x86-64.so.2", "-rpath", LIB, *starts, f"{room}/survey.o", *libraries,
-                lib / "libc.so.6", lib / "libc_nonshared.a", lib / "libgcc.a", *ends, "-o", f"{room}/survey"])
+    run([tools / "clang", "--target=x86_64-unknown-linux-gnu", "-O2", "-fPIE", "-ffreestanding", "-nostdinc",
+         f"-I{ROOT}/viewer/c", f"-I{TREE}/include", "-c", ROOT / "viewer/survey.c", "-o", f"{room}/survey.o"])
+    starts = [lib / name for name in ("Scrt1.o", "crti.o", "crtbeginS.o")]
+    ends = [lib / name for name in ("libc.so.6", "libc_nonshared.a", "libgcc.a", "crtendS.o", "crtn.o")]
+    return run([tools / "ld.lld", "-pie", "-dynamic-linker", lib / "ld-linux-x86-64.so.2", "-rpath", LIB,
+                *starts, f"{room}/survey.o", *libraries, *ends, "-o", f"{room}/survey"])
 
 
 def compiled_here(room, libraries):
     needs("cc")
-    return run(["cc", f"-I{ROOT}/viewer/c", f"-I{TREE}/include", f"-Wl,-rpath,{LIB}", ROOT / "viewer/survey.c", *libraries, "-o", f"{room}/survey"])
+    return run(["cc", f"-I{ROOT}/viewer/c", f"-I{TREE}/include", f"-Wl,-rpath,{LIB}", ROOT / "viewer/survey.c", *libraries,
+                "-o", f"{room}/survey"])
 
 
 def reports_by(libraries):

@@ -60,7 +60,8 @@ def other_words_are_no_trouble(line):
 
 @test
 def only_the_opening_of_an_edit_decides():
-    for lines, status in (("refused 1 0", 1), ("why: x\nrefused 1 0", 1), ("refused 1 0\nrefused 1 0", 1), ("counts 1 2 3\nrefused 11 0", 0)):
+    for lines, status in (("refused 1 0", 1), ("why: x\nrefused 1 0", 1), ("refused 1 0\nrefused 1 0", 1),
+                          ("counts 1 2 3\nrefused 11 0", 0)):
         same(played(f"echo '{lines}' >&2", "edit", program="edit").status, status)
         same(played(f"echo '{lines}' >&2", "--refusals", "edit", program="edit").status, 1)
 

@@ -71,7 +71,8 @@ def a_list_of_names_cannot_be_read(program):
 def standard_input_is_closed(words):
     program, *rest = words.split()
     trouble(shell('"$@" <&-', FRONT, program, *rest), program, "standard input: Bad file descriptor")
-    trouble(shell('"$@" <&-', *LOADER.split(), PROGRAMS / program, *rest)._replace(status=2), program, "standard input: Bad file descriptor")
+    ended = shell('"$@" <&-', *LOADER.split(), PROGRAMS / program, *rest)
+    trouble(ended._replace(status=2), program, "standard input: Bad file descriptor")
 
 
 @each(*(name for name in NAMES if name not in ("bench", "off", "map", "ask", "pack")))

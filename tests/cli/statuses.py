@@ -7,7 +7,8 @@ from tree import data, each, example, folder, front, holds, same, test
 
 # Scenes that are refused, and the question each gets.
 REFUSED = ["refused-1-empty", "refused-3-short", "refused-9-one", "refused-14"]
-ASKED = ["judge", "why", "verdict", "counts", "pierces 5 6 1", "enclosed 5", "mask 5 6 1", "sign 1 2 3 4", "record 1", "listing", "listing 9", "clean"]
+ASKED = ["judge", "why", "verdict", "counts", "pierces 5 6 1", "enclosed 5", "mask 5 6 1", "sign 1 2 3 4", "record 1", "listing",
+         "listing 9", "clean"]
 
 
 @each(*REFUSED)

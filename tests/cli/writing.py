@@ -114,8 +114,8 @@ def a_scene_is_changed_in_place():
         same(left_in(room), ["x.scene"])
 
 
-@each(["edit", "reverse", "8", "refused-14.scene"], ["edit", "move", "1", "2"], ["report", "nothing.scene"], ["map", *["0"] * 16, "printed.scene"],
-      ["nothing"], ["off", "--write", "1", "refused-14.scene"])
+@each(["edit", "reverse", "8", "refused-14.scene"], ["edit", "move", "1", "2"], ["report", "nothing.scene"], ["nothing"],
+      ["map", *["0"] * 16, "printed.scene"], ["off", "--write", "1", "refused-14.scene"])
 def a_file_keeps_its_contents_where_there_is_no_answer(words):
     with folder() as room:
         path = f"{room}/x"
