@@ -13,7 +13,7 @@ def a_file_and_standard_input_are_read_alike(title):
         named = front(*words, path)
         same(named.status, 0)
         for way in (front, alone):
-            same(way(*words, path)._replace(status=0), named)
+            same(way(*words, path), named)
             same(way(*words, "-", stdin=path), named)
             same(way(*words, stdin=path), named)
 

@@ -29,5 +29,5 @@ def given(title, room):
         return words, example(name)
     path = os.path.join(room, "class.report")
     with open(path, "wb") as file:
-        file.write(front("marks", example("printed.scene")).out)
+        file.write(front("marks", stdin=example("printed.scene")).out)
     return words, path

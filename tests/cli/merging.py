@@ -10,7 +10,7 @@ def reports(room, *names):
     paths = []
     for name in names:
         path = os.path.join(room, f"{name}.report")
-        front("-o", path, "marks", example(f"{name}.scene"))
+        front("-o", path, "marks", stdin=example(f"{name}.scene"))
         paths.append(path)
     return paths
 
@@ -83,7 +83,7 @@ def nothing_is_no_report_where_they_are_counted():
 @test
 def many_reports():
     with folder() as room:
-        report = front("marks", example("printed.scene")).out
+        report = front("marks", stdin=example("printed.scene")).out
         for k in range(500):
             with open(f"{room}/{k}", "wb") as file:
                 file.write(report)
