@@ -50,6 +50,7 @@ WRONG_DRAWINGS = [
     ("a corner too many", b"OFF\n" + TETRAHEDRON.replace(b"3 1 2 3", b"3 1 2 4"), "line 9: face 2 has the corner 4"),
     ("cut off", b"OFF\n" + TETRAHEDRON[:-4], "the text ends here, and a corner of face 3 must follow"),
     ("more behind it", b"OFF\n" + TETRAHEDRON + b"3 0 1 2\n", "line 11: 3 follows the last of the 4 faces"),
+    ("colours without the keyword", b"OFF 4 1 0\n0 0 0 9 9 9\n1 0 0 9 9 9\n0 1 0 9 9 9\n0 0 1 9 9 9\n3 0 1 2\n", "is the keyword COFF"),
     ("a colour of two numbers", b"OFF\n" + TETRAHEDRON.replace(b"3 1 2 3", b"3 1 2 3 1 1"), "line 9: 2 numbers follow face 2 on its line"),
     ("a vertex without its colour", b"COFF\n" + TETRAHEDRON, "line 3: 0 numbers stand behind the coordinates of vertex 0"),
     ("a face that crosses itself", b"OFF 4 1 0\n0 0 0\n1 1 0\n1 0 0\n0 1 0\n4 0 1 2 3\n", "line 6: the border of this face meets itself"),
