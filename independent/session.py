@@ -165,7 +165,8 @@ def run(program, words, data):
     """The lines on standard error, of those in words only which they are; and the bytes on standard output."""
     done = subprocess.run(program + words, input=data, capture_output=True, check=False)
     lines = done.stderr.decode().splitlines()
-    return [line if line == NOTHING_WRITTEN else re.sub("^(why|note): .+| is wrong or missing; .*", r"\1", line) for line in lines], done.stdout
+    shorter = [re.sub("^(why|note): .+| is wrong or missing; .*", r"\1", line) for line in lines]
+    return [line if line == NOTHING_WRITTEN else short for line, short in zip(lines, shorter)], done.stdout
 
 
 def said(data, steps):

@@ -1,5 +1,5 @@
-// bench FIRST SECOND [one P X Y Z W | two P X Y Z W | lecturer N X Y Z W]... opens a bench from two scenes and makes the moves of the command
-// line: each answer is a line, and the next has both groups' counts.
+// bench FIRST SECOND [one P X Y Z W | two P X Y Z W | lecturer N X Y Z W]... opens a bench from two scenes and makes the moves of the
+// command line: each answer is a line, and the next has both groups' counts.
 ghost use Prim.Native.Nat.{_+_, _<_, _≤_};
 use benches::Answer;
 use benches::Answered;
