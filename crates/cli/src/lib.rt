@@ -107,6 +107,17 @@ pub fn is_standard(i: usize) -> bool {
     is_word(i, b"-")
 }
 
+// The name of the input that word i names, a part of a line on standard error.
+pub fn say_name(i: usize) {
+    if is_standard(i) {
+        io::write_all(STDERR_FILENO, b"standard input");
+        return;
+    }
+    let mut name = io::buffer();
+    let n = os::arg(i, &mut name);
+    io::write_all(STDERR_FILENO, &name[..n]);
+}
+
 // Opens the input that word i names; below 0 where that fails, which is then said.
 pub fn open_at(program: &[u8], i: usize) -> i32 {
     if is_standard(i) {
