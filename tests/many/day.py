@@ -46,8 +46,9 @@ def report(files):
 def cases(folder, checks):
     files = handed_in(folder / "autumn")
     done = run(TABLE, folder)
-    rows = [line.split("\t") for line in (folder / "table.txt").read_text().splitlines()]
+    heading, *rows = [line.split("\t") for line in (folder / "table.txt").read_text().splitlines()]
     found = [(row[0].rsplit("/", 1)[-1], row[1]) for row in rows]
+    checks.holds("the columns", heading == ["name", "verdict", "A in B", "B in A", "pairs", "why"])
     checks.holds("300 files, a line each", done.returncode == 0 and found == [(name, answer(scene)[0]) for name, scene in files.items()])
     checks.holds("what is not read is said", "note: 1 other files" in done.stderr)
     done = run(CLASS, folder)
@@ -64,8 +65,8 @@ def cases(folder, checks):
 def packed(folder, files, checks):
     """The blocks hold all scenes but those that are named."""
     done = run(PACK, folder)
-    left_out = [name for name in files if name in done.stdout + done.stderr]
-    checks.holds("pack names what it leaves out", {"050.scene", "100.scene", "150.scene"} <= set(left_out))
+    left_out = [name for name in files if f"{name}: left out" in done.stderr]
+    checks.holds("pack names what it leaves out", done.returncode == 2 and left_out == ["050.scene", "100.scene", "150.scene"])
     office = Office(folder)
     blocks = b"".join((office.blocks / name).read_bytes() for name in office.names())
     checks.holds("the blocks hold all the others", blocks == b"".join(scene for name, scene in files.items() if name not in left_out))
