@@ -187,7 +187,7 @@ def refuses(merge, reports):
     wrong = [text[:-1], text + "x", text.replace("mean ", "mean", 1), text.replace("cross ", "cross  ", 1), text.replace("apart ", "apart -", 1)]
     for broken in wrong:
         done = subprocess.run(shlex.split(merge), input=broken.encode(), capture_output=True)
-        if done.stdout or done.stderr.count(b"\n") != 1 or not done.stderr.startswith(b"merge: byte "):
+        if done.stdout or done.stderr.count(b"\n") != 1 or not done.stderr.startswith(b"merge: standard input: no class report"):
             print(f"not refused in one line: {done.stdout + done.stderr}")
             return False
     print(f"{len(wrong)} texts refused")

@@ -41,7 +41,19 @@ pub fn say(program: &[u8], what: &[u8]) {
     io::write_all(STDERR_FILENO, b"\n");
 }
 
-// The same of a call that failed just before, with the reason.
+// The same with word i of the command line in its midst.
+pub fn say_word(program: &[u8], before: &[u8], i: usize, behind: &[u8]) {
+    let mut word = io::buffer();
+    let n = os::arg(i, &mut word);
+    io::write_all(STDERR_FILENO, program);
+    io::write_all(STDERR_FILENO, b": ");
+    io::write_all(STDERR_FILENO, before);
+    io::write_all(STDERR_FILENO, &word[..n]);
+    io::write_all(STDERR_FILENO, behind);
+    io::write_all(STDERR_FILENO, b"\n");
+}
+
+// A line about a call that failed just before, with the reason.
 pub fn fail(program: &[u8], what: &[u8]) {
     io::write_all(STDERR_FILENO, program);
     io::write_all(STDERR_FILENO, b": ");
@@ -93,6 +105,17 @@ pub fn is_standard(i: usize) -> bool {
         return true;
     }
     is_word(i, b"-")
+}
+
+// The name of the input that word i names, a part of a line on standard error.
+pub fn say_name(i: usize) {
+    if is_standard(i) {
+        io::write_all(STDERR_FILENO, b"standard input");
+        return;
+    }
+    let mut name = io::buffer();
+    let n = os::arg(i, &mut name);
+    io::write_all(STDERR_FILENO, &name[..n]);
 }
 
 // Opens the input that word i names; below 0 where that fails, which is then said.

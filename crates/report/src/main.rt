@@ -1,13 +1,12 @@
-// Prints the report of the scene on standard input: it is read, judged and surveyed once, rendered part by part, and written.
+// report [FILE] prints the report of a scene: it is read, judged and surveyed once, rendered part by part, and written.
 ghost use mathlib.Core.Path.{_≡_};
 ghost use Rattle.scene.specs.View.{viewOf};
 ghost use Rattle.judge.specs.Judge.{judged};
 ghost use Rattle.judge.specs.declared.Judged.the-variants.{Accepted};
 ghost use Rattle.readings.specs.Surveys.{SurveyIs};
+use cli::is_option;
 use engine::Engine;
 use judge::Judged;
-use libc::STDIN_FILENO;
-use libc::STDOUT_FILENO;
 use lines::refused;
 use lines::rows::least;
 use questions::MOST_PAIRS;
@@ -21,9 +20,10 @@ use table::ENDS;
 use table::Ends;
 use table::Masks;
 
-// What is held at once, 64 KiB: the 4,096 bytes that `io` takes; the scene, where one byte more than the longest tells that the input is
-// too long; the survey's tables, two bytes for an end and eight for a word, of both solids; a sixth of the longest listing, two bytes for
-// each number; and the text.
+// What is held at once, 64 KiB: the 4,096 bytes that `io` takes to write; the scene, where one byte more than the longest tells that the
+// input is too long; the survey's tables, two bytes for an end and eight for a word, of both solids; a sixth of the longest listing, two
+// bytes for each number; and the text. (A file's name, of as many bytes as `io` takes, is held a few times while the scene is read; of
+// the rest only the scene is held then.)
 const HELD: usize = 65536;
 
 const IO: usize = 4096;
@@ -35,6 +35,14 @@ const TABLES: usize = 2 * (2 + 8) * ENDS;
 const NUMBERS: usize = 3 * (MOST_PAIRS / 6 + 1);
 
 const TEXT: usize = HELD - IO - SCENE - TABLES - 2 * NUMBERS;
+
+fn write(text: &[u8]) -> bool {
+    cli::write(b"report", text)
+}
+
+fn finish() {
+    cli::finish(b"report");
+}
 
 // The n rows of the listing. A write that fails is the last.
 fn write_rows(
@@ -58,11 +66,12 @@ fn write_rows(
         if r.count == 0 {
             return;
         }
-        if !io::write_all(STDOUT_FILENO, &out[..end]) {
+        if !write(&out[..end]) {
             return;
         }
         from += least(n - from, r.count);
     }
+    finish();
 }
 
 // The head, and then the rows.
@@ -80,7 +89,7 @@ fn write_read(
 {
     let top = head_read(t, s, aends, amasks, bends, bmasks, out);
     let end = top.end;
-    if io::write_all(STDOUT_FILENO, &out[..end]) {
+    if write(&out[..end]) {
         write_rows(t, s, aends, amasks, bends, bmasks, top.rows, out);
     }
 }
@@ -105,7 +114,9 @@ fn write_accepted(s: &[u8], out: &mut [u8])
 
 fn write_refused(r: Refusal, out: &mut [u8]) {
     let end = refused(out, 0, r);
-    io::write_all(STDOUT_FILENO, &out[..end]);
+    if write(&out[..end]) {
+        finish();
+    }
 }
 
 fn write_report(s: &[u8]) {
@@ -117,18 +128,57 @@ fn write_report(s: &[u8]) {
     }
 }
 
-// Reading nothing tells an input that can't be read from an empty one.
-fn can_read() -> bool {
-    let mut none = [0u8; 1];
-    libc::read(STDIN_FILENO, &mut none[..0]) >= 0
+fn help() -> bool {
+    cli::tells(
+        b"report",
+        b"report [FILE]
+
+Prints the report of the scene in FILE; - or no FILE is standard input.
+
+    scene A1 A2 B1 B2    vertices and faces of A, vertices and faces of B
+    verdict V            cross, a-in-b, b-in-a or apart
+    inside A B           how many vertices of A are enclosed by B, and of B by A
+    pairs N              how often an edge of one solid pierces a face of the other; then a line for each:
+    U V F                the edge's two points, the lower first, and the face
+
+Of a refused scene it prints `refused N P`, the refusal's number and place; `ask why` says more.
+
+-h, --help        this
+--version         the version
+",
+    )
+}
+
+fn usage() {
+    cli::say(b"report", b"usage: report [FILE]");
+}
+
+// Whether the words are an option that there is not, or too many, which is then said.
+fn are_wrong() -> bool {
+    if is_option(1) {
+        cli::say_word(b"report", b"there is no option ", 1, b"");
+        usage();
+        return true;
+    }
+    if os::arg_count() > 2 {
+        cli::say_word(b"report", b"nothing may stand behind the file: ", 2, b"");
+        usage();
+        return true;
+    }
+    false
 }
 
 fn main() {
-    if !can_read() {
-        os::fail(b"report: standard input");
+    if help() {
+        return;
+    }
+    if are_wrong() {
         return;
     }
     let mut s = [0u8; SCENE];
-    let n = io::read_full(STDIN_FILENO, &mut s);
-    write_report(&s[..n]);
+    let r = cli::read_at(b"report", 1, &mut s);
+    let n = r.count;
+    if r.whole {
+        write_report(&s[..n]);
+    }
 }
