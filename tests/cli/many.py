@@ -1,10 +1,11 @@
 """class, table and pack: each file is one scene, and none is passed over silently."""
 
 import os
+import subprocess
 import time
 from pathlib import Path
 
-from tree import EXAMPLES, LOADER, data, each, example, folder, front, holds, same, test, trouble
+from tree import EXAMPLES, FRONT, LOADER, data, each, example, folder, front, holds, needs, run, same, test, trouble
 
 SCENES = sorted(EXAMPLES.glob("*.scene"))
 VERDICTS = ("cross", "a-in-b", "b-in-a", "apart")
@@ -125,6 +126,19 @@ def a_thousand_files(program):
             same(ended.out.count(b"\n"), 1000)
         # An emulator takes its own time.
         holds(took < (5 if LOADER else 0.2), f"{took:.2f} s")
+
+
+@test
+def progress_is_seen_on_a_terminal_where_it_takes_long():
+    """One of the files is a pipe into which nothing is written for three seconds."""
+    needs("script")
+    with folder() as room:
+        office(room, 3)
+        os.mkfifo(f"{room}/0001x.scene")
+        line = f"(sleep 3; : > {room}/0001x.scene) & '{FRONT}' class {room} > {room}/report; echo status $?; wait"
+        ended = run(["script", "-qec", line, "/dev/null"], stdin=subprocess.DEVNULL)
+        holds(b"files\r" in ended.out and b"status 0" in ended.out, ended.out)
+        holds(Path(room, "report").read_bytes().startswith(b"scenes 4\n"))
 
 
 @test
