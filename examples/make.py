@@ -87,7 +87,8 @@ def examples():
 
 def scene(source, target=None):
     data = texts.scene_of(source)
-    target = target or ("-" if source == "-" else Path(source).with_suffix(".scene"))
+    if target is None:
+        target = "-" if source == "-" else Path(source).with_suffix(".scene")
     refuse_same(source, target)
     write_to(target, data)
     return 0
@@ -134,7 +135,8 @@ def run(words):
 
 
 if __name__ == "__main__":
-    signal.signal(signal.SIGPIPE, signal.SIG_DFL)
+    if hasattr(signal, "SIGPIPE"):  # a reader who has seen enough ends the program, in silence
+        signal.signal(signal.SIGPIPE, signal.SIG_DFL)
     try:
         sys.exit(run(sys.argv[1:]))
     except KeyboardInterrupt:

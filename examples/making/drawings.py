@@ -5,14 +5,13 @@ Nothing is guessed in silence: each change is a note.
 
 from collections import Counter
 from fractions import Fraction
-from itertools import combinations, islice
+from itertools import combinations, count, islice
 from math import lcm
 
 from making import polygons
 from making.files import Wrong, at, shown
 from making.form import COORDINATES, FACE_COUNTS, VERTEX_COUNTS, WEIGHTS
 from making.off import LONGEST_NUMBER, NUMBER, Drawing
-
 
 
 def decimal(number):
@@ -45,7 +44,7 @@ def proper_faces(faces, notes):
     kept = [(line, corners) for line, corners in parted if len(corners) >= 3]
     if len(kept) < len(faces):
         notes.append(f"faces left out, which have fewer than three different corners: {len(faces) - len(kept)}")
-    repeats = sum(0 < len(now) < len(corners) for (_, corners), (_, now) in zip(faces, parted) if len(now) >= 3)
+    repeats = sum(len(now) < len(corners) for (_, corners), (_, now) in zip(faces, parted) if len(now) >= 3)
     if repeats:
         notes.append(f"faces in which a corner follows an equal one, and is left out: {repeats}")
     return kept
@@ -91,8 +90,8 @@ class Cutting:
             many, made = len(self.polygons), sum(len(corners) - 2 for corners in self.polygons)
             notes.append(f"faces of more than three corners: {many}, cut into {made} triangles; not convex: {self.not_convex}")
         if self.through_infinity:
-            count = self.through_infinity
-            notes.append(f"faces of weights of both signs or 0: {count}, cut from the first corner, where another cut may be meant")
+            many = self.through_infinity
+            notes.append(f"faces of weights of both signs or 0: {many}, cut from the first corner, where another cut may be meant")
 
 
 def cut_into_triangles(path, rows, faces, notes):
@@ -141,9 +140,8 @@ def fits(number):
 
 def fitting_scale(numbers):
     """The smallest power of ten, 1 or more, that makes all numbers whole, or else the greatest with which they have room."""
-    greatest, power = max(map(abs, numbers), default=Fraction(0)), 0
-    while not fits(greatest * Fraction(10) ** power):
-        power -= 1
+    greatest = max(map(abs, numbers), default=Fraction(0))
+    power = next(-k for k in count() if fits(greatest / 10 ** k))
     while fits(greatest * Fraction(10) ** (power + 1)) and any((n * Fraction(10) ** power).denominator > 1 for n in numbers):
         power += 1
     return "1" + "0" * power if power >= 0 else "0." + "0" * (-power - 1) + "1"
@@ -204,9 +202,9 @@ def note_rounding(before, rows, triangles, cut, notes):
 
 
 def note_limits(rows, triangles, notes):
-    for what, count, counts in (("vertices", len(rows), VERTEX_COUNTS), ("triangles", len(triangles), FACE_COUNTS)):
-        if count not in counts:
-            notes.append(f"{what}: {count}, and a solid of a scene has {counts[0]} to {counts[-1]}: refusal 2")
+    for what, many, counts in (("vertices", len(rows), VERTEX_COUNTS), ("triangles", len(triangles), FACE_COUNTS)):
+        if many not in counts:
+            notes.append(f"{what}: {many}, and a solid of a scene has {counts[0]} to {counts[-1]}: refusal 2")
 
 
 def edges_of(triangles):
@@ -215,7 +213,7 @@ def edges_of(triangles):
 
 
 def note_closed(edges, notes):
-    odd = sorted(edge for edge, count in edges.items() if count % 2)
+    odd = sorted(edge for edge, many in edges.items() if many % 2)
     if odd:
         notes.append(f"the solid is open, edges in an odd number of triangles: {len(odd)}, the first from vertex {odd[0][0]} to vertex "
                      f"{odd[0][1]} (from 0): refusal 9")

@@ -74,10 +74,11 @@ class Drawing:
         self.keyword = self.read_keyword()
         vertices, faces = self.read_counts()
         self.rows = self.read_vertices(vertices)
-        self.faces = self.read_faces(faces)
-        if self.items.peek():
-            word = self.items.next("")
-            self.items.wrong(f"{shown(word)} follows the last of the {faces} faces, behind which nothing may stand")
+        try:
+            self.faces = self.read_faces(faces)
+        except Wrong as wrong:
+            hint = "; several vertices stand on one line: is the keyword COFF or NOFF meant?" if self.crowded else ""
+            raise Wrong(f"{wrong}{hint}") from None
 
     def plain(self, contents):
         """The bytes without a byte order mark; what the text written will not have is noted."""
@@ -118,14 +119,16 @@ class Drawing:
     def read_vertices(self, count):
         """The rows.  Behind a vertex the keyword's numbers must stand on its line; a colour has three or four."""
         behind = self.numbers_behind_vertices()
-        rows = []
+        rows, lines = [], set()
         for k in range(count):
             row = [self.items.number(f"a coordinate of vertex {k}") for _ in range(4 if self.keyword["weight"] else 3)]
             rows.append(tuple((row + [Fraction(1)])[:4]))
+            lines.add(self.items.line)
             more = self.items.rest_of_line("a number") if behind else 0
             if behind and more not in behind:
                 wanted = " or ".join(map(str, behind))
                 self.items.wrong(f"{more} numbers stand behind the coordinates of vertex {k}, and {self.keyword[0]} has {wanted} there")
+        self.crowded = len(lines) < count
         return rows
 
     def numbers_behind_vertices(self):
@@ -149,6 +152,9 @@ class Drawing:
             if colour not in COLOURS:
                 self.items.wrong(f"{colour} numbers follow face {k} on its line, and a colour has one, three or four")
             coloured += colour > 0
+        if self.items.peek():
+            word = self.items.next("")
+            self.items.wrong(f"{shown(word)} follows the last of the {count} faces, behind which nothing may stand")
         if coloured:
             self.notes.append(f"left out: the faces' colours: {coloured}")
         return faces

@@ -8,6 +8,7 @@ import shutil
 import subprocess
 import sys
 import tempfile
+from itertools import product
 from pathlib import Path
 
 ROOT = Path(__file__).resolve().parent.parent.parent
@@ -70,9 +71,9 @@ def inputs(bench):
 
 
 def outputs_that_cannot_be_written(bench):
-    for command, data in inputs(bench):
-        for what, before in ("No space left on device", with_full_output), ("Bad file descriptor", without(1)):
-            bench.said(f"{command}: {what}", [command, "-", "-"], 2, f"make.py: standard output: {what}", data=data, before=before)
+    troubles = ("No space left on device", with_full_output), ("Bad file descriptor", without(1))
+    for (command, data), (what, before) in product(inputs(bench), troubles):
+        bench.said(f"{command}: {what}", [command, "-", "-"], 2, f"make.py: standard output: {what}", data=data, before=before)
     bench.said("help: no space", ["--help"], 2, "make.py: standard output: No space left on device", before=with_full_output)
     alone = bench.run(["off", "-", "-"], TETRAHEDRON, without(2))
     bench.check("a closed standard error", alone == (0, b"OFF\n" + TETRAHEDRON, ""), alone)
@@ -84,6 +85,7 @@ def files_that_cannot_be_written(bench):
     bench.said("a full device", ["scene", "mine.txt", "/dev/full"], 2, "make.py: /dev/full: No space left on device")
     bench.said("no folder", ["scene", "mine.txt", "no/where"], 2, "make.py: no/where: No such file or directory")
     bench.said("a folder", ["scene", "mine.txt", "."], 2, "make.py: .: Is a directory")
+    bench.said("no name", ["scene", "mine.txt", ""], 2, "make.py: : Is a directory")
     bench.said("a disk that fills", ["scene", "mine.txt"], 2, "make.py: mine.scene: File too large", before=with_small_files)
     scene.chmod(0o444)
     bench.said("a file that is not one's own", ["scene", "mine.txt"], 2, "make.py: mine.scene: Permission denied", before=as_nobody)
