@@ -71,7 +71,8 @@ def progress_is_asked_for_on_a_terminal():
         same(played('echo "$*"', program, "x.scene", program=program, stderr=slave), (0, b"--progress x.scene\n", ""))
         same(played('echo "$*"', program, "--help", program=program, stderr=slave), (0, b"--help\n", ""))
         same(played('echo "$*"', program, "x.scene", program=program), (0, b"x.scene\n", ""))
-    same(played('echo "$*"', "pack", "DIR", "x.scene", program="pack", stderr=slave), (0, b"DIR x.scene\n", ""))
+    same(played('echo "$*"', "pack", "DIR", "x.scene", program="pack", stderr=slave), (0, b"--progress DIR x.scene\n", ""))
+    same(played('echo "$*"', "pack", "--progress", "DIR", "x.scene", program="pack"), (0, b"--progress DIR x.scene\n", ""))
     os.close(master)
     os.close(slave)
 
