@@ -11,7 +11,7 @@ VERSION := $(shell sed -n 's/.*b"bodhranhaze \([0-9.]*\)\\n".*/\1/p' crates/cli/
 # class_files is installed as class, and so on: the libraries have the shorter names.
 CRATES = report ask edit map off bench marks merge class_files table_files pack_files
 DOCUMENTS = README.md LICENSE CHANGELOG.md $(wildcard docs/GUIDE.md docs/SCENE.md docs/C.md docs/OFFICE.md)
-COMMANDS = $(notdir $(wildcard packaging/bodhranhaze packaging/bodhranhaze-blocks))
+COMMANDS = bodhranhaze bodhranhaze-blocks
 PAGES = $(notdir $(wildcard packaging/man/*))
 # What examples/make.py imports.
 EXACT = independent/exact.py independent/judge.py

@@ -1,10 +1,11 @@
 """class, table and pack: each file is one scene, and none is passed over silently."""
 
 import os
+import subprocess
 import time
 from pathlib import Path
 
-from tree import EXAMPLES, LOADER, data, each, example, folder, front, holds, same, test, trouble
+from tree import EXAMPLES, FRONT, LOADER, data, each, example, folder, front, holds, needs, run, same, test, trouble
 
 SCENES = sorted(EXAMPLES.glob("*.scene"))
 VERDICTS = ("cross", "a-in-b", "b-in-a", "apart")
@@ -57,16 +58,18 @@ def the_class_of_a_list():
 def a_line_for_each_file():
     ended = front("table", *SCENES)
     same((ended.status, ended.err), (0, ""))
-    lines = ended.out.decode().splitlines()
+    heading, *lines = ended.out.decode().splitlines()
+    same(heading, "name\tverdict\tA in B\tB in A\tpairs\twhy")
     same(len(lines), len(SCENES))
     for path, line in zip(SCENES, lines):
         name, first, *rest = line.split("\t")
         wanted = told(path.stem)
         same((name, first), (str(path), wanted[0]))
+        same(len(rest), 4)
         if first in VERDICTS:
-            same(tuple(rest[:3]), wanted[1:])
+            same(tuple(rest), (*wanted[1:], ""))
         else:
-            holds(rest[-1], line)
+            holds(rest[:3] == ["", "", ""] and rest[3], line)
 
 
 @test
@@ -94,7 +97,7 @@ def one_bad_file_costs_no_other(kind):
         same((ended.status, ended.err), (0, ""))
         lines = ended.out.decode().splitlines()
         same((lines[0], sum(int(line.split()[1]) for line in lines[1:5])), ("scenes 12", 11))
-        table = front("table", room).out.decode().splitlines()
+        table = front("table", room).out.decode().splitlines()[1:]
         same(len(table), 12)
         same(table[5].split("\t")[1], refusal)
 
@@ -104,7 +107,12 @@ def a_file_that_cannot_be_read_is_trouble(program):
     with folder() as room:
         office(room, 3)
         os.symlink("nowhere", f"{room}/0001x.scene")
-        trouble(front(program, room)._replace(out=b""), program, f"{room}/0001x.scene: No such file or directory")
+        ended = front(program, room)
+        trouble(ended._replace(out=b""), program, f"{room}/0001x.scene: No such file or directory")
+        if program == "class":
+            same(ended.out, b"")
+        else:
+            same(ended.out.decode().splitlines()[3].split("\t")[:2], [f"{room}/0001x.scene", "not read"])
 
 
 def timed(*words):
@@ -122,9 +130,22 @@ def a_thousand_files(program):
         if program == "class":
             holds(ended.out.startswith(b"scenes 1000\ncross 250\na-in-b 250\nb-in-a 0\napart 500\n"), ended.out)
         else:
-            same(ended.out.count(b"\n"), 1000)
+            same(ended.out.count(b"\n"), 1001)
         # An emulator takes its own time.
         holds(took < (5 if LOADER else 0.2), f"{took:.2f} s")
+
+
+@test
+def progress_is_seen_on_a_terminal_where_it_takes_long():
+    """One of the files is a pipe into which nothing is written for three seconds."""
+    needs("script")
+    with folder() as room:
+        office(room, 3)
+        os.mkfifo(f"{room}/0001x.scene")
+        line = f"(sleep 3; : > {room}/0001x.scene) & '{FRONT}' class {room} > {room}/report; echo status $?; wait"
+        ended = run(["script", "-qec", line, "/dev/null"], stdin=subprocess.DEVNULL)
+        holds(b"files\r" in ended.out and b"status 0" in ended.out, ended.out)
+        holds(Path(room, "report").read_bytes().startswith(b"scenes 4\n"))
 
 
 @test
@@ -146,30 +167,54 @@ def folders_and_files_together():
         ended = front("table", "sub", example("printed.scene"), ".", cwd=room)
         same(ended.status, 0)
         names = [line.split("\t")[0] for line in ended.out.decode().splitlines()]
-        same(names, ["sub/0000.scene", "sub/0001.scene", "sub/0002.scene", str(example("printed.scene")), "./-odd name.scene"])
+        same(names, ["name", "sub/0000.scene", "sub/0001.scene", "sub/0002.scene", str(example("printed.scene")), "./-odd name.scene"])
 
 
-def blocks_in(room):
-    return [Path(room, name) for name in sorted(os.listdir(room))]
+def reports_of(blocks):
+    """The report of all blocks of a folder, each of which holds whole scenes."""
+    reports = b""
+    for name in sorted(os.listdir(blocks)):
+        holds(0 < os.path.getsize(f"{blocks}/{name}") <= 65536, name)
+        reports += front("marks", stdin=f"{blocks}/{name}").out
+    return front("merge", "--reports", str(len(os.listdir(blocks))), stdin=reports).out
 
 
 @test
 def files_are_packed_into_blocks():
     with folder() as room:
         office(room, 200)
+        ended = front("pack", "blocks", ".", cwd=room)
+        same((ended.status, ended.err), (0, ""))
+        lines = [line.split() for line in ended.out.decode().splitlines()]
+        same([name for name, _, _ in lines], sorted(os.listdir(f"{room}/blocks")))
+        same([int(size) for _, _, size in lines], [os.path.getsize(f"{room}/blocks/{name}") for name, _, _ in lines])
+        same(sum(int(scenes) for _, scenes, _ in lines), 200)
+        holds(len(lines) > 1, lines)
+        same(reports_of(f"{room}/blocks"), front("class", room).out)
+
+
+@test
+def what_cannot_stand_in_a_block_is_named():
+    with folder() as room:
+        office(room, 20)
         Path(room, "0007.scene").write_bytes(data("printed.scene")[:-3])
         Path(room, "0008.scene").write_bytes(b"")
         Path(room, "0009.scene").write_bytes(data("refused-14.scene"))
+        Path(room, "0010.scene").write_bytes(data("printed.txt"))
         ended = front("pack", "blocks", ".", cwd=room)
-        for name in ("0007.scene", "0008.scene"):
-            holds(name in ended.err, name, ended.err)
-        holds("0006.scene" not in ended.err, ended.err)
-        blocks = blocks_in(f"{room}/blocks")
-        holds(len(blocks) > 1, blocks)
-        reports = b""
-        for block in blocks:
-            holds(0 < block.stat().st_size <= 65536, block)
-            reports += front("marks", block).out
-        merged = front("merge", "--reports", str(len(blocks)), stdin=reports).out
-        left = 200 - sum(name in ended.err for name in ("0007.scene", "0008.scene", "0009.scene"))
-        same(merged.split(b"\n")[0], f"scenes {left}".encode())
+        same(ended.status, 2)
+        named = [line for line in ended.err.splitlines() if line.startswith("pack: ") and ".scene: " in line]
+        same([line.split(":")[1].strip() for line in named], ["./0007.scene", "./0008.scene", "./0010.scene"])
+        lines = reports_of(f"{room}/blocks").decode().splitlines()
+        holds(lines[0] == "scenes 17" and "refused 14 1" in lines, lines)
+
+
+@test
+def no_block_is_overwritten():
+    with folder() as room:
+        office(room, 3)
+        same(front("pack", "blocks", ".", cwd=room).status, 0)
+        before = Path(room, "blocks/00001.block").read_bytes()
+        Path(room, "0000.scene").write_bytes(data("apart.scene"))
+        trouble(front("pack", "blocks", ".", cwd=room), "pack", "00001.block")
+        same((os.listdir(f"{room}/blocks"), Path(room, "blocks/00001.block").read_bytes()), (["00001.block"], before))

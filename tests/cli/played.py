@@ -2,8 +2,6 @@
 
 import os
 import pty
-import subprocess
-import time
 from pathlib import Path
 
 from tree import ENVIRONMENT, FRONT, each, folder, holds, run, same, test
@@ -66,54 +64,17 @@ def only_the_opening_of_an_edit_decides():
         same(played(f"echo '{lines}' >&2", "--refusals", "edit", program="edit").status, 1)
 
 
-def on_a_terminal(script, *words):
-    """A run with standard error on a terminal: the exit status, and what was seen there with the second it was seen at."""
-    with folder() as room:
-        Path(room, "class_files").write_text(f"#!/bin/sh\n{script}\n")
-        os.chmod(Path(room, "class_files"), 0o755)
-        master, slave = pty.openpty()
-        environment = {**ENVIRONMENT, "BODHRANHAZE_PROGRAMS": room, "BODHRANHAZE_LOADER": ""}
-        began, seen = time.monotonic(), []
-        with subprocess.Popen([FRONT, *words], stdin=subprocess.DEVNULL, stdout=subprocess.PIPE, stderr=slave, env=environment) as ended:
-            os.close(slave)
-            while True:
-                try:
-                    part = os.read(master, 4096)
-                except OSError:  # the terminal has gone
-                    break
-                seen.append((part, time.monotonic() - began))
-            out = ended.stdout.read()
-            os.close(master)
-        return ended.returncode, out, seen
-
-
 @test
-def progress_is_seen_as_it_goes():
-    script = 'echo "$*"; printf "\\r1 of 2" >&2; sleep 2; printf "\\r2 of 2\\n" >&2'
-    status, out, seen = on_a_terminal(script, "class", "x.scene")
-    same((status, out), (0, b"--progress x.scene\n"))
-    holds(seen[0][0] == b"\r1 of 2" and seen[0][1] < 1.5 and seen[-1][1] > 2, seen)
-
-
-@test
-def trouble_behind_progress_is_2():
-    status, _, seen = on_a_terminal('printf "\\r1 of 2" >&2; printf "\\r      \\rclass: x: gone\\n" >&2', "class", "x.scene")
-    same(status, 2)
-    holds(b"class: x: gone" in b"".join(part for part, _ in seen), seen)
-
-
-@test
-def a_signal_during_progress_is_told():
-    status, _, seen = on_a_terminal('printf "\\r1 of 2" >&2; kill -9 $$', "class", "x.scene")
-    same(status, 137)
-    holds(b"class: ended by signal 9" in b"".join(part for part, _ in seen), seen)
-
-
-@test
-def no_progress_is_asked_for_where_there_is_no_terminal():
-    same(played('echo "$*"', "class", "x.scene", program="class"), (0, b"x.scene\n", ""))
-    status, out, _ = on_a_terminal('echo "$*"', "class", "--help")
-    same((status, out), (0, b"--help\n"))
+def progress_is_asked_for_on_a_terminal():
+    master, slave = pty.openpty()
+    for program in ("class", "table"):
+        same(played('echo "$*"', program, "x.scene", program=program, stderr=slave), (0, b"--progress x.scene\n", ""))
+        same(played('echo "$*"', program, "--help", program=program, stderr=slave), (0, b"--help\n", ""))
+        same(played('echo "$*"', program, "x.scene", program=program), (0, b"x.scene\n", ""))
+    same(played('echo "$*"', "pack", "DIR", "x.scene", program="pack", stderr=slave), (0, b"--progress DIR x.scene\n", ""))
+    same(played('echo "$*"', "pack", "--progress", "DIR", "x.scene", program="pack"), (0, b"--progress DIR x.scene\n", ""))
+    os.close(master)
+    os.close(slave)
 
 
 @test

@@ -13,15 +13,15 @@ def failing(words, path, k, log):
         return ended, "INJECTED" in lines.read()
 
 
-def fails_each_time(words, path, program, room, what):
-    """Whichever read it is that fails, the program says so and answers nothing."""
+def fails_each_time(words, path, program, room, what, rows=False):
+    """Whichever read it is that fails, the program says so and answers nothing, but for rows about other files."""
     needs("strace")
     for k in range(1, 9):
         ended, failed = failing(words, path, k, os.path.join(room, "log"))
         if not failed:
             holds(k > 1, "no read failed")
             return
-        trouble(ended, program, f"{what}: Input/output error")
+        trouble(ended._replace(out=b"") if rows else ended, program, f"{what}: Input/output error")
 
 
 @each(*TAKING)
@@ -56,7 +56,7 @@ def a_read_of_one_of_two_files_fails(title):
 def a_read_of_one_of_many_files_fails(program):
     with folder() as room:
         paths = [example(f"{name}.scene") for name in ("printed", "apart", "a-in-b")]
-        fails_each_time([FRONT, program, *paths], paths[1], program, room, paths[1])
+        fails_each_time([FRONT, program, *paths], paths[1], program, room, paths[1], rows=program == "table")
 
 
 @each("class", "table", "pack")
@@ -64,7 +64,7 @@ def a_list_of_names_cannot_be_read(program):
     first = ["DIR"] if program == "pack" else []
     with folder() as room:
         trouble(front(program, *first, "--names", f"{room}/none", cwd=room), program, f"{room}/none: No such file or directory")
-        trouble(front(program, *first, "--names", room, cwd=room), program, f"{room}: Is a directory")
+        trouble(front(program, *first, "--names", room, cwd=room), program, "Is a directory")
 
 
 @each("report", "ask judge", "edit", f"map{' 1' * 16}", "off --write 1", "marks", "merge")

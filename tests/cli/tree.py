@@ -66,10 +66,10 @@ class Run(NamedTuple):
 
 
 def run(words, stdin=b"", **more):
-    """A command, its standard input given as bytes, a path or an open file; it must end within a minute."""
+    """A command, its standard input given as bytes, a path or an open file; it must end within half a minute."""
     given = {"input": stdin} if isinstance(stdin, bytes) else {"stdin": open(stdin, "rb") if isinstance(stdin, (str, Path)) else stdin}
     more = {"stdout": subprocess.PIPE, "stderr": subprocess.PIPE, "env": ENVIRONMENT, **given, **more}
-    ended = subprocess.run([str(word) for word in words], timeout=60, check=False, **more)
+    ended = subprocess.run([str(word) for word in words], timeout=30, check=False, **more)
     return Run(ended.returncode, ended.stdout, (ended.stderr or b"").decode("utf-8", "replace"))
 
 

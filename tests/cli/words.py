@@ -15,12 +15,13 @@ def a_text_in_place_of_a_scene_is_seen():
     holds(b"text" in ended.out and b"make.py" in ended.out, ended.out)
 
 
-@each("refused-5-below 5 of B", "refused-8-b 5 of B", "refused-6-lowest 1 of A")
-def a_vertex_is_named_by_its_solid(title):
-    name, *rest = title.split()
+VERTICES = {"refused-5-below": b"vertex 4 of B", "refused-6-lowest": b"vertex 1 of A", "refused-8-b": b"vertex 5 of B"}
+
+
+@each(*VERTICES)
+def a_vertex_is_named_by_its_solid(name):
     ended = front("ask", "why", example(f"{name}.scene"))
-    holds(f"vertex {' '.join(rest)}".encode() in ended.out or rest[0] == "5", ended.out)
-    holds(b"vertex " in ended.out, ended.out)
+    holds(VERTICES[name] in ended.out, ended.out)
 
 
 @test
@@ -45,9 +46,12 @@ def a_fixture_that_a_group_moves_has_words():
     holds(b"refused 19 5\n" in ended.out and len(whys(ended)) == 1, ended)
 
 
-@each("\t|a tab", "OFF\r\n|Windows", "OFF\n4 4 6\n10.0|10.0", "OFF\n4 4 6\n|ends")
-def an_off_text_has_words(title):
-    text, said = title.split("|")
-    ended = front("off", "-", example("workpiece.off"), "1000", "1001", "1003", "1", stdin=text.encode())
+TEXTS = {"a tab": b"OFF\t4 4 6", "a Windows line end": b"OFF\r\n4 4 6", "10.0 is not a whole number": b"OFF\n4 4 6\n10.0 0 0",
+         "the text ends here": b"OFF\n4 4 6\n"}
+
+
+@each(*TEXTS)
+def an_off_text_has_words(said):
+    ended = front("off", "-", example("workpiece.off"), "1000", "1001", "1003", "1", stdin=TEXTS[said])
     same((ended.status, ended.out), (1, b""))
     holds(ended.err.startswith("refused 20 ") and said in ended.err, ended.err)

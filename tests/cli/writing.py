@@ -6,7 +6,8 @@ import signal
 import subprocess
 
 from given import IDENTITY, TAKING, given
-from tree import ENVIRONMENT, FRONT, LOADER, NAMES, PROGRAMS, data, each, example, folder, front, holds, run, same, shell, test, trouble
+from tree import (ENVIRONMENT, FRONT, LOADER, NAMES, PROGRAMS, data, each, example, folder, front, holds, needs, run, same, shell, test,
+                  trouble)
 
 FAR = "1000 1001 1003 1".split()
 MORE = {
@@ -67,6 +68,19 @@ def a_program_alone_tells_that_standard_output_is_closed(title):
         words = words_of(title, room)
         ended = shell('"$@" >&-', *LOADER.split(), PROGRAMS / words[0], *words[1:])
         holds(f"{words[0]}: standard output: Bad file descriptor" in ended.err, ended.err)
+
+
+@each("write", "close")
+def a_disk_that_is_full_only_later_is_told(call):
+    """At the second write, or only where the file is closed, as some file servers tell it."""
+    needs("strace")
+    with folder() as room:
+        path = f"{room}/answer"
+        error = "error=ENOSPC:when=2" if call == "write" else "error=ENOSPC:when=1+"
+        line = ["strace", "-f", "-qq", "-o", "/dev/null", "-P", path, "-e", f"inject={call}:{error}"]
+        with open(path, "wb") as file:
+            ended = run([*line, FRONT, "report", example("heaviest.scene")], stdout=file)
+        trouble(ended, "report", "standard output: No space left on device")
 
 
 @each([], ["--refusals"])
