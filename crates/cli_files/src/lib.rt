@@ -61,7 +61,7 @@ pub fn hold_standard() {
 }
 
 // The first word behind `--progress`, where that is the first.
-fn first_word() -> usize
+pub fn first_word() -> usize
     ensures { λ r. ⌜ r ≤ 2 ⌝ }
 {
     if cli::is_word(1, b"--progress") { 2 } else { 1 }
