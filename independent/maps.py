@@ -198,9 +198,11 @@ def selftest(seed, count):
 
 
 def run(program, words, data):
-    """What a program writes on standard output and on standard error."""
+    """What a program writes on standard output, the same on standard error but for words about a refusal, and how many such lines there are."""
     done = subprocess.run([*shlex.split(program), *map(str, words)], input=data, stdout=subprocess.PIPE, stderr=subprocess.PIPE)
-    return done.stdout, done.stderr.decode("latin-1")
+    lines = done.stderr.decode("latin-1").splitlines(keepends=True)
+    others = [line for line in lines if not line.startswith("why: ")]
+    return done.stdout, "".join(others), len(lines) - len(others)
 
 
 def faulty_tables(rng):
@@ -225,16 +227,17 @@ def compare(mapping, clean, report, seed, count):
     for n in range(count):
         data = clean_scene(rng)
         table, new = table_with_image(rng, data, n % 2 == 1)
-        same(f"map {table}", (new, ""), run(mapping, sum(table, []), data), data)
-        same("clean", [(b"clean yes\n", "")] * 2, [run(clean, [], scene) for scene in (data, new)], data)
+        same(f"map {table}", (new, "", 0), run(mapping, sum(table, []), data), data)
+        same("clean", [(b"clean yes\n", "", 0)] * 2, [run(clean, [], scene) for scene in (data, new)], data)
         same(f"report, map {table}", *(run(report, [], scene) for scene in (data, new)), data)
         other = random_scene(rng)
         if len(other) < 400:
-            same("clean", (said_clean(other).encode() + b"\n", ""), run(clean, [], other), other)
+            line = said_clean(other)
+            same("clean", (line.encode() + b"\n", "", int(line.startswith("refused"))), run(clean, [], other), other)
         table = rng.choice(faulty_tables(rng))
         for scene in (data, other):
             new = image(scene, table)
-            expected = (b"", new.line + "\n") if isinstance(new, Refused) else (new, "")
+            expected = (b"", new.line + "\n", 1) if isinstance(new, Refused) else (new, "", 0)
             same(f"map {table}", expected, run(mapping, sum(table, []), scene), scene)
     print(f"{count} clean scenes and their images with one report, and as many refusals")
     return 0

@@ -1,9 +1,11 @@
--- The lines of answers that are not of one enum: a mask by its number, a record with its refusal, the counts above a listing.
+-- The lines of answers that `lines` does not have: a mask by its number, a record with its refusal, the counts above a listing, clean or not.
 -- Assumes nothing.
 use Prim.Native.Nat.{ℕ, _/_, _%_, _^_}
 use mathlib.Core.List.{List, [], _∷_}
 use Rattle.judge.specs.declared.Judged.{Judged}
 use Rattle.judge.specs.declared.Judged.the-variants as judged
+use Rattle.clean.specs.declared.Answer.{Answer}
+use Rattle.clean.specs.declared.Answer.the-variants as clean
 use Rattle.questions.specs.Answers.{MaskSaid, refused, faces-are}
 use Rattle.questions.specs.declared.Counted.{Counted}
 use Rattle.questions.specs.declared.Counted.the-variants as counted
@@ -31,3 +33,8 @@ listingLine (counted.Counts c) = pairsLine (c .pairs)
 abbrev pub listedLine : Listed → Words
 listedLine (listed.Refused r) = refusedLine r
 listedLine (listed.Count n) = pairsLine n
+
+abbrev pub cleanLine : Answer → Words
+cleanLine (clean.Refused r) = refusedLine r
+cleanLine clean.Yes = ascii "clean" ∷ ascii "yes" ∷ []
+cleanLine clean.No = ascii "clean" ∷ ascii "no" ∷ []

@@ -7,7 +7,8 @@ ghost use Rattle.record.specs.Shown.{shown, refusal};
 ghost use Rattle.face_masks.specs.Faces.{valueOf};
 ghost use Rattle.questions.specs.Answers.{faces-are, signOf, piercesOf, maskedOf, enclosedOf, verdictOf, countedOf};
 ghost use Rattle.lines.specs.Lines.{judgedLine, signLine, answerLine, foundLine, countsLine};
-ghost use Rattle.answers.specs.Said.{wordsLine, shownLine, listingLine};
+ghost use Rattle.clean.specs.Answers.{cleanOf};
+ghost use Rattle.answers.specs.Said.{wordsLine, shownLine, listingLine, cleanLine};
 use engine::Engine;
 use face_masks::Mask;
 use judge::Judged;
@@ -122,4 +123,12 @@ pub fn listing(engine: Engine, s: &[u8], out: &mut [u8], at: usize) -> usize
         Counted::Refused(r) => refused(out, at, r),
         Counted::Counts(c) => lines::pairs(out, at, c.pairs),
     }
+}
+
+// Whether no four points lie in one plane.
+pub fn clean(s: &[u8], out: &mut [u8], at: usize) -> usize
+    ensures { λ p. ⌜ Put (now (out .entry)) at (line (cleanLine (cleanOf (now (s .entry))))) (now (out .exit)) p ⌝ }
+{
+    let a = clean::clean(s);
+    said::clean(out, at, a)
 }

@@ -4,6 +4,7 @@ ghost use mathlib.Core.List.{[], _∷_};
 ghost use Rattle.render.specs.Text.{ascii, line};
 ghost use Rattle.render.specs.Put.{Put};
 ghost use Rattle.lines.specs.Lines.{signLine, termsEnding, answerLine, maskLine};
+ghost use Rattle.answers.specs.Said.{cleanLine};
 use face_masks::Mask;
 use lines::refused;
 use orient::Terms;
@@ -98,5 +99,15 @@ pub fn mask(out: &mut [u8], at: usize, a: Masked) -> usize
     match a {
         Masked::Refused(r) => refused(out, at, r),
         Masked::Faces(m, ones) => faces(out, at, m, ones),
+    }
+}
+
+pub fn clean(out: &mut [u8], at: usize, a: clean::Answer) -> usize
+    ensures { λ p. ⌜ Put (now (out .entry)) at (line (cleanLine a)) (now (out .exit)) p ⌝ }
+{
+    match a {
+        clean::Answer::Refused(r) => refused(out, at, r),
+        clean::Answer::Yes => word(out, at, b"clean yes\n"),
+        clean::Answer::No => word(out, at, b"clean no\n"),
     }
 }

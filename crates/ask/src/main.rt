@@ -1,35 +1,20 @@
-// Answers one question, asked on the command line, about the scene on standard input.
-ghost use Prim.Native.Nat.{_≤_};
+// ask [--formula] QUESTION [NUMBER...] [FILE] answers one question about a scene.
+ghost use Prim.Native.Nat.{_≤_, _<_};
 ghost use lib.ListN.{length};
 use crate::words::Asked;
-use crate::words::engine_asked;
-use crate::words::question;
+use crate::words::asked_at;
+use crate::words::count_at;
 use answers::lent;
 use answers::lent::PLACES;
 use answers::lent::TEXT;
 use answers::reports;
+use cli::is_option;
 use engine::Engine;
-use libc::STDIN_FILENO;
-use libc::STDOUT_FILENO;
-use render::word;
+use judge::Judged;
 use scene::Scene;
 
+mod said;
 mod words;
-
-fn usage(out: &mut [u8]) -> usize
-    ensures { λ p. ⌜ p ≤ length (now (out .exit)) ⌝ }
-{
-    let p = word(
-        out,
-        0,
-        b"usage: ask [--formula] judge | sign A B C D | pierces U V F | mask U V S | enclosed V | verdict | record K | counts",
-    );
-    word(
-        out,
-        p,
-        b" | listing [PLACES] | why, a scene on standard input\n",
-    )
-}
 
 // The listing into so many lent places.
 fn lent_listing(engine: Engine, s: &[u8], places: usize, out: &mut [u8]) -> usize
@@ -40,12 +25,13 @@ fn lent_listing(engine: Engine, s: &[u8], places: usize, out: &mut [u8]) -> usiz
     lent::listed(a, &list, out, 0)
 }
 
-// What is answered, but for the rows of a listing.
+// What is answered, but for the rows of a listing. (Words that are no question are not answered.)
 fn answer(engine: Engine, q: Asked, s: &[u8], out: &mut [u8]) -> usize
     ensures { λ p. ⌜ p ≤ length (now (out .exit)) ⌝ }
 {
     match q {
-        Asked::Unknown => usage(out),
+        Asked::Unknown => 0,
+        Asked::NoNumber(_) => 0,
         Asked::Judge => answers::judge(s, out, 0),
         Asked::Sign(a, b, c, d) => answers::sign(s, a, b, c, d, out, 0),
         Asked::Pierces(u, v, f) => answers::pierces(engine, s, u, v, f, out, 0),
@@ -57,53 +43,92 @@ fn answer(engine: Engine, q: Asked, s: &[u8], out: &mut [u8]) -> usize
         Asked::Listing => answers::listing(engine, s, out, 0),
         Asked::Lent(n) => lent_listing(engine, s, n, out),
         Asked::Why => why::why(s, out, 0),
+        Asked::Clean => answers::clean(s, out, 0),
     }
 }
 
-fn write_rows(engine: Engine, s: &[u8], out: &mut [u8]) {
+// Whether they were written.
+fn write_rows(engine: Engine, s: &[u8]) -> bool {
     let mut list = [0u16; PLACES];
-    let r = reports::part(engine, s, 0, &mut list, out);
+    let mut out = [0u8; TEXT];
+    let r = reports::part(engine, s, 0, &mut list, &mut out);
     let end = r.end;
-    io::write_all(STDOUT_FILENO, &out[..end]);
+    cli::write(b"ask", &out[..end])
+}
+
+// Why there is no other answer. `why` has said it.
+fn explain(q: Asked, s: &[u8], answer: &[u8]) {
+    if let Asked::Why = q {
+        return;
+    }
+    let j = judge::judge(s);
+    match j {
+        Judged::Refused(r) => said::scene(s, r),
+        Judged::Accepted => said::rule(answer),
+    }
 }
 
 // A write that fails is the last.
 fn write_answer(engine: Engine, q: Asked, s: &[u8]) {
     let mut out = [0u8; TEXT];
     let end = answer(engine, q, s, &mut out);
-    if !io::write_all(STDOUT_FILENO, &out[..end]) {
+    if !cli::write(b"ask", &out[..end]) {
         return;
     }
     if let Asked::Listing = q {
-        write_rows(engine, s, &mut out);
+        if !write_rows(engine, s) {
+            return;
+        }
+    }
+    if cli::finish(b"ask") {
+        explain(q, s, &out[..end]);
     }
 }
 
-// Where nothing is asked, nothing is read.
-fn read_scene(q: Asked, s: &mut [u8]) -> usize
-    ensures { λ n. ⌜ n ≤ length (now (s .exit)) ⌝ }
-{
-    if let Asked::Unknown = q {
-        return 0;
-    }
-    io::read_full(STDIN_FILENO, s)
-}
-
-fn reply() {
-    let engine = engine_asked();
-    let q = question(engine);
+fn reply(engine: Engine, q: Asked, file: usize) {
     // One byte more than the longest scene tells that the input is too long.
     let mut s = [0u8; Scene::LONGEST + 1];
-    let n = read_scene(q, &mut s);
-    write_answer(engine, q, &s[..n]);
+    let r = cli::read_at(b"ask", file, &mut s);
+    let n = r.count;
+    if r.whole {
+        write_answer(engine, q, &s[..n]);
+    }
+}
+
+// The word at `file` names it, where it is the last.
+fn reply_of(engine: Engine, q: Asked, file: usize)
+    requires { ⌜ file < 20 ⌝ }
+{
+    if is_option(file) {
+        said::no_option(file);
+        return;
+    }
+    if os::arg_count() > file + 1 {
+        said::too_many(file + 1);
+        return;
+    }
+    reply(engine, q, file);
+}
+
+// The name of the question is word i.
+fn ask(engine: Engine, i: usize)
+    requires { ⌜ i < 9 ⌝ }
+{
+    let q = asked_at(i);
+    match q {
+        Asked::Unknown => said::no_question(i),
+        Asked::NoNumber(k) => said::no_number(i, k),
+        _ => reply_of(engine, q, i + count_at(i)),
+    }
 }
 
 fn main() {
-    let mut none = [0u8; 1];
-    // Reading nothing tells an input that can't be read from an empty one.
-    if libc::read(STDIN_FILENO, &mut none[..0]) < 0 {
-        os::fail(b"ask: standard input");
+    if said::help() {
         return;
     }
-    reply();
+    if cli::is_word(1, b"--formula") {
+        ask(Engine::Formula, 2);
+    } else {
+        ask(Engine::Plain, 1);
+    }
 }

@@ -1,10 +1,11 @@
-// The question on the command line.
+// The question on the command line: its name, its numbers, and behind them the file.
 ghost use Prim.Native.Nat.{_<_};
 use check::same;
-use engine::Engine;
 
 pub enum Asked {
     Unknown,
+    // This word is no number, or there is none.
+    NoNumber(usize),
     Judge,
     Sign(usize, usize, usize, usize),
     Pierces(usize, usize, usize),
@@ -16,9 +17,10 @@ pub enum Asked {
     Listing,
     Lent(usize),
     Why,
+    Clean,
 }
 
-enum Number {
+pub enum Number {
     Is(usize),
     None,
 }
@@ -38,7 +40,7 @@ fn with_digit(n: usize, d: usize) -> usize
 }
 
 // The whole number that a word of digits writes.
-fn number_in(word: &[u8]) -> Number {
+pub fn number_in(word: &[u8]) -> Number {
     if word.len() == 0 {
         return Number::None;
     }
@@ -58,21 +60,9 @@ fn number_in(word: &[u8]) -> Number {
     Number::Is(n)
 }
 
-// Where word i of the question stands: behind `--formula`, where that is the first.
-fn place(engine: Engine, i: usize) -> usize
-    requires { ⌜ i < 10 ⌝ }
-{
-    match engine {
-        Engine::Plain => i,
-        Engine::Formula => i + 1,
-    }
-}
-
-fn number_at(engine: Engine, i: usize) -> Number
-    requires { ⌜ i < 10 ⌝ }
-{
+fn number_at(i: usize) -> Number {
     let mut word = [0u8; WORD];
-    let n = os::arg(place(engine, i), &mut word);
+    let n = os::arg(i, &mut word);
     if os::errno() != 0 {
         return Number::None;
     }
@@ -95,12 +85,16 @@ fn without_number(word: &[u8]) -> Asked {
     if same(word, b"why") {
         return Asked::Why;
     }
+    if same(word, b"clean") {
+        return Asked::Clean;
+    }
     Asked::Unknown
 }
 
-fn with_one(engine: Engine, word: &[u8]) -> Asked {
-    let Number::Is(n) = number_at(engine, 2) else {
-        return Asked::Unknown;
+// The number is word i.
+fn with_one(word: &[u8], i: usize) -> Asked {
+    let Number::Is(n) = number_at(i) else {
+        return Asked::NoNumber(i);
     };
     if same(word, b"enclosed") {
         return Asked::Enclosed(n);
@@ -108,82 +102,89 @@ fn with_one(engine: Engine, word: &[u8]) -> Asked {
     if same(word, b"record") {
         return Asked::Record(n);
     }
-    if same(word, b"listing") {
-        return Asked::Lent(n);
-    }
-    Asked::Unknown
+    Asked::Lent(n)
 }
 
-fn with_three(engine: Engine, word: &[u8]) -> Asked {
-    let Number::Is(u) = number_at(engine, 2) else {
-        return Asked::Unknown;
+// The numbers are word i and those behind it.
+fn with_three(word: &[u8], i: usize) -> Asked
+    requires { ⌜ i < 10 ⌝ }
+{
+    let Number::Is(u) = number_at(i) else {
+        return Asked::NoNumber(i);
     };
-    let Number::Is(v) = number_at(engine, 3) else {
-        return Asked::Unknown;
+    let Number::Is(v) = number_at(i + 1) else {
+        return Asked::NoNumber(i + 1);
     };
-    let Number::Is(k) = number_at(engine, 4) else {
-        return Asked::Unknown;
+    let Number::Is(k) = number_at(i + 2) else {
+        return Asked::NoNumber(i + 2);
     };
-    if same(word, b"pierces") {
-        return Asked::Pierces(u, v, k);
-    }
     if same(word, b"mask") {
         return Asked::Mask(u, v, k);
     }
-    Asked::Unknown
+    Asked::Pierces(u, v, k)
 }
 
-fn with_four(engine: Engine, word: &[u8]) -> Asked {
-    let Number::Is(a) = number_at(engine, 2) else {
-        return Asked::Unknown;
+fn with_four(i: usize) -> Asked
+    requires { ⌜ i < 10 ⌝ }
+{
+    let Number::Is(a) = number_at(i) else {
+        return Asked::NoNumber(i);
     };
-    let Number::Is(b) = number_at(engine, 3) else {
-        return Asked::Unknown;
+    let Number::Is(b) = number_at(i + 1) else {
+        return Asked::NoNumber(i + 1);
     };
-    let Number::Is(c) = number_at(engine, 4) else {
-        return Asked::Unknown;
+    let Number::Is(c) = number_at(i + 2) else {
+        return Asked::NoNumber(i + 2);
     };
-    let Number::Is(d) = number_at(engine, 5) else {
-        return Asked::Unknown;
+    let Number::Is(d) = number_at(i + 3) else {
+        return Asked::NoNumber(i + 3);
     };
+    Asked::Sign(a, b, c, d)
+}
+
+// How many numbers a question has. That of `listing` may be left out: a word behind it that is no number is the file.
+fn numbers(word: &[u8], i: usize) -> usize
+    ensures { λ r. ⌜ r < 5 ⌝ }
+{
+    if same(word, b"enclosed") || same(word, b"record") {
+        return 1;
+    }
+    if same(word, b"pierces") || same(word, b"mask") {
+        return 3;
+    }
     if same(word, b"sign") {
-        return Asked::Sign(a, b, c, d);
+        return 4;
     }
-    Asked::Unknown
+    if same(word, b"listing") {
+        if let Number::Is(_) = number_at(i) {
+            return 1;
+        }
+    }
+    0
 }
 
-// The question, of `count` words with the program's own.
-fn asked_by(engine: Engine, count: usize, word: &[u8]) -> Asked {
-    if count == place(engine, 2) {
-        return without_number(word);
-    }
-    if count == place(engine, 3) {
-        return with_one(engine, word);
-    }
-    if count == place(engine, 5) {
-        return with_three(engine, word);
-    }
-    if count == place(engine, 6) {
-        return with_four(engine, word);
-    }
-    Asked::Unknown
-}
-
-// The engine that is asked: that of the formula where the first word says so.
-pub fn engine_asked() -> Engine {
+// How many words the question whose name is word i has, with its name.
+pub fn count_at(i: usize) -> usize
+    requires { ⌜ i < 9 ⌝ }
+    ensures { λ r. ⌜ r < 6 ⌝ }
+{
+    // A word that is longer than any name is read as none.
     let mut word = [0u8; 16];
-    let n = os::arg(1, &mut word);
-    if same(&word[..n], b"--formula") {
-        return Engine::Formula;
-    }
-    Engine::Plain
+    let n = os::arg(i, &mut word);
+    numbers(&word[..n], i + 1) + 1
 }
 
-pub fn question(engine: Engine) -> Asked {
+// The question whose name is word i.
+pub fn asked_at(i: usize) -> Asked
+    requires { ⌜ i < 9 ⌝ }
+{
     let mut word = [0u8; 16];
-    let n = os::arg(place(engine, 1), &mut word);
-    if os::errno() != 0 {
-        return Asked::Unknown;
+    let n = os::arg(i, &mut word);
+    let count = count_at(i);
+    match count {
+        1 => without_number(&word[..n]),
+        2 => with_one(&word[..n], i + 1),
+        4 => with_three(&word[..n], i + 1),
+        _ => with_four(i + 1),
     }
-    asked_by(engine, os::arg_count(), &word[..n])
 }

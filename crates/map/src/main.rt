@@ -1,32 +1,30 @@
-// Writes the image of the scene on standard input under the map on the command line. A refusal is said on standard error, and no byte is
-// written.
-mod asked;
-mod line;
-
+// map M11 M12 ... M44 [FILE] writes the image of a scene under a map, whose entries are the sixteen words, row by row.
 use asked::Asked;
 use asked::Entries;
 use asked::map_of;
 use asked::row_of;
-use libc::STDERR_FILENO;
-use libc::STDIN_FILENO;
-use libc::STDOUT_FILENO;
-use line::refused;
-use maps::Fault;
+use cli::is_option;
 use maps::Imaged;
 use maps::Map;
 use maps::image::image;
 use scene::Scene;
+use words::Word;
 use words::number_at;
+
+mod asked;
+mod line;
+mod said;
+
+// How many words a map has; the file is named behind them.
+const ENTRIES: usize = 16;
+
+const FILE: usize = ENTRIES + 1;
 
 fn row_at(i: usize, j: usize, k: usize, l: usize) -> Entries {
     row_of(number_at(i), number_at(j), number_at(k), number_at(l))
 }
 
-// The sixteen words behind the program's own, row by row, and no more.
 fn map_asked() -> Asked {
-    if os::arg_count() != 17 {
-        return Asked::Wrong;
-    }
     map_of(
         row_at(1, 2, 3, 4),
         row_at(5, 6, 7, 8),
@@ -35,40 +33,57 @@ fn map_asked() -> Asked {
     )
 }
 
-fn say(f: Fault, out: &mut [u8]) {
-    let end = refused(f, out);
-    io::write_all(STDERR_FILENO, &out[0..end]);
+// The first of the sixteen words that is no number.
+fn wrong_word() -> usize {
+    let mut i = 1;
+    while i < ENTRIES {
+        if let Word::None = number_at(i) {
+            return i;
+        }
+        i += 1;
+    }
+    i
 }
 
 fn write_image(s: &[u8], m: Map, out: &mut [u8]) {
     match image(s, m, out) {
-        Imaged::Refused(f) => say(f, out),
+        Imaged::Refused(f) => said::refused(s, f),
         Imaged::Written(n) => {
-            io::write_all(STDOUT_FILENO, &out[0..n]);
+            cli::answer(b"map", &out[0..n]);
         }
     }
 }
 
-fn main() {
-    let m = match map_asked() {
-        Asked::Map(m) => m,
-        Asked::Wrong => {
-            io::write_all(
-                STDERR_FILENO,
-                b"usage: map M11 M12 ... M44, sixteen whole numbers row by row, a scene on standard input\n",
-            );
-            return;
-        }
-    };
+fn run(m: Map) {
     // One byte more than the longest scene tells that the input is too long.
     let mut s = [0u8; Scene::LONGEST + 1];
-    let mut none = [0u8; 1];
-    // Reading nothing tells an input that can't be read from an empty one.
-    if libc::read(STDIN_FILENO, &mut none[..0]) < 0 {
-        os::fail(b"map: standard input");
+    let r = cli::read_at(b"map", FILE, &mut s);
+    let n = r.count;
+    if r.whole {
+        let mut out = [0u8; Scene::LONGEST];
+        write_image(&s[..n], m, &mut out);
+    }
+}
+
+// Behind the map stands a file or nothing.
+fn run_on_file(m: Map) {
+    if is_option(FILE) {
+        said::no_option(FILE);
         return;
     }
-    let n = io::read_full(STDIN_FILENO, &mut s);
-    let mut out = [0u8; Scene::LONGEST];
-    write_image(&s[..n], m, &mut out);
+    if os::arg_count() > FILE + 1 {
+        said::too_many(FILE + 1);
+        return;
+    }
+    run(m);
+}
+
+fn main() {
+    if said::help() {
+        return;
+    }
+    match map_asked() {
+        Asked::Map(m) => run_on_file(m),
+        Asked::Wrong => said::no_map(wrong_word()),
+    }
 }

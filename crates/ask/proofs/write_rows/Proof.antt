@@ -8,20 +8,23 @@ use Rattle.ask.proofs.write_rows.Tie as tie
 slice-aggregate-part : tie.Need-slice-aggregate-part
 slice-aggregate-part c = search needs
 
+slice-aggregate-part-2 : tie.Need-slice-aggregate-part-2
+slice-aggregate-part-2 c = search needs
+
 part-requires : tie.Need-part-requires
 part-requires c κs = search needs
 
-slice-reshare-prefix-write-all : tie.Need-slice-reshare-prefix-write-all
-slice-reshare-prefix-write-all c = search needs
+slice-aggregate-write : tie.Need-slice-aggregate-write
+slice-aggregate-write c = search needs
 
-slice-aggregate-write-all : tie.Need-slice-aggregate-write-all
-slice-aggregate-write-all c = simp length-take (omega arith)
+array-share-prefix-out : tie.Need-array-share-prefix-out
+array-share-prefix-out c = search needs
 
-write-all-requires : tie.Need-write-all-requires
-write-all-requires c κs = search needs
+slice-aggregate-write-2 : tie.Need-slice-aggregate-write-2
+slice-aggregate-write-2 c = simp length-take (omega arith)
 
-same-length : tie.Need-same-length
-same-length c = search needs
+write-requires : tie.Need-write-requires
+write-requires c κs = search needs
 
 returns : tie.Need-returns
 returns c = search needs
@@ -31,9 +34,10 @@ write-rows-spec =
     tie.close
     (tie.spec
     slice-aggregate-part
+    slice-aggregate-part-2
     part-requires
-    slice-reshare-prefix-write-all
-    slice-aggregate-write-all
-    write-all-requires
-    same-length
+    slice-aggregate-write
+    array-share-prefix-out
+    slice-aggregate-write-2
+    write-requires
     returns)

@@ -10,23 +10,26 @@ image-requires c κs = search needs
 enum-known-f : tie.Need-enum-known-f
 enum-known-f c = search needs
 
-say-requires : tie.Need-say-requires
-say-requires c κs = search needs
+refused-requires : tie.Need-refused-requires
+refused-requires c κs = search needs
 
 enum-known-n : tie.Need-enum-known-n
 enum-known-n c = search needs
 
-sub-write-all : tie.Need-sub-write-all
-sub-write-all c = search needs
+slice-aggregate-answer : tie.Need-slice-aggregate-answer
+slice-aggregate-answer c = search needs
 
-part-write-all-start : tie.Need-part-write-all-start
-part-write-all-start c = search needs
+sub-answer : tie.Need-sub-answer
+sub-answer c = search needs
 
-part-write-all-end : tie.Need-part-write-all-end
-part-write-all-end c = search (image-fits, needs)
+part-answer-start : tie.Need-part-answer-start
+part-answer-start c = search needs
 
-write-all-requires : tie.Need-write-all-requires
-write-all-requires c κs = search needs
+part-answer-end : tie.Need-part-answer-end
+part-answer-end c = search (image-fits, needs)
+
+answer-requires : tie.Need-answer-requires
+answer-requires c κs = search needs
 
 same-length : tie.Need-same-length
 same-length c = search needs
@@ -46,12 +49,13 @@ write-image-spec =
     (tie.spec
     image-requires
     enum-known-f
-    say-requires
+    refused-requires
     enum-known-n
-    sub-write-all
-    part-write-all-start
-    part-write-all-end
-    write-all-requires
+    slice-aggregate-answer
+    sub-answer
+    part-answer-start
+    part-answer-end
+    answer-requires
     same-length
     returns
     same-length-2

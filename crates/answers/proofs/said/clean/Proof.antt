@@ -1,9 +1,9 @@
 -- By its cases.
 use Rattle.lines.specs.Laws.{by-case}
-use Rattle.ask_clean.specs.Line.{cleanLine}
+use Rattle.answers.specs.Said.{cleanLine}
 use borrow.Author.Needs.{needs}
-use Rattle.ask_clean.proofs.line.told.Statement.{statement}
-use Rattle.ask_clean.proofs.line.told.Tie as tie
+use Rattle.answers.proofs.said.clean.Statement.{statement}
+use Rattle.answers.proofs.said.clean.Tie as tie
 
 enum-known-a : tie.Need-enum-known-a
 enum-known-a c = search needs
@@ -47,8 +47,8 @@ same-length-3 c = search needs
 returns-3 : tie.Need-returns-3
 returns-3 c = by-case cleanLine (c .before .before .before .before .before .enum-told2 .given .1) (c .before .before .word2 .ensures)
 
-pub told-spec : {M : Type 1} → statement M
-told-spec =
+pub clean-spec : {M : Type 1} → statement M
+clean-spec =
     tie.close
     (tie.spec
     enum-known-a
