@@ -46,8 +46,8 @@ def a_fixture_that_a_group_moves_has_words():
     holds(b"refused 19 5\n" in ended.out and len(whys(ended)) == 1, ended)
 
 
-TEXTS = {"a tab": b"OFF\t4 4 6", "a Windows line end": b"OFF\r\n4 4 6", "10.0 is not a whole number": b"OFF\n4 4 6\n10.0 0 0",
-         "the text ends here": b"OFF\n4 4 6\n"}
+TEXTS = {"a tab": b"OFF\t4 4 6", "a Windows line end": b"OFF\r\n4 4 6", "is not a whole number": b"OFF\n4 4 6\n10.0 0 0",
+         "the text ends here": b"OFF\n4 4 6\n", "a byte order mark": b"\xef\xbb\xbfOFF\n"}
 
 
 @each(*TEXTS)
