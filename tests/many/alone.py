@@ -48,8 +48,10 @@ def killed(office, checks):
     office.forget()
     held = Held(office, office.names()[29])
     process = start(ONE, office.folder)
-    held.reached()
-    room.end(process)
+    try:
+        held.reached()
+    finally:
+        room.end(process)
     held.drop()
     finish(process)
     checks.told("killed at the thirtieth block", run(MERGE, office.folder), office.names()[29:])

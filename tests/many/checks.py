@@ -2,6 +2,8 @@
 
 import subprocess
 
+import room
+
 MOST_SECONDS = 120
 
 
@@ -47,7 +49,11 @@ def start(text, folder):
 
 
 def finish(process):
-    out, words = process.communicate(timeout=MOST_SECONDS)
+    try:
+        out, words = process.communicate(timeout=MOST_SECONDS)
+    except subprocess.TimeoutExpired:
+        room.end(process)
+        raise
     return subprocess.CompletedProcess(process.args, process.returncode, out, words)
 
 
