@@ -4,9 +4,10 @@
     bench.py compare [--program COMMAND] SEED [COUNT]
 
 The words are moves, one after another: `one P X Y Z W`, `two P X Y Z W`, `lecturer N X Y Z W`.  The
-opening and each move print `done` or `refused N P`; the last line is `counts` and six numbers, group
-one's first.  The fixture is held once here, and a group's scene is written from it when it is asked.
-`compare` makes random moves at random benches, some of them damaged, with the program and with this one.
+opening and each move print `done` or `refused N P`, and then `counts` and six numbers, group one's
+first.  The fixture is held once here, and a group's scene is written from it when it is asked.
+`compare` makes random moves at random benches, some of them damaged, with the program and with this
+one, and holds the program to a line in words for each refusal, the opening's with the file refused.
 """
 
 import argparse
@@ -92,7 +93,7 @@ def put_vertex(rows, number, row):
 
 
 def play(first, second, words):
-    """The lines of the opening, of each move and of the counts at the end."""
+    """The lines of the opening and of each move, the counts behind each."""
     bench = Bench()
     moves = [(words[k], *map(int, words[k + 1:k + 6])) for k in range(0, len(words), 6)]
     lines = []
@@ -102,8 +103,9 @@ def play(first, second, words):
             lines.append("done")
         except Refused as refusal:
             lines.append(refusal.line)
-    numbers = [n for group in GROUPS for n in bench.counts(group)]
-    return [*lines, " ".join(map(str, ["counts", *numbers]))]
+        numbers = [n for group in GROUPS for n in bench.counts(group)]
+        lines.append(" ".join(map(str, ["counts", *numbers])))
+    return lines
 
 
 # ---- the comparison ---------------------------------------------------------------------------
@@ -144,6 +146,25 @@ def random_words(rng, first, second):
     return [str(word) for word in words]
 
 
+def words_behind(lines, names, scenes):
+    """How the lines on standard error begin: one for each refusal, the opening's with the name of the scene refused."""
+    begin = ["why: " for line in lines if line.startswith("refused")]
+    refused = [name for name, data in zip(names, scenes) if judge(data)]
+    return [f"why: {refused[0]}: ", *begin[1:]] if refused else begin
+
+
+def differs(program, files, scenes, words):
+    """What is expected and what is found, where they differ; one of the files may be standard input."""
+    names = [name if name == "-" else str(name) for name in files]
+    given = b"".join(data for name, data in zip(names, scenes) if name == "-")
+    done = subprocess.run([*program, *names, *words], input=given, capture_output=True, check=False)
+    expected, found = play(*scenes, words), done.stdout.decode().splitlines()
+    begin = words_behind(expected, [name if name != "-" else "standard input" for name in names], scenes)
+    said = done.stderr.decode().splitlines()
+    is_said = len(said) == len(begin) and all(line.startswith(words) for line, words in zip(said, begin))
+    return None if expected == found and is_said else (expected, begin, found, said)
+
+
 def compare(program, seed, count):
     rng = random.Random(seed)
     with tempfile.TemporaryDirectory() as folder:
@@ -153,10 +174,10 @@ def compare(program, seed, count):
             words = random_words(rng, *scenes)
             for file, data in zip(files, scenes):
                 file.write_bytes(data)
-            done = subprocess.run([*program, *map(str, files), *words], stdin=subprocess.DEVNULL, capture_output=True, check=False)
-            expected, found = play(*scenes, words), done.stdout.decode().splitlines()
-            if expected != found or done.stderr:
-                print(f"difference in {n}: {shlex.join(words)}", *(data.hex() for data in scenes), expected, found, done.stderr, sep="\n")
+            names = rng.choice([files, ["-", files[1]], [files[0], "-"]])
+            found = differs(program, names, scenes, words)
+            if found:
+                print(f"difference in {n}: {shlex.join(words)}", *(data.hex() for data in scenes), *found, sep="\n")
                 return 1
     print(f"{count} benches alike")
     return 0

@@ -159,8 +159,18 @@ def differs(name, data, expected, found):
     return True
 
 
+def counts(merge, text, number, expected):
+    """Asked for as many reports as there are, it prints them merged; asked for one more, nothing, and says how many there are."""
+    more = subprocess.run(shlex.split(f"{merge} --reports {number + 1}"), input=text, capture_output=True)
+    said = f"merge: {number} reports, and {number + 1} are asked for\n"
+    if printed_by(f"{merge} --reports {number}", text) == expected and (more.stdout, more.stderr.decode()) == (b"", said):
+        return True
+    print(f"{number} reports are counted otherwise: {more.stdout + more.stderr}")
+    return False
+
+
 def compare_sets(program, merge, rng, blocks, reports, count):
-    """Sets of blocks: their reports merged; and, where they can stand end to end, the report of that block."""
+    """Sets of blocks: their reports merged and counted; and, where they can stand end to end, the report of that block."""
     end_to_end = 0
     for n in range(count):
         chosen = rng.sample(range(len(blocks)), rng.randrange(6))
@@ -172,12 +182,14 @@ def compare_sets(program, merge, rng, blocks, reports, count):
         found = printed_by(merge, text)
         if differs(f"{n}.reports", text, "\n".join(merged(text.decode())) + "\n", found):
             return False
+        if not counts(merge, text, len(chosen), found):
+            return False
         block = b"".join(blocks[k] for k in chosen)
         if len(block) <= MOST_BYTES and all(ends_whole(blocks[k]) for k in chosen):
             end_to_end += 1
             if differs(f"{n}.block", block, printed_by(program, block), found):
                 return False
-    print(f"{count} sets of reports merged alike, {end_to_end} of them as blocks end to end")
+    print(f"{count} sets of reports merged and counted alike, {end_to_end} of them as blocks end to end")
     return True
 
 
@@ -187,7 +199,7 @@ def refuses(merge, reports):
     wrong = [text[:-1], text + "x", text.replace("mean ", "mean", 1), text.replace("cross ", "cross  ", 1), text.replace("apart ", "apart -", 1)]
     for broken in wrong:
         done = subprocess.run(shlex.split(merge), input=broken.encode(), capture_output=True)
-        if done.stdout or done.stderr.count(b"\n") != 1 or not done.stderr.startswith(b"merge: byte "):
+        if done.stdout or done.stderr.count(b"\n") != 1 or not done.stderr.startswith(b"merge: standard input: no class report"):
             print(f"not refused in one line: {done.stdout + done.stderr}")
             return False
     print(f"{len(wrong)} texts refused")

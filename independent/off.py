@@ -106,8 +106,7 @@ def scene_of(first, second, far, room):
 
 RULES = {2: "a count outside its limits", 5: "a coordinate outside its limits",
          6: "a weight outside its limits, or a vertex of weight 0", 7: "a corner that the text lacks, or two corners equal",
-         8: "a vertex in no face", 9: "an edge in an odd number of its solid's faces", 14: "four numbers that are all 0",
-         20: "outside the form of an OFF text", 21: "a face that is not a triangle"}
+         8: "a vertex in no face", 9: "an edge in an odd number of its solid's faces", 14: "four numbers that are all 0"}
 
 
 def is_of_form(text):
@@ -118,11 +117,39 @@ def is_of_form(text):
     return True
 
 
-def spot(first, second, place):
-    """The text at fault, its line and its column."""
+def shown(item):
+    """An item's first bytes, those that a terminal prints."""
+    text = "".join(chr(byte) if 33 <= byte <= 126 else "?" for byte in item[:24])
+    return text + "..." * (len(item) > 24)
+
+
+def standing(text, place, number):
+    """What stands in a text at the place of a refusal, 20 or 21."""
+    if place == len(text):
+        return "the text ends here, and more must come"
+    item = ITEM.match(text, place).group()
+    if number == 21:
+        return f"a face with {shown(item)} corners, and only triangles without colours are taken"
+    if item.startswith(b"\xef\xbb\xbf"):
+        return "a byte order mark, and none may stand in the text"
+    if b"\t" in item:
+        return "a tab, and only spaces and newlines may stand between numbers"
+    if b"\r" in item:
+        return "a Windows line end (carriage return), and only spaces and newlines may stand between numbers"
+    if place == Items(text, 0).next()[0]:
+        return f'"{shown(item)}" is not OFF or 4OFF'
+    if UNSIGNED.match(item):
+        return f'"{shown(item)}" stands behind the last face, and nothing may follow that'
+    if SIGNED.match(item):
+        return f'"{shown(item)}" has a minus sign, and only coordinates and weights may have one'
+    return f'"{shown(item)}" is not a whole number'
+
+
+def spotted(first, second, place, number):
+    """The text at fault, its line and its column, and what stands there."""
     name, text, place = ("second", second, place - len(first)) if is_of_form(first) else ("first", first, place)
     before = text[:place].split(b"\n")
-    return f"{name} text, line {len(before)}, column {len(before[-1]) + 1}"
+    return f"{name} text, line {len(before)}, column {len(before[-1]) + 1}: {standing(text, place, number)}"
 
 
 def record(first, second, place):
@@ -137,10 +164,8 @@ def record(first, second, place):
 
 def words_of(first, second, number, place):
     if number in (20, 21):
-        where = spot(first, second, place)
-    else:
-        where = record(first, second, place + (number == 8))
-    return f"{where}: {RULES[number]}\n".encode()
+        return f"{spotted(first, second, place, number)}\n".encode()
+    return f"{record(first, second, place + (number == 8))}: {RULES[number]}\n".encode()
 
 
 def answer(first, second, far, room=65536):
@@ -164,7 +189,8 @@ def text_of(rows, faces):
 TETRAHEDRON = [(0, 1, 2), (0, 1, 3), (0, 2, 3), (1, 2, 3)]
 BOX = [(0, 1, 3), (0, 3, 2), (4, 5, 7), (4, 7, 6), (0, 1, 5), (0, 5, 4),
        (2, 3, 7), (2, 7, 6), (0, 2, 6), (0, 6, 4), (1, 3, 7), (1, 7, 5)]
-ODD_WORDS = [b"-1", b"4", b"2", b"+3", b"1.0", b"-", b"--1", b"-0", b"000003", b"3\t", b"\r", b"3x", b"#x\n", b"",
+ODD_WORDS = [b"-1", b"4", b"COFF", b"off", b"\xef\xbb\xbfOFF", b"0.5\t1\r", b"\x7f~!\x80", b"12345678901234567890.234", b"1" * 24 + b".5",
+             b"2", b"+3", b"1.0", b"-", b"--1", b"-0", b"000003", b"3\t", b"\r", b"3x", b"#x\n", b"",
              b"4294967296", b"4294967297", b"18446744073709551616", b"18446744073709551619", b"65536", b"257", b"256",
              b"99999999999999999999999", b"9" * 400, b"0" * 300 + b"3", b"-" + b"0" * 40 + b"7", b"3\r", b"0\t1",
              b"4095", b"4096", b"-4096", b"16", b"17", b"-17", b"OFF", b"32768", b"-32769"]
@@ -214,8 +240,9 @@ def printed_by(program, words, data=b""):
 
 
 def pair_differs(program, names, texts, far):
-    """Whether a program writes otherwise of a pair of texts, or of the solids of their scene."""
-    expected, found = answer(*texts, far), printed_by(program, names + [str(n) for n in far])
+    """Whether a program writes otherwise of a pair of texts, one of which may be standard input, or of the solids of their scene."""
+    given = b"".join(text for name, text in zip(names, texts) if name == "-")
+    expected, found = answer(*texts, far), printed_by(program, names + [str(n) for n in far], given)
     asked = [(expected, found)]
     if expected[0]:
         for k, text in zip("12", texts):
@@ -239,7 +266,7 @@ def compare(program, seed, count):
             for name, text in zip(names, texts):
                 with open(name, "wb") as file:
                     file.write(text)
-            if pair_differs(program, names, texts, far):
+            if pair_differs(program, rng.choice([names, ["-", names[1]], [names[0], "-"]]), texts, far):
                 return 1
             made += not answer(*texts, far)[1]
     print(f"{count} pairs of texts alike, {made} of them scenes whose solids are written alike")

@@ -3,10 +3,11 @@
     session.py run [WORD ...] < scene      prints the steps to standard error, the scene to standard output
     session.py compare [--program COMMAND] SEED [COUNT]
 
-The words are operations, one after another: `move P X Y Z W`, `far X Y Z W`, `reverse F`.  A step's
-line is `counts PAIRS A B` or `refused N P`.  `compare` runs random operations on random, broken and
-empty scenes through the program and holds both outputs to this one; what was written is opened again;
-and where a word is wrong, the program says which and writes nothing.
+The words are operations, one after another: `move P X Y Z W`, `far X Y Z W`, `reverse F`; a last word
+that is none names the file.  A step's line is `counts PAIRS A B` or `refused N P`.  `compare` runs
+random operations on random, broken and empty scenes through the program and holds both outputs to this
+one, and that each refusal has words behind it; what was written is opened again; and where a word is
+wrong or a file is missing, the program says which and writes nothing.
 """
 
 import argparse
@@ -15,6 +16,7 @@ import re
 import shlex
 import subprocess
 import sys
+import tempfile
 
 from exact import Refused, read_scene
 from judge import COORDINATES, FACE_FORM, HEADER_BYTES, POINT_FORM, WEIGHTS
@@ -22,6 +24,7 @@ from scenes import random_scene
 
 NUMBERS_OF = {"move": 5, "far": 4, "reverse": 1}
 NUMBER = re.compile("-?[0-9]+")
+NOTHING_WRITTEN = "why: no scene is written"
 
 
 class Session:
@@ -95,19 +98,19 @@ def check_row(p, row):
 
 
 def operations(words):
-    """The operations that the words say."""
-    while words:
+    """The operations that the words say; a last word that is none names the file."""
+    while words and words[0] in NUMBERS_OF:
         count = NUMBERS_OF[words[0]]
         yield words[0], [int(word) for word in words[1:count + 1]]
         words = words[count + 1:]
 
 
 def first_wrong(words):
-    """The first word, counted from 1, that is no operation's name or none of its numbers; or None."""
+    """The first word, counted from 1, that is no operation's name, none of its numbers and no file's name at the end; or None."""
     at = 0
     while at < len(words):
         if words[at] not in NUMBERS_OF:
-            return at + 1
+            return None if at + 1 == len(words) and not re.match("-.", words[at]) else at + 1
         end = at + 1 + NUMBERS_OF[words[at]]
         for k in range(at + 1, end):
             if k == len(words) or not NUMBER.fullmatch(words[k]):
@@ -159,39 +162,64 @@ def damaged(rng, words):
 
 
 def run(program, words, data):
-    """The lines on standard error, and the bytes on standard output."""
+    """The lines on standard error, of those in words only which they are; and the bytes on standard output."""
     done = subprocess.run(program + words, input=data, capture_output=True, check=False)
-    return done.stderr.decode().splitlines(), done.stdout
+    lines = done.stderr.decode().splitlines()
+    shorter = [re.sub("^(why|note): .+| is wrong or missing; .*", r"\1", line) for line in lines]
+    return [line if line == NOTHING_WRITTEN else short for line, short in zip(lines, shorter)], done.stdout
 
 
-def differs(program, words, data):
-    """What is expected and what is found, where they differ; or None."""
-    found, wrong = run(program, words, data), first_wrong(words)
+def said(data, steps):
+    """What `run` should find."""
+    lines, held = play(data, steps)
+    words = [more for line in lines for more in ([line, "why"] if line.startswith("refused") else [line])]
+    if not data:
+        words.insert(2, "note")
+    return words + [NOTHING_WRITTEN] * (not held), held
+
+
+def expected_of(words, data, name):
+    """The same, where data are in the file of this name and on standard input."""
+    wrong = first_wrong(words)
     if wrong:
-        expected = f"edit: word {wrong} is wrong", b""
-        is_alike = found[0] and found[0][0].startswith((expected[0], "run: ")) and not found[1]
-        return None if is_alike else (expected, found)
-    expected = play(data, operations(words))
-    if found != expected:
-        return expected, found
+        return [f"edit: word {wrong}"], b""
+    steps = list(operations(words))
+    file = words[sum(1 + len(numbers) for _, numbers in steps):]
+    if file and file[0] not in ("-", name):
+        return [f"edit: {file[0]}: No such file or directory"], b""
+    return said(data, steps)
+
+
+def differs(program, words, data, name):
+    """What is expected and what is found, where they differ; or None."""
+    expected = expected_of(words, data, name)
+    found = run(program, words, b"" if name in words else data)
+    if found != expected or not expected[1]:
+        return None if found == expected else (expected, found)
     # What was written is opened again.
-    expected = play(expected[1], [])
-    found = run(program, [], expected[1])
+    expected = said(expected[1], [])
+    found = run(program, ["-"], expected[1])
     return None if found == expected else (expected, found)
 
 
 def compare(program, seed, count):
     rng = random.Random(seed)
-    for n in range(count):
-        data = b"" if n % 10 == 9 else random_scene(rng)
-        steps = [random_step(rng, data) for _ in range(rng.randint(0, 8))]
-        words = [str(word) for name, numbers in steps for word in (name, *numbers)]
-        if n % 5 == 4:
-            words = damaged(rng, words)
-        found = differs(program, words, data)
-        if found:
-            print(f"difference in {n}: {shlex.join(words)}\n{data.hex()}", *found, sep="\n")
-            return 1
+    with tempfile.NamedTemporaryFile() as file:
+        for n in range(count):
+            data = b"" if n % 10 == 9 else random_scene(rng)
+            file.seek(0)
+            file.truncate()
+            file.write(data)
+            file.flush()
+            steps = [random_step(rng, data) for _ in range(rng.randint(0, 8))]
+            words = [str(word) for name, numbers in steps for word in (name, *numbers)]
+            if n % 5 == 4:
+                words = damaged(rng, words)
+            words += rng.choice([[], [file.name], ["-"]])
+            found = differs(program, words, data, file.name)
+            if found:
+                print(f"difference in {n}: {shlex.join(words)}\n{data.hex()}", *found, sep="\n")
+                return 1
     print(f"{count} sessions alike")
     return 0
 

@@ -1,12 +1,13 @@
-// Opens a bench from two scene files and makes the moves of the command line: each answer is a line, and the last line has both groups'
-// counts.
-ghost use Prim.Native.Nat.{_+_, _<_};
+// bench FIRST SECOND [one P X Y Z W | two P X Y Z W | lecturer N X Y Z W]... opens a bench from two scenes and makes the moves of the
+// command line: each answer is a line, and the next has both groups' counts.
+ghost use Prim.Native.Nat.{_+_, _<_, _≤_};
 use benches::Answer;
 use benches::Answered;
 use benches::Bench;
 use benches::Group;
+use cli::is_option;
+use cli::is_word;
 use libc::STDERR_FILENO;
-use libc::STDOUT_FILENO;
 use lines::rows::least;
 use scene::Row;
 use scene::Scene;
@@ -14,6 +15,7 @@ use words::Word;
 use words::number_at;
 
 mod said;
+mod whys;
 
 // The first word of the first move, and how many words a move has: whose it is, and five numbers.
 const FIRST: usize = 3;
@@ -59,11 +61,10 @@ fn is_number(i: usize) -> bool {
     }
 }
 
-// The first word that is wrong or missing, or 0.
-fn wrong_word(count: usize) -> usize {
-    if count < FIRST {
-        return count;
-    }
+// The first word of a move that is wrong or missing, or 0.
+fn wrong_move(count: usize) -> usize
+    requires { ⌜ 3 ≤ count ⌝ }
+{
     let mut i = FIRST;
     while i < count {
         let right = if i % WORDS == FIRST {
@@ -77,6 +78,20 @@ fn wrong_word(count: usize) -> usize {
         i += 1;
     }
     if count % WORDS == FIRST { 0 } else { count }
+}
+
+// The first word that is wrong or missing, or 0.
+fn wrong_word(count: usize) -> usize {
+    if is_option(1) {
+        return 1;
+    }
+    if is_option(2) {
+        return 2;
+    }
+    if count < FIRST {
+        return count;
+    }
+    wrong_move(count)
 }
 
 fn value_at(i: usize) -> i64 {
@@ -114,11 +129,11 @@ fn moved(b: Bench, i: usize) -> Answered
 }
 
 // Whether it was written, as each of the two below.
-fn say(a: Answer) -> bool {
+fn say_answer(a: Answer) -> bool {
     // `refused` and two numbers, each of no more than 20 digits.
     let mut out = [0u8; 50];
     let n = said::answer(&mut out, a);
-    io::write_all(STDOUT_FILENO, &out[0..n])
+    cli::write(b"bench", &out[0..n])
 }
 
 fn say_counts(b: Bench) -> bool {
@@ -126,7 +141,13 @@ fn say_counts(b: Bench) -> bool {
     let t = b.session(Group::Two);
     let mut out = [0u8; 140];
     let n = said::counts(&mut out, s.counts, t.counts);
-    io::write_all(STDOUT_FILENO, &out[0..n])
+    cli::write(b"bench", &out[0..n])
+}
+
+fn say(c: Answered) -> bool {
+    let a = c.answer;
+    let b = c.bench;
+    say_answer(a) && say_counts(b)
 }
 
 // Nothing is played behind an answer that could not be written.
@@ -137,14 +158,15 @@ fn play(first: Bench, count: usize) -> bool
     let mut i = FIRST;
     while i < count {
         let c = moved(b, i);
-        let a = c.answer;
-        if !say(a) {
+        if !say(c) {
             return false;
         }
+        let a = c.answer;
+        whys::moved(a);
         b = c.bench;
         i += WORDS;
     }
-    say_counts(b)
+    true
 }
 
 fn say_usage(k: usize) {
@@ -153,46 +175,45 @@ fn say_usage(k: usize) {
     io::write_all(STDERR_FILENO, &out[0..n]);
 }
 
-// Reading nothing tells a file that can't be read from an empty one.
-fn is_readable(f: i32) -> bool {
-    if f < 0 {
-        return false;
+// The bench of two scenes, and the moves.
+fn use_bench(s: &[u8], t: &[u8], count: usize)
+    requires { ⌜ count < 4194304 ⌝ }
+{
+    let c = benches::open(s, t);
+    if !say(c) {
+        return;
     }
-    let mut none = [0u8; 1];
-    libc::read(f, &mut none[..0]) >= 0
+    let a = c.answer;
+    let b = c.bench;
+    whys::opening(a, s, t);
+    if play(b, count) {
+        cli::finish(b"bench");
+    }
 }
 
-// The file that word i names, open; below 0 where it cannot be read.
-fn file_at(i: usize) -> i32 {
-    let mut name = [0u8; 4096];
-    let n = os::arg(i, &mut name);
-    let f = os::open_read(&name[..n]);
-    if !is_readable(f) {
-        os::fail(&name[..n]);
-        return -1;
-    }
-    f
-}
-
-// The bench of two open files, and the moves.
-fn run(f: i32, g: i32, count: usize)
+fn run(count: usize)
     requires { ⌜ count < 4194304 ⌝ }
 {
     // One byte more than the longest scene tells that a file is too long.
     let mut s = [0u8; Scene::LONGEST + 1];
-    let m = io::read_full(f, &mut s);
-    let mut t = [0u8; Scene::LONGEST + 1];
-    let n = io::read_full(g, &mut t);
-    let c = benches::open(&s[..m], &t[..n]);
-    let a = c.answer;
-    if !say(a) {
+    let first = cli::read_at(b"bench", 1, &mut s);
+    if !first.whole {
         return;
     }
-    let b = c.bench;
-    play(b, count);
+    let mut t = [0u8; Scene::LONGEST + 1];
+    let second = cli::read_at(b"bench", 2, &mut t);
+    if !second.whole {
+        return;
+    }
+    let m = first.count;
+    let n = second.count;
+    use_bench(&s[..m], &t[..n], count);
 }
 
 fn main() {
+    if whys::help() {
+        return;
+    }
     // No system passes on so many words.
     let count = least(os::arg_count(), 4194303);
     let k = wrong_word(count);
@@ -200,13 +221,12 @@ fn main() {
         say_usage(k);
         return;
     }
-    let f = file_at(1);
-    if f < 0 {
+    if is_word(1, b"-") && is_word(2, b"-") {
+        cli::say(
+            b"bench",
+            b"one of the two scenes may be standard input, and not both",
+        );
         return;
     }
-    let g = file_at(2);
-    if g < 0 {
-        return;
-    }
-    run(f, g, count);
+    run(count);
 }

@@ -29,7 +29,8 @@ use Rattle.block.specs.Block.{mostBytes, sceneOf, behind, scenesOf, endAt}
 use Rattle.block.specs.Scenes.{scenes-end, scenes-next, scenes-few, byte-left, end-within, scene-here, behind-here}
 use Rattle.class.specs.Most.{mostPairs, pairs-most}
 use Rattle.class.specs.Merge.{made-same}
-use Rattle.class.specs.Tally.{refusedLine, lineOf, pairsIn, markOf, counts, inLine, pairsOf, made, tallyOf, marksOf, reportOf}
+use Rattle.class.specs.Sums.{largest, acceptedIn}
+use Rattle.class.specs.Tally.{refusedLine, lineOf, pairsIn, markOf, counts, inLine, pairsOf, madeBy, made, tallyOf, marksOf, reportOf}
 use Rattle.class.specs.declared.Mark.{Mark}
 use Rattle.class.specs.declared.Tally.{Tally}
 use Rattle.class.specs.declared.Report.the-variants.{Longer, Tallied}
@@ -45,12 +46,17 @@ up l k = set l k (getD l k 0 + 1)
 abbrev pub Few : List ℕ → Type 0
 Few l = (k : ℕ) → k < lines → getD l k 0 ≤ mostBytes
 
--- so the four verdicts can be added
-pub record FewVerdicts (l : List ℕ) : Type 0 where
-  pub cross : getD l 1 0 ≤ mostBytes
-  pub a-in-b : getD l 2 0 ≤ mostBytes
-  pub b-in-a : getD l 3 0 ≤ mostBytes
-  pub apart : getD l 4 0 ≤ mostBytes
+-- what is told of the lines and the pairs
+abbrev pub told : List ℕ → ℕ → Tally
+told l p = madeBy (λ k. getD l k 0) (acceptedIn l) p
+
+pub told-by : (l : List ℕ) (p : ℕ) {a : ℕ} → a ≡ acceptedIn l → madeBy (λ k. getD l k 0) a p ≡ told l p
+told-by l p e = ap (λ (a : ℕ). madeBy (λ k. getD l k 0) a p) e
+
+pub told-made : (l : List ℕ) (p : ℕ) → getD l 1 0 + getD l 2 0 + getD l 3 0 + getD l 4 0 ≤ largest → told l p ≡ made (λ k. getD l k 0) p
+told-made l p h =
+    let e : acceptedIn l ≡ getD l 1 0 + getD l 2 0 + getD l 3 0 + getD l 4 0 = omega arith in
+    ap (λ (a : ℕ). madeBy (λ k. getD l k 0) a p) e
 
 pub record Counting (l : List ℕ) (k : ℕ) : Type 0 where
   pub few : Few l
@@ -73,9 +79,12 @@ line-within (verdict.BInA p) = (omega arith, omega arith)
 line-within verdict.Apart = (omega arith, omega arith)
 line-within (verdict.Refused r) = refused-line (numberOf r)
 
-pub line-some : (s : List ℕ) → 1 ≤ markOf s .line
+pub line-of : (s : List ℕ) → (1 ≤ markOf s .line) × (markOf s .line < lines)
 unfolding markOf
-line-some s = line-within (verdictOf s) .0
+line-of s = line-within (verdictOf s)
+
+pub line-some : (s : List ℕ) → 1 ≤ markOf s .line
+line-some s = line-of s .0
 
 -- from the kernel's answers
 pub line-refused : {v : Verdict} {r : Refusal} {n k : ℕ} → v ≡ verdict.Refused r → n ≡ numberOf r → k ≡ refusedLine n → k ≡ lineOf v
@@ -122,7 +131,7 @@ module _ (s : List ℕ) {d d′ : List ℕ} {o : Surveyed} (x : IsSurvey s d d�
 
 -- ---- how large the sums can grow
 
-in-line-most : (k : ℕ) (ms : List Mark) → inLine k ms ≤ length ms
+pub in-line-most : (k : ℕ) (ms : List Mark) → inLine k ms ≤ length ms
 unfolding inLine
 in-line-most k [] = omega arith
 in-line-most k (m ∷ ms) = go (counts k m) (in-line-most k ms)
@@ -131,7 +140,7 @@ in-line-most k (m ∷ ms) = go (counts k m) (in-line-most k ms)
     go true h = omega arith
     go false h = omega arith
 
-pairs-sum-most : (ss : List (List ℕ)) → pairsOf (map markOf ss) ≤ length ss * mostPairs
+pub pairs-sum-most : (ss : List (List ℕ)) → pairsOf (map markOf ss) ≤ length ss * mostPairs
 unfolding pairsOf markOf
 pairs-sum-most [] = omega arith
 pairs-sum-most (s ∷ ss) = omega (arith, pairs-sum-most ss, pairs-most s, suc-mul (length ss) mostPairs)
@@ -152,11 +161,11 @@ marks-few s = omega (arith, length-map (scenesOf s) markOf, scenes-few s)
 
 -- ---- one more in a line
 
-up-size : (l : List ℕ) (k : ℕ) → length (up l k) ≡ length l
+pub up-size : (l : List ℕ) (k : ℕ) → length (up l k) ≡ length l
 unfolding up
 up-size l k = length-set l k (getD l k 0 + 1)
 
-up-at : (l : List ℕ) (k j : ℕ) → k < length l → getD (up l k) j 0 ≡ more (eqb j k) (getD l j 0)
+pub up-at : (l : List ℕ) (k j : ℕ) → k < length l → getD (up l k) j 0 ≡ more (eqb j k) (getD l j 0)
 unfolding up
 up-at l k j h = go (ℕ-discrete j k)
   where
@@ -165,7 +174,7 @@ up-at l k j h = go (ℕ-discrete j k)
     go (no d) = rw (ne-eqb j k d) (getD-set-other l k j (getD l k 0 + 1) 0 d)
 
 -- in the first line, and in its own
-both-at : (l : List ℕ) (k j : ℕ) → length l ≡ lines → 1 ≤ k → k < lines → getD (up (up l 0) k) j 0 ≡ more (eqb j 0 || eqb j k) (getD l j 0)
+pub both-at : (l : List ℕ) (k j : ℕ) → length l ≡ lines → 1 ≤ k → k < lines → getD (up (up l 0) k) j 0 ≡ more (eqb j 0 || eqb j k) (getD l j 0)
 both-at l k j z a b =
     up-at (up l 0) k j (omega (arith, up-size l 0)) ∙ ap (more (eqb j k)) (up-at l 0 j (omega arith)) ∙ go (ℕ-discrete j 0)
   where
@@ -202,11 +211,6 @@ module _ (block : List ℕ) (at : ℕ) (l : List ℕ) (p : ℕ) (so : Sofar bloc
   pub sofar-few : length block ≤ mostBytes → Few l
   sofar-few h k b = omega (arith, so .each k b, in-line-most k (marksOf block), marks-few block)
 
-  pub verdicts-few : length block ≤ mostBytes → FewVerdicts l
-  verdicts-few h =
-      let f = sofar-few h in
-      record { cross = f 1 (lit< tt); a-in-b = f 2 (lit< tt); b-in-a = f 3 (lit< tt); apart = f 4 (lit< tt) }
-
   module _ (more-left : at < length block) where
     -- the scene that starts here, up to its end e
     module _ (e : ℕ) (ends : e ≡ endAt block at) where
@@ -217,8 +221,7 @@ module _ (block : List ℕ) (at : ℕ) (l : List ℕ) (p : ℕ) (so : Sofar bloc
             (behind-here block at more-left e ends)
 
         pub line-here : (1 ≤ m .line) × (m .line < lines)
-        unfolding markOf
-        line-here = let h = line-within (verdictOf (take (e - at) (drop at block))) in rw is h
+        line-here = let h = line-of (take (e - at) (drop at block)) in rw is h
 
         pub counting-here : length block ≤ mostBytes → Counting l (m .line)
         counting-here h = record { few = sofar-few h; from = line-here .0; to = line-here .1 }
@@ -262,9 +265,14 @@ module _ (block : List ℕ) (at : ℕ) (l : List ℕ) (p : ℕ) (so : Sofar bloc
     unfolding pairsOf
     pairs-are = let h : pairsOf (marksOf (drop at block)) ≡ 0 = ap pairsOf no-marks in omega (arith, so .all)
 
-    pub sofar-end : made (λ k. getD l k 0) p ≡ tallyOf (marksOf block)
+    made-end : made (λ k. getD l k 0) p ≡ tallyOf (marksOf block)
     unfolding tallyOf
-    sofar-end = made-same (λ k. getD l k 0) (λ k. inLine k (marksOf block)) line-is pairs-are
+    made-end = made-same (λ k. getD l k 0) (λ k. inLine k (marksOf block)) line-is pairs-are
+
+    pub sofar-end : length block ≤ mostBytes → told l p ≡ tallyOf (marksOf block)
+    sofar-end h =
+        let f = sofar-few h in
+        told-made l p (omega (arith, f 1 (lit< tt), f 2 (lit< tt), f 3 (lit< tt), f 4 (lit< tt))) ∙ made-end
 
 -- ---- the report of a block
 

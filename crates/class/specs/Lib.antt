@@ -1,6 +1,9 @@
 pub mod Tally
 pub mod Most
 pub mod Merge
+pub mod Sums
 pub mod Counting
+pub mod Files
 pub mod Merging
 pub mod MergingProof
+pub mod FilesProof

@@ -28,12 +28,12 @@ more-sum : (b : Bool) (x y : ℕ) → more b (x + y) ≡ more b x + y
 more-sum true x y = omega arith
 more-sum false x y = refl
 
-in-line-sum : (k : ℕ) (xs ys : List Mark) → inLine k (xs ++ ys) ≡ inLine k xs + inLine k ys
+pub in-line-sum : (k : ℕ) (xs ys : List Mark) → inLine k (xs ++ ys) ≡ inLine k xs + inLine k ys
 unfolding inLine
 in-line-sum k [] ys = omega arith
 in-line-sum k (m ∷ xs) ys = ap (more (counts k m)) (in-line-sum k xs ys) ∙ more-sum (counts k m) (inLine k xs) (inLine k ys)
 
-pairs-sum : (xs ys : List Mark) → pairsOf (xs ++ ys) ≡ pairsOf xs + pairsOf ys
+pub pairs-sum : (xs ys : List Mark) → pairsOf (xs ++ ys) ≡ pairsOf xs + pairsOf ys
 unfolding pairsOf
 pairs-sum [] ys = omega arith
 pairs-sum (m ∷ xs) ys = omega (arith, pairs-sum xs ys)

@@ -52,9 +52,9 @@ unfoldable pub pairsOf : List Mark → ℕ
 pairsOf [] = 0
 pairsOf (m ∷ ms) = m .pairs + pairsOf ms
 
--- f k is what line k says; p are the pairs
-abbrev pub made : (ℕ → ℕ) → ℕ → Tally
-made f p =
+-- f k is what line k says; a are the accepted scenes, p their pairs
+abbrev pub madeBy : (ℕ → ℕ) → (a p : ℕ) → Tally
+madeBy f a p =
     record {
       scenes = f 0;
       cross = f 1;
@@ -71,9 +71,12 @@ made f p =
       «refused_8» = f 12;
       «refused_9» = f 13;
       «refused_14» = f 14;
-      accepted = f 1 + f 2 + f 3 + f 4;
+      accepted = a;
       pairs = p;
     }
+
+abbrev pub made : (ℕ → ℕ) → ℕ → Tally
+made f p = madeBy f (f 1 + f 2 + f 3 + f 4) p
 
 unfoldable pub tallyOf : List Mark → Tally
 tallyOf ms = made (λ k. inLine k ms) (pairsOf ms)

@@ -2,6 +2,7 @@
 ghost use mathlib.Core.Path.{_≡_};
 ghost use Rattle.class.specs.Tally.{reportOf, numberIn, placeIn, meanOf};
 
+pub mod files;
 mod marks;
 
 // How many scenes count in each line of the report, how many were accepted, and the pierced pairs of these.

@@ -3,10 +3,12 @@ ghost use mathlib.Core.Path.{_≡_};
 ghost use Prim.Native.Nat.{_≤_};
 ghost use lib.ListN.{length, getD};
 ghost use Rattle.block.specs.Block.{mostBytes};
-ghost use Rattle.class.specs.Tally.{refusedLine, lineOf, markOf, made, marksOf, tallyOf};
-ghost use Rattle.class.specs.Counting.{Counting, up, FewVerdicts, markBy};
+ghost use Rattle.class.specs.Sums.{acceptedIn};
+ghost use Rattle.class.specs.Tally.{refusedLine, lineOf, markOf, madeBy, marksOf, tallyOf};
+ghost use Rattle.class.specs.Counting.{Counting, up, markBy};
 use crate::Mark;
 use crate::Tally;
+use crate::files::sum;
 use block::part_at;
 use engine::Engine;
 use kernel::facts::survey;
@@ -14,7 +16,7 @@ use questions::Facts;
 use questions::Surveyed;
 use questions::Verdict;
 
-type Lines = [usize; Tally::LINES];
+pub type Lines = [usize; Tally::LINES];
 
 fn refused_line(n: usize) -> usize
     ensures { λ r. ⌜ r ≡ refusedLine n ⌝ }
@@ -47,7 +49,7 @@ fn mark_by(f: Facts) -> Mark
 }
 
 // One scene. Its pairs are counted and not listed.
-fn mark_of(s: &[u8]) -> Mark
+pub fn mark_of(s: &[u8]) -> Mark
     ensures { λ r. ⌜ r ≡ markOf (now (s .entry)) ⌝ }
 {
     let mut none = [0u16; 1];
@@ -70,9 +72,17 @@ fn count_in(lines: &mut Lines, k: usize)
     lines[k] += 1;
 }
 
-fn told(lines: &Lines, pairs: usize) -> Tally
-    requires { ⌜ FewVerdicts (now lines) ⌝ }
-    ensures { λ r. ⌜ r ≡ made (λ k. getD (now (lines .entry)) k 0) pairs ⌝ }
+// The scenes of the four verdicts.
+fn accepted(lines: &Lines) -> usize
+    ensures { λ r. ⌜ r ≡ acceptedIn (now (lines .entry)) ⌝ }
+{
+    let a = sum(lines[1], lines[2]);
+    let b = sum(a, lines[3]);
+    sum(b, lines[4])
+}
+
+pub fn told(lines: &Lines, pairs: usize) -> Tally
+    ensures { λ r. ⌜ r ≡ madeBy (λ k. getD (now (lines .entry)) k 0) (acceptedIn (now (lines .entry))) pairs ⌝ }
 {
     Tally {
         scenes: lines[0],
@@ -90,7 +100,7 @@ fn told(lines: &Lines, pairs: usize) -> Tally
         refused_8: lines[12],
         refused_9: lines[13],
         refused_14: lines[14],
-        accepted: lines[1] + lines[2] + lines[3] + lines[4],
+        accepted: accepted(lines),
         pairs,
     }
 }

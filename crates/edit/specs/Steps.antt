@@ -36,7 +36,9 @@ abbrev pub toldOf : Changed → Counted
 toldOf c = toldBy (c .answer) (c .session .counts)
 
 abbrev pub usageLine : ℕ → Words
-usageLine k = ascii "edit: word" ∷ decimal k ∷ ascii "is wrong or missing; usage: edit [move P X Y Z W | far X Y Z W | reverse F]..." ∷ []
+usageLine k =
+    ascii "edit: word" ∷ decimal k
+    ∷ ascii "is wrong or missing; usage: edit [move P X Y Z W | far X Y Z W | reverse F]... [FILE]" ∷ []
 
 -- a session's scene, where there is room for it: nothing of the empty session
 unfoldable pub sceneWithin : ℕ → List ℕ → List ℕ

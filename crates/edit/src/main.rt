@@ -1,18 +1,22 @@
-// Changes the scene on standard input by the operations on the command line. What each answers goes to standard error, and the scene at
-// the end to standard output.
+// edit [move P X Y Z W | far X Y Z W | reverse F]... [FILE] changes a scene by the operations on the command line. What each answers goes
+// to standard error, and the scene at the end to standard output.
 ghost use Prim.Native.Nat.{_<_};
 use crate::operations::Asked;
-use libc::STDERR_FILENO;
-use libc::STDIN_FILENO;
-use libc::STDOUT_FILENO;
+use cli::is_option;
 use lines::rows::least;
 use scene::Scene;
-use session::Changed;
 use session::Session;
 use words::number_at;
 
 mod operations;
+mod said;
 mod steps;
+
+// The word behind the operations, which names the file where there is one; and the first word that is wrong, or 0.
+struct Words {
+    file: usize,
+    wrong: usize,
+}
 
 // The operation whose name is word i.
 fn operation_at(i: usize) -> Asked
@@ -29,8 +33,17 @@ fn operation_at(i: usize) -> Asked
     operations::operation_of(i, &w[..n], a, b, c, d, e)
 }
 
-// The first word that is wrong, or 0.
-fn wrong_word(count: usize) -> usize
+// Word i is no operation, because of word k: only the last may be a file's name.
+fn words_at(i: usize, k: usize, count: usize) -> Words
+    requires { ⌜ i < count ⌝ }
+{
+    if k == i && i + 1 == count && !is_option(i) {
+        return Words { file: i, wrong: 0 };
+    }
+    Words { file: i, wrong: k }
+}
+
+fn words_of(count: usize) -> Words
     requires { ⌜ count < 4194304 ⌝ }
 {
     let mut i = 1;
@@ -41,39 +54,25 @@ fn wrong_word(count: usize) -> usize
                 i += operations::words_of(o);
             }
             Asked::Wrong(k) => {
-                return k;
+                return words_at(i, k, count);
             }
         }
     }
-    0
+    Words { file: i, wrong: 0 }
 }
 
-fn say(c: Changed) {
-    // `counts` and three numbers, each of no more than 20 digits.
-    let mut out = [0u8; 70];
-    let n = steps::line_of(&mut out, c);
-    io::write_all(STDERR_FILENO, &out[0..n]);
-}
-
-fn say_usage(k: usize) {
-    // Ninety-one bytes, and a number of no more than 20 digits.
-    let mut out = [0u8; 111];
-    let n = steps::usage_of(&mut out, k);
-    io::write_all(STDERR_FILENO, &out[0..n]);
-}
-
-// The session at the end.
-fn play(first: Changed, count: usize) -> Session
+// The session after the operations.
+fn play(first: Session, count: usize) -> Session
     requires { ⌜ count < 4194304 ⌝ }
 {
-    let mut s = first.session;
+    let mut s = first;
     let mut i = 1;
     while i < count {
         let Asked::Operation(o) = operation_at(i) else {
             return s;
         };
         let c = steps::step(s, o);
-        say(c);
+        said::operation(c);
         s = c.session;
         i += operations::words_of(o);
     }
@@ -83,27 +82,44 @@ fn play(first: Changed, count: usize) -> Session
 fn write_scene(s: Session) {
     let mut out = [0u8; Scene::LONGEST];
     let n = steps::scene_in(s, &mut out);
-    io::write_all(STDOUT_FILENO, &out[0..n]);
+    if n == 0 {
+        said::nothing_written();
+        return;
+    }
+    cli::answer(b"edit", &out[0..n]);
+}
+
+// What is said on standard error is about the scene: where that cannot be said, the scene is written all the same.
+fn change(s: &[u8], count: usize)
+    requires { ⌜ count < 4194304 ⌝ }
+{
+    let c = session::open(s);
+    said::opening(s, c);
+    write_scene(play(c.session, count));
+}
+
+fn run(file: usize, count: usize)
+    requires { ⌜ count < 4194304 ⌝ }
+{
+    // One byte more than the longest scene tells that the input is too long.
+    let mut s = [0u8; Scene::LONGEST + 1];
+    let r = cli::read_at(b"edit", file, &mut s);
+    let n = r.count;
+    if r.whole {
+        change(&s[..n], count);
+    }
 }
 
 fn main() {
+    if said::help() {
+        return;
+    }
     // No system passes on so many words.
     let count = least(os::arg_count(), 4194303);
-    let k = wrong_word(count);
-    if k != 0 {
-        say_usage(k);
+    let w = words_of(count);
+    if w.wrong != 0 {
+        said::usage(w.wrong);
         return;
     }
-    let mut none = [0u8; 1];
-    // Reading nothing tells an input that can't be read from an empty one.
-    if libc::read(STDIN_FILENO, &mut none[..0]) < 0 {
-        os::fail(b"edit: standard input");
-        return;
-    }
-    // One byte more than the longest scene tells that the input is too long.
-    let mut s = [0u8; Scene::LONGEST + 1];
-    let n = io::read_full(STDIN_FILENO, &mut s);
-    let c = session::open(&s[..n]);
-    say(c);
-    write_scene(play(c, count));
+    run(w.file, count);
 }

@@ -73,7 +73,7 @@ pub fn usage_of(out: &mut [u8], k: usize) -> usize
     let e = next_word(
         out,
         q,
-        b"is wrong or missing; usage: edit [move P X Y Z W | far X Y Z W | reverse F]...",
+        b"is wrong or missing; usage: edit [move P X Y Z W | far X Y Z W | reverse F]... [FILE]",
     );
     newline(out, e)
 }

@@ -2,6 +2,7 @@
 -- Assumes nothing.
 use Prim.Native.Nat.{ℕ, _-_}
 use mathlib.Core.Path.{_≡_, sym, ap, _∙_}
+use mathlib.Core.Bool.{Bool, true, false}
 use mathlib.Core.List.{List, [], _∷_, _++_}
 use lib.ListN.{length}
 use Rattle.render.specs.Put.{Put}
@@ -14,6 +15,7 @@ use Rattle.objects.specs.declared.Fault.{Fault}
 use Rattle.objects.specs.declared.Fault.the-variants.{Outside, Sides, OfScene}
 use Rattle.faults.specs.Spots.{lineOf, columnOf}
 use Rattle.faults.specs.Records.{refusalOf, put-as}
+use Rattle.faults.specs.Stands.{standing}
 
 abbrev pub refusedLine : Fault → List ℕ
 refusedLine f = line (ascii "refused" ∷ decimal (numberOf f) ∷ decimal (placeOf f) ∷ [])
@@ -22,18 +24,22 @@ refusedLine f = line (ascii "refused" ∷ decimal (numberOf f) ∷ decimal (plac
 abbrev pub spotted : List ℕ → List ℕ → ℕ → List ℕ
 spotted name s k = name ++ ((32 ∷ decimal (lineOf s k)) ++ (ascii ", column" ++ (32 ∷ decimal (columnOf s k))))
 
--- by the reading of the first text, that at offset k of two: the first is at fault, or else the second
-abbrev pub spottedBy : Reading → List ℕ → List ℕ → ℕ → List ℕ
-spottedBy (reading.At e) a b k = spotted (ascii "second text, line") b (k - length a)
-spottedBy (reading.Outside e) a b k = spotted (ascii "first text, line") a k
-spottedBy (reading.Sides e) a b k = spotted (ascii "first text, line") a k
+-- and what stands there: the size of a face that is not a triangle, or an item outside the form
+abbrev pub faultAt : List ℕ → List ℕ → ℕ → Bool → List ℕ
+faultAt name s k sides = spotted name s k ++ standing sides s k
 
-abbrev pub inTexts : List ℕ → List ℕ → ℕ → List ℕ
-inTexts a b k = spottedBy (formOf a) a b k
+-- by the reading of the first text, at offset k of two: the first is at fault, or else the second
+abbrev pub faultBy : Reading → List ℕ → List ℕ → ℕ → Bool → List ℕ
+faultBy (reading.At e) a b k sides = faultAt (ascii "second text, line") b (k - length a) sides
+faultBy (reading.Outside e) a b k sides = faultAt (ascii "first text, line") a k sides
+faultBy (reading.Sides e) a b k sides = faultAt (ascii "first text, line") a k sides
+
+abbrev pub inTexts : List ℕ → List ℕ → ℕ → Bool → List ℕ
+inTexts a b k sides = faultBy (formOf a) a b k sides
 
 abbrev pub wordsOf : List ℕ → List ℕ → Fault → List ℕ
-wordsOf a b (Outside k) = inTexts a b k ++ ascii ": outside the form of an OFF text\n"
-wordsOf a b (Sides k) = inTexts a b k ++ ascii ": a face that is not a triangle\n"
+wordsOf a b (Outside k) = inTexts a b k false
+wordsOf a b (Sides k) = inTexts a b k true
 wordsOf a b (OfScene r) = refusalOf a b r
 
 abbrev pub faultOf : List ℕ → List ℕ → Fault → List ℕ
@@ -41,18 +47,20 @@ faultOf a b f = refusedLine f ++ wordsOf a b f
 
 -- ---- from the calls' answers: by which case the words were put
 
-module _ {l : List ℕ} {at : ℕ} {m : List ℕ} {p : ℕ} (a b : List ℕ) (k : ℕ) {o : Reading} (q : o ≡ formOf a) where
-  read-put : {x : Reading} → o ≡ x → Put l at (spottedBy x a b k) m p → Put l at (inTexts a b k) m p
-  read-put e x = put-as (ap (λ (r : Reading). spottedBy r a b k) (sym e ∙ q)) x
+module _ {l : List ℕ} {at : ℕ} {m : List ℕ} {p : ℕ} (a b : List ℕ) (k : ℕ) (g : Bool) {o : Reading} (q : o ≡ formOf a) where
+  read-put : {x : Reading} → o ≡ x → Put l at (faultBy x a b k g) m p → Put l at (inTexts a b k g) m p
+  read-put e x = put-as (ap (λ (r : Reading). faultBy r a b k g) (sym e ∙ q)) x
 
-  pub in-second : {e j : ℕ} → o ≡ reading.At e → j ≡ k - length a → Put l at (spotted (ascii "second text, line") b j) m p →
-      Put l at (inTexts a b k) m p
-  in-second e d x = read-put e (put-as (ap (λ (j : ℕ). spotted (ascii "second text, line") b j) d) x)
+  pub in-second : {e j : ℕ} → o ≡ reading.At e → j ≡ k - length a → Put l at (faultAt (ascii "second text, line") b j g) m p →
+      Put l at (inTexts a b k g) m p
+  in-second e d x = read-put e (put-as (ap (λ (j : ℕ). faultAt (ascii "second text, line") b j g) d) x)
 
-  pub in-first : {e : ℕ} → o ≡ reading.Outside e → Put l at (spotted (ascii "first text, line") a k) m p → Put l at (inTexts a b k) m p
+  pub in-first : {e : ℕ} → o ≡ reading.Outside e → Put l at (faultAt (ascii "first text, line") a k g) m p →
+      Put l at (inTexts a b k g) m p
   in-first e x = read-put e x
 
-  pub in-first-face : {e : ℕ} → o ≡ reading.Sides e → Put l at (spotted (ascii "first text, line") a k) m p → Put l at (inTexts a b k) m p
+  pub in-first-face : {e : ℕ} → o ≡ reading.Sides e → Put l at (faultAt (ascii "first text, line") a k g) m p →
+      Put l at (inTexts a b k g) m p
   in-first-face e x = read-put e x
 
 pub fault-put : {l : List ℕ} {at : ℕ} {m : List ℕ} {p : ℕ} (a b : List ℕ) {o x : Fault} → o ≡ x → Put l at (wordsOf a b x) m p →

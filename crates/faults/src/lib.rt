@@ -2,8 +2,9 @@
 ghost use mathlib.Core.Path.{_≡_};
 ghost use Prim.Native.Nat.{_-_};
 ghost use Rattle.render.specs.Put.{Put};
-ghost use Rattle.faults.specs.Faults.{refusedLine, spotted, inTexts, wordsOf, faultOf};
+ghost use Rattle.faults.specs.Faults.{refusedLine, spotted, faultAt, inTexts, wordsOf, faultOf};
 use crate::spots::spot_of;
+use crate::stands::standing;
 use objects::Fault;
 use render::newline;
 use render::next_number;
@@ -12,7 +13,9 @@ use texts::Reading;
 use texts::form;
 
 pub mod records;
+pub mod shown;
 pub mod spots;
+pub mod stands;
 
 pub fn refused(out: &mut [u8], at: usize, f: Fault) -> usize
     ensures { λ p. ⌜ Put (now (out .entry)) at (refusedLine f) (now (out .exit)) p ⌝ }
@@ -40,14 +43,22 @@ pub fn minus(m: usize, n: usize) -> usize
     if m < n { 0 } else { m - n }
 }
 
-// The byte at offset k of two texts, of which the first is at fault or else the second. (The first's end is where the second starts.)
-fn in_texts(out: &mut [u8], at: usize, a: &[u8], b: &[u8], k: usize) -> usize
-    ensures { λ p. ⌜ Put (now (out .entry)) at (inTexts (now (a .entry)) (now (b .entry)) k) (now (out .exit)) p ⌝ }
+// And what stands there.
+fn fault_at(out: &mut [u8], at: usize, name: &[u8], text: &[u8], k: usize, sides: bool) -> usize
+    ensures { λ p. ⌜ Put (now (out .entry)) at (faultAt (now (name .entry)) (now (text .entry)) k sides) (now (out .exit)) p ⌝ }
+{
+    let p = spotted(out, at, name, text, k);
+    standing(out, p, text, k, sides)
+}
+
+// At offset k of two texts, of which the first is at fault or else the second. (The first's end is where the second starts.)
+fn in_texts(out: &mut [u8], at: usize, a: &[u8], b: &[u8], k: usize, sides: bool) -> usize
+    ensures { λ p. ⌜ Put (now (out .entry)) at (inTexts (now (a .entry)) (now (b .entry)) k sides) (now (out .exit)) p ⌝ }
 {
     match form(a) {
-        Reading::At(_) => spotted(out, at, b"second text, line", b, minus(k, a.len())),
-        Reading::Outside(_) => spotted(out, at, b"first text, line", a, k),
-        Reading::Sides(_) => spotted(out, at, b"first text, line", a, k),
+        Reading::At(_) => fault_at(out, at, b"second text, line", b, minus(k, a.len()), sides),
+        Reading::Outside(_) => fault_at(out, at, b"first text, line", a, k, sides),
+        Reading::Sides(_) => fault_at(out, at, b"first text, line", a, k, sides),
     }
 }
 
@@ -55,18 +66,13 @@ fn words(out: &mut [u8], at: usize, a: &[u8], b: &[u8], f: Fault) -> usize
     ensures { λ p. ⌜ Put (now (out .entry)) at (wordsOf (now (a .entry)) (now (b .entry)) f) (now (out .exit)) p ⌝ }
 {
     match f {
-        Fault::Outside(k) => {
-            let p = in_texts(out, at, a, b, k);
-            word(out, p, b": outside the form of an OFF text\n")
-        }
-        Fault::Sides(k) => {
-            let p = in_texts(out, at, a, b, k);
-            word(out, p, b": a face that is not a triangle\n")
-        }
+        Fault::Outside(k) => in_texts(out, at, a, b, k, false),
+        Fault::Sides(k) => in_texts(out, at, a, b, k, true),
         Fault::OfScene(r) => records::words(out, at, a, b, r),
     }
 }
 
+// No more than 195 bytes: 20 for each of three numbers, 27 for an item, and 108 others.
 pub fn fault(out: &mut [u8], at: usize, a: &[u8], b: &[u8], f: Fault) -> usize
     ensures { λ p. ⌜ Put (now (out .entry)) at (faultOf (now (a .entry)) (now (b .entry)) f) (now (out .exit)) p ⌝ }
 {

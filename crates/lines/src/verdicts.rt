@@ -6,7 +6,7 @@ use questions::Verdict;
 use render::newline;
 use render::word;
 
-fn verdict_word(out: &mut [u8], at: usize, v: Verdict) -> usize
+pub fn verdict_word(out: &mut [u8], at: usize, v: Verdict) -> usize
     ensures { λ p. ⌜ Put (now (out .entry)) at (wordOf v) (now (out .exit)) p ⌝ }
 {
     match v {

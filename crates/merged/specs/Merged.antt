@@ -14,7 +14,7 @@ use Rattle.merged.specs.declared.Merged.the-variants.{Sum, TooLarge, NoR
 
 -- before any text
 abbrev pub nothing : Reading
-nothing = record { at = 0; number = 0; whole = 0; totals = replicate 17 0; longer = false }
+nothing = record { at = 0; number = 0; whole = 0; totals = replicate 17 0; longer = false; reports = 0 }
 
 -- the totals, in the order of the report's lines
 abbrev pub tallyIn : List ℕ → Tally

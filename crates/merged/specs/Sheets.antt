@@ -1,5 +1,5 @@
 -- Reports end to end, read back: what is merged is the sum of their tallies, whatever their order and in whatever pieces the text comes; of
--- blocks that end with a whole scene it is the tally of the blocks end to end. The proofs stand in `SheetsProof`. Assumes nothing.
+-- blocks that end with a whole scene it is the tally of the blocks end to end. So many sheets are read as so many reports. The proofs stand in `SheetsProof`. Assumes nothing.
 use mathlib.Core.Path.{_≡_}
 use mathlib.Core.Bool.{cond}
 use mathlib.Core.List.{List, [], _∷_, _++_}
@@ -14,6 +14,7 @@ use Rattle.class.specs.declared.Tally.{Tally}
 use Rattle.class.specs.declared.Report.{Report}
 use Rattle.class.specs.declared.Report.the-variants.{Longer, Tallied}
 use Rattle.sheet.specs.Sheet.{sheetOf}
+use Rattle.items.specs.Numbers.{largest, atMost}
 use Rattle.totals.specs.declared.Reading.{Reading}
 use Rattle.totals.specs.Totals.{reports, readOf}
 use Rattle.merged.specs.Merged.{nothing, tallyIn, reaches, sumOf}
@@ -83,8 +84,13 @@ abbrev pub reportsOf : List (List ℕ) → List Report
 reportsOf [] = []
 reportsOf (x ∷ l) = reportOf x ∷ reportsOf l
 
+-- n whole reports, and no part of another
+abbrev pub ReadAs : ℕ → Reading → Type 0
+ReadAs n r = (r .at ≡ 0) × (r .reports ≡ atMost largest n)
+
 pub record Sheets : Type 0 where
   pub read-back : (l : List Report) → Each Whole l → sumOf (readOf reports nothing (sheets l)) ≡ told (allFrom (Tallied none) l)
+  pub number : (l : List Report) → ReadAs (length l) (readOf reports nothing (sheets l))
   pub blocks : (l : List (List ℕ)) → Each Kept l →
       sumOf (readOf reports nothing (sheets (reportsOf l))) ≡ told (Tallied (tally (endToEnd l)))
   pub order : (r s : Report) → both r s ≡ both s r

@@ -26,11 +26,11 @@ use Rattle.class.specs.declared.Report.the-variants.{Longer, Tallied}
 use Rattle.sheet.specs.Sheet.{sheetOf}
 use Rattle.totals.specs.declared.Reading.{Reading}
 use Rattle.totals.specs.Totals.{reports, isLetter, held, ends, plus as added, paired, countedOf, nextOf, readOf}
-use Rattle.totals.specs.Leads.{known, held-sum, held-times}
+use Rattle.totals.specs.Leads.{known, held-left, held-sum, held-times}
 use Rattle.merged.specs.Merged.{nothing, tallyIn, reaches, sumOf}
 use Rattle.merged.specs.declared.Merged.the-variants.{Sum, TooLarge}
 use Rattle.merged.specs.Lines.{after, tallied-lead, refused-lead}
-use Rattle.merged.specs.Sheets.{both, allFrom, none, sheets, numbersOf, told, Whole, Kept, endToEnd, reportsOf, Sheets}
+use Rattle.merged.specs.Sheets.{both, allFrom, none, sheets, numbersOf, told, Whole, Kept, endToEnd, reportsOf, ReadAs, Sheets}
 
 -- ---- the totals behind a report
 
@@ -88,9 +88,9 @@ held-same (n ∷ l) h = go (leb largest n) refl h (held-same l)
     go true e z rest = absurd (false≢true (sym z))
     go false e z rest = let k = leb-false largest n e in λ i. at-most-low largest n (omega arith) i ∷ rest z i
 
-sum-told : (w : ℕ) (t : Tally) → sumOf (known 0 0 w (map held (numbersOf t)) false) ≡ told (Tallied t)
+sum-told : (w k : ℕ) (t : Tally) → sumOf (known 0 0 w (map held (numbersOf t)) false k) ≡ told (Tallied t)
 unfolding sumOf
-sum-told w t = go (reaches (numbersOf t)) refl
+sum-told w k t = go (reaches (numbersOf t)) refl
   where
     go : (b : Bool) → reaches (numbersOf t) ≡ b →
         cond (reaches (map held (numbersOf t))) TooLarge (Sum (Tallied (tallyIn (map held (numbersOf t)))))
@@ -104,27 +104,46 @@ longer-stays : (l : List Report) → allFrom Longer l ≡ Longer
 longer-stays [] = refl
 longer-stays (s ∷ l) = longer-stays l
 
-longer-all : (l : List Report) (w : ℕ) (T : List ℕ) → sumOf (readOf reports (known 0 0 w T true) (sheets l)) ≡ Sum Longer
+longer-all : (l : List Report) (w : ℕ) (T : List ℕ) (k : ℕ) → sumOf (readOf reports (known 0 0 w T true k) (sheets l)) ≡ Sum Longer
 unfolding sumOf sheetOf readOf
-longer-all [] w T = refl
-longer-all (Longer ∷ l) w T = ap sumOf (refused-lead w T true .on (sheets l)) ∙ longer-all l w T
-longer-all (Tallied t ∷ l) w T = ap sumOf (tallied-lead w T true t .on (sheets l)) ∙ longer-all l _ _
+longer-all [] w T k = refl
+longer-all (Longer ∷ l) w T k = ap sumOf (refused-lead w T true k .on (sheets l)) ∙ longer-all l w T _
+longer-all (Tallied t ∷ l) w T k = ap sumOf (tallied-lead w T true k t .on (sheets l)) ∙ longer-all l _ _ _
 
-tallied-all : (l : List Report) (w : ℕ) (t : Tally) → Each Whole l →
-    sumOf (readOf reports (known 0 0 w (map held (numbersOf t)) false) (sheets l)) ≡ told (allFrom (Tallied t) l)
+tallied-all : (l : List Report) (w k : ℕ) (t : Tally) → Each Whole l →
+    sumOf (readOf reports (known 0 0 w (map held (numbersOf t)) false k) (sheets l)) ≡ told (allFrom (Tallied t) l)
 unfolding sheetOf readOf
-tallied-all [] w t h = sum-told w t
-tallied-all (Longer ∷ l) w t h =
-    ap sumOf (refused-lead w (map held (numbersOf t)) false .on (sheets l)) ∙ longer-all l w (map held (numbersOf t))
+tallied-all [] w k t h = sum-told w k t
+tallied-all (Longer ∷ l) w k t h =
+    ap sumOf (refused-lead w (map held (numbersOf t)) false k .on (sheets l)) ∙ longer-all l w (map held (numbersOf t)) _
     ∙ sym (ap told (longer-stays l))
-tallied-all (Tallied u ∷ l) w t h =
-    ap sumOf (tallied-lead w (map held (numbersOf t)) false u .on (sheets l)
-    ∙ ap (λ (T : List ℕ). readOf reports (known 0 0 (held (meanOf u .whole)) T false) (sheets l)) (after-is t u w (h .0)))
-    ∙ tallied-all l (held (meanOf u .whole)) (plus t u) (h .1)
+tallied-all (Tallied u ∷ l) w k t h =
+    ap sumOf (tallied-lead w (map held (numbersOf t)) false k u .on (sheets l)
+    ∙ ap (λ (T : List ℕ). readOf reports (known 0 0 (held (meanOf u .whole)) T false (held (k + 1))) (sheets l)) (after-is t u w (h .0)))
+    ∙ tallied-all l (held (meanOf u .whole)) (held (k + 1)) (plus t u) (h .1)
 
 read-back : (l : List Report) → Each Whole l → sumOf (readOf reports nothing (sheets l)) ≡ told (allFrom (Tallied none) l)
 unfolding atMost
-read-back l h = tallied-all l 0 none h
+read-back l h = tallied-all l 0 0 none h
+
+-- ---- how many reports were read
+
+one-more : (n : ℕ) {k : ℕ} → k ≡ held n → held (k + 1) ≡ held (n + 1)
+one-more n e = ap (λ (x : ℕ). held (x + 1)) e ∙ held-left n 1
+
+-- m in all, of which n were read before
+number-from : (l : List Report) (w : ℕ) (T : List ℕ) (o : Bool) (k n m : ℕ) → k ≡ held n → n + length l ≡ m →
+    ReadAs m (readOf reports (known 0 0 w T o k) (sheets l))
+unfolding sheetOf readOf
+number-from [] w T o k n m e f = (refl, e ∙ ap held (omega arith))
+number-from (Longer ∷ l) w T o k n m e f =
+    rw (refused-lead w T o k .on (sheets l)) (number-from l w T true _ (n + 1) m (one-more n e) (omega arith))
+number-from (Tallied t ∷ l) w T o k n m e f =
+    rw (tallied-lead w T o k t .on (sheets l)) (number-from l _ _ o _ (n + 1) m (one-more n e) (omega arith))
+
+number : (l : List Report) → ReadAs (length l) (readOf reports nothing (sheets l))
+unfolding atMost
+number l = number-from l 0 (map held (numbersOf none)) false 0 0 (length l) refl (omega arith)
 
 -- ---- blocks end to end
 
@@ -192,4 +211,4 @@ pieces r (b ∷ s) t = go (leb (length reports) (r .at)) refl (pieces (nextOf re
     go false e rest = rest
 
 pub sheets-back : Sheets
-sheets-back = record { read-back = read-back; blocks = blocks; order = order; split = split; pieces = pieces }
+sheets-back = record { read-back = read-back; number = number; blocks = blocks; order = order; split = split; pieces = pieces }

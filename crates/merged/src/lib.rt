@@ -24,6 +24,7 @@ pub fn nothing() -> Reading
         whole: 0,
         totals,
         longer: false,
+        reports: 0,
     }
 }
 

@@ -17,7 +17,7 @@ use borrow.Author.Tests.{le-leb, lt-leb, lt-ltb, leb-true, ltb-true, eq-eqb, ne-
 use Rattle.items.specs.Numbers.{isDigit, largest}
 use Rattle.items.specs.Laws.{at-most-low, at-most-high}
 use Rattle.totals.specs.Totals.{isLetter, held, grown, numberOf, ends, wholeOf, countedOf}
-use Rattle.totals.specs.Totals.{turned, metAt, firstAt, moreAt, onward, begins, startOf, nextOf, readOf}
+use Rattle.totals.specs.Totals.{turned, metAt, firstAt, moreAt, onward, begins, startOf, finished, nextOf, readOf}
 use Rattle.totals.specs.declared.Reading.{Reading}
 
 -- ---- numbers that are held
@@ -70,8 +70,9 @@ is-digit {b} h = rw (le-leb 48 b (h .least), le-leb b 57 (h .most))
 -- ---- one byte
 
 -- what is known at a place, its number so far, and the rest
-abbrev pub known : (at number whole : ℕ) → List ℕ → Bool → Reading
-known at number whole totals longer = record { at = at; number = number; whole = whole; totals = totals; longer = longer }
+abbrev pub known : (at number whole : ℕ) → List ℕ → Bool → ℕ → Reading
+known at number whole totals longer read =
+    record { at = at; number = number; whole = whole; totals = totals; longer = longer; reports = read }
 
 -- a number with the letter c starts at p of the form, and x stands behind it
 pub record Lettered (form : List ℕ) (p c x : ℕ) : Type 0 where
@@ -125,38 +126,42 @@ lettered form p ok =
       more-on = lt-leb (length form) (p + 1) (omega arith);
     }
 
-module _ (form : List ℕ) (p c x : ℕ) (f : Lettered form p c x) (whole : ℕ) (totals : List ℕ) (longer : Bool) where
-  first-digit : (b : ℕ) → isDigit b ≡ true → nextOf form (known p 0 whole totals longer) b ≡ known (p + 1) (grown 0 b) whole totals longer
-  unfolding nextOf startOf begins onward firstAt numberOf wholeOf countedOf ends isLetter
-  first-digit b d = rw (f .inside, f .first, f .room, d)
+module _ (form : List ℕ) (p c x : ℕ) (f : Lettered form p c x) (whole : ℕ) (totals : List ℕ) (longer : Bool) (k : ℕ) where
+  first-digit : (b : ℕ) → isDigit b ≡ true →
+      nextOf form (known p 0 whole totals longer k) b ≡ known (p + 1) (grown 0 b) whole totals longer k
+  unfolding nextOf startOf begins onward firstAt numberOf wholeOf countedOf ends isLetter finished
+  first-digit b d = rw (f .inside, f .first, f .room, d, f .second)
 
   more-digit : (n b : ℕ) → isDigit b ≡ true →
-      nextOf form (known (p + 1) n whole totals longer) b ≡ known (p + 1) (grown n b) whole totals longer
-  unfolding nextOf startOf begins onward moreAt numberOf wholeOf countedOf ends
-  more-digit n b d = rw (f .second, f .letter, f .more-room, f .no-first, f .is-letter, d)
+      nextOf form (known (p + 1) n whole totals longer k) b ≡ known (p + 1) (grown n b) whole totals longer k
+  unfolding nextOf startOf begins onward moreAt numberOf wholeOf countedOf ends finished
+  more-digit n b d = rw (f .second, f .letter, f .more-room, f .no-first, f .is-letter, d, f .second)
 
-  last-byte : (n : ℕ) → nextOf form (known (p + 1) n whole totals longer) x
+  last-byte : (n : ℕ) → nextOf form (known (p + 1) n whole totals longer k) x
       ≡ known (turned form (p + 1 + 1 + 1)) 0 (wholeOf c x n whole) (countedOf totals c x n whole) longer
+      (finished (turned form (p + 1 + 1 + 1)) k)
   unfolding nextOf startOf begins onward moreAt metAt numberOf
   last-byte n = rw (f .second, f .letter, f .more-room, f .no-first, f .is-letter, f .no-digit, f .last, f .behind, eq-eqb x x refl)
 
   -- ---- the digits of a number, and the byte behind it
 
   more-digits : (n : ℕ) (t : List ℕ) → Each IsDigit t → (rest : List ℕ) →
-      readOf form (known (p + 1) n whole totals longer) (t ++ rest) ≡ readOf form (known (p + 1) (grownBy n t) whole totals longer) rest
+      readOf form (known (p + 1) n whole totals longer k) (t ++ rest) ≡ readOf form (known (p + 1) (grownBy n t) whole totals longer k) rest
   unfolding readOf
   more-digits n [] h rest = refl
   more-digits n (b ∷ t) h rest = rw (f .more-on, more-digit n b (is-digit (h .0))) (more-digits (grown n b) t (h .1) rest)
 
-  digits : (t : List ℕ) → Each IsDigit t → 0 < length t → (rest : List ℕ) → readOf form (known p 0 whole totals longer) (t ++ (x ∷ rest))
+  digits : (t : List ℕ) → Each IsDigit t → 0 < length t → (rest : List ℕ) → readOf form (known p 0 whole totals longer k) (t ++ (x ∷ rest))
       ≡ readOf form
-      (known (turned form (p + 1 + 1 + 1)) 0 (wholeOf c x (grownBy 0 t) whole) (countedOf totals c x (grownBy 0 t) whole) longer) rest
+      (known (turned form (p + 1 + 1 + 1)) 0 (wholeOf c x (grownBy 0 t) whole) (countedOf totals c x (grownBy 0 t) whole) longer
+      (finished (turned form (p + 1 + 1 + 1)) k)) rest
   unfolding readOf
   digits [] h some rest = absurd (omega arith)
   digits (b ∷ t) h some rest =
       rw (f .on, first-digit b (is-digit (h .0)))
       (more-digits (grown 0 b) t (h .1) (x ∷ rest) ∙ rw (f .more-on, last-byte (grownBy (grown 0 b) t)))
 
-  pub number-leads : (n : ℕ) (rest : List ℕ) → readOf form (known p 0 whole totals longer) (decimal n ++ (x ∷ rest))
-      ≡ readOf form (known (turned form (p + 1 + 1 + 1)) 0 (wholeOf c x (held n) whole) (countedOf totals c x (held n) whole) longer) rest
+  pub number-leads : (n : ℕ) (rest : List ℕ) → readOf form (known p 0 whole totals longer k) (decimal n ++ (x ∷ rest))
+      ≡ readOf form (known (turned form (p + 1 + 1 + 1)) 0 (wholeOf c x (held n) whole) (countedOf totals c x (held n) whole) longer
+      (finished (turned form (p + 1 + 1 + 1)) k)) rest
   number-leads n rest = rw (← grown-decimal n) (digits (decimal n) (decimal-digits n) (decimal-some n) rest)

@@ -102,6 +102,10 @@ begins at b = cond (eqb at 0) (eqb b 114) false
 unfoldable pub startOf : (at b : ℕ) → ℕ
 startOf at b = cond (begins at b) refused at
 
+-- one report more where the byte led to the start of the form
+unfoldable pub finished : (at n : ℕ) → ℕ
+finished at n = cond (eqb at 0) (held (n + 1)) n
+
 -- ---- one byte more, and a text, as far as it fits
 
 abbrev pub nextAt : List ℕ → Reading → (at b : ℕ) → Reading
@@ -112,6 +116,7 @@ nextAt form r at b =
       whole = wholeOf (byteAt form at) b (r .number) (r .whole);
       totals = countedOf (r .totals) (byteAt form at) b (r .number) (r .whole);
       longer = cond (begins (r .at) b) true (r .longer);
+      reports = finished (onward form at b) (r .reports);
     }
 
 unfoldable pub nextOf : List ℕ → Reading → ℕ → Reading

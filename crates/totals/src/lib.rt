@@ -3,7 +3,7 @@ ghost use mathlib.Core.Path.{_≡_};
 ghost use mathlib.Core.Bool.{true, cond};
 ghost use Prim.Native.Nat.{_-_};
 ghost use Rattle.totals.specs.Totals.{reports, isLetter, numberOf, wholeOf, ends, plus, paired, countedOf, begins, startOf, nextOf};
-ghost use Rattle.totals.specs.Totals.{readOf, endOf};
+ghost use Rattle.totals.specs.Totals.{finished, readOf, endOf};
 use held::product;
 use held::sum;
 use items::numbers::is_digit;
@@ -14,13 +14,15 @@ mod held;
 mod places;
 
 // What is known between two bytes: the place in the form, its end where a byte did not fit; the number that is being read; the mean's whole
-// part; the totals, which are the 15 lines that count scenes, the pierced pairs and the accepted scenes; and whether a block was refused.
+// part; the totals, which are the 15 lines that count scenes, the pierced pairs and the accepted scenes; whether a block was refused; and
+// how many whole reports were read.
 pub struct Reading {
     pub at: usize,
     pub number: usize,
     pub whole: usize,
     pub totals: [usize; 17],
     pub longer: bool,
+    pub reports: usize,
 }
 
 // What is known where the reading of a text ended.
@@ -121,6 +123,13 @@ fn longer(known: bool, at: usize, b: u8) -> bool
     if begins(at, b) { true } else { known }
 }
 
+// One report more where a byte led to the start of the form.
+fn finished(at: usize, n: usize) -> usize
+    ensures { λ r. ⌜ r ≡ finished at n ⌝ }
+{
+    if at == 0 { sum(n, 1) } else { n }
+}
+
 fn next(form: &[u8], r: Reading, b: u8) -> Reading
     ensures { λ q. ⌜ q ≡ nextOf (now (form .entry)) r b ⌝ }
 {
@@ -130,12 +139,14 @@ fn next(form: &[u8], r: Reading, b: u8) -> Reading
     let w = r.whole;
     let mut totals = r.totals;
     count(&mut totals, c, b, n, w);
+    let to = onward(form, at, b);
     Reading {
-        at: onward(form, at, b),
+        at: to,
         number: number(n, b),
         whole: whole(c, b, n, w),
         totals,
         longer: longer(r.longer, r.at, b),
+        reports: finished(to, r.reports),
     }
 }
 

@@ -11,15 +11,6 @@ pub fn clause(out: &mut [u8], at: usize, words: &[u8], n: usize) -> usize
     number(out, p, n)
 }
 
-// Where: the record, and the byte of the scene.
-pub fn place(out: &mut [u8], at: usize, record: usize, byte: usize) -> usize
-    ensures { λ p. ⌜ Said (now (out .entry)) at (now (out .exit)) p ⌝ }
-{
-    let p = clause(out, at, b"record ", record);
-    let q = clause(out, p, b", byte ", byte);
-    word(out, q, b": ")
-}
-
 pub fn limits(out: &mut [u8], at: usize, low: usize, high: usize) -> usize
     ensures { λ p. ⌜ Said (now (out .entry)) at (now (out .exit)) p ⌝ }
 {

@@ -4,7 +4,7 @@ ghost use Rattle.why.specs.Bounds.{OneByte, InFace};
 ghost use Rattle.why.specs.Said.{Said};
 use crate::clauses::clause;
 use crate::clauses::limits;
-use crate::clauses::place;
+use crate::places::place;
 use crate::records::solid_in;
 use crate::records::start;
 use edges::is_corner;
@@ -18,7 +18,7 @@ fn cornered(s: &[u8], k: usize, b: usize, m: usize, out: &mut [u8], at: usize) -
     ensures { λ p. ⌜ Said (now (out .entry)) at (now (out .exit)) p ⌝ }
 {
     let n = byte(s, b);
-    let p = place(out, at, k, b);
+    let p = place(s, k, b, out, at);
     let q = clause(out, p, b"corner ", m);
     clause(out, q, b" is ", n)
 }
@@ -126,24 +126,33 @@ fn odd_side(s: &[u8], k: usize, b: usize) -> usize
 }
 
 // The edge of vertices v and w, the first of which stands at byte b.
-fn ends(k: usize, b: usize, v: usize, w: usize, out: &mut [u8], at: usize) -> usize
+fn ends(s: &[u8], k: usize, b: usize, v: usize, w: usize, out: &mut [u8], at: usize) -> usize
     ensures { λ p. ⌜ Said (now (out .entry)) at (now (out .exit)) p ⌝ }
 {
-    let p = place(out, at, k, b);
-    let q = clause(out, p, b"the edge of corners ", v);
+    let p = place(s, k, b, out, at);
+    let q = clause(out, p, b"the edge of vertices ", v);
     clause(out, q, b" and ", w)
 }
 
 // It is in n faces.
-fn odd(k: usize, b: usize, v: usize, w: usize, n: usize, out: &mut [u8], at: usize) -> usize
+fn odd(
+    s: &[u8],
+    k: usize,
+    b: usize,
+    v: usize,
+    w: usize,
+    n: usize,
+    out: &mut [u8],
+    at: usize,
+) -> usize
     ensures { λ p. ⌜ Said (now (out .entry)) at (now (out .exit)) p ⌝ }
 {
-    let p = ends(k, b, v, w, out, at);
+    let p = ends(s, k, b, v, w, out, at);
     let q = clause(out, p, b" is in ", n);
     word(
         out,
         q,
-        b" of the solid's faces, and it must be in an even number",
+        b" of the solid's faces, and it must be in an even number of them",
     )
 }
 
@@ -154,5 +163,5 @@ pub fn edge(s: &[u8], k: usize, out: &mut [u8], at: usize) -> usize
     let m = odd_side(s, k, b);
     let v = byte(s, b + m);
     let w = byte(s, b + next(m));
-    odd(k, b + m, v, w, faces_with(s, k, v, w), out, at)
+    odd(s, k, b + m, v, w, faces_with(s, k, v, w), out, at)
 }

@@ -2,8 +2,9 @@
 ghost use Rattle.why.specs.Said.{Said};
 use crate::clauses::clause;
 use crate::clauses::limits;
-use crate::clauses::place;
 use crate::clauses::two_bytes;
+use crate::inputs;
+use crate::places::place;
 use crate::records::start;
 use render::word;
 use scene::Scene;
@@ -33,30 +34,37 @@ fn marked(s: &[u8], k: usize, mark: usize, name: &[u8], out: &mut [u8], at: usiz
 {
     let b = start(s, k);
     let found = read::two(s, b);
-    let p = place(out, at, k, b);
+    let p = place(s, k, b, out, at);
     let q = two_marks(found, mark, out, p);
     named(name, out, q)
 }
 
-fn short(n: usize, out: &mut [u8], at: usize) -> usize
+fn short(s: &[u8], out: &mut [u8], at: usize) -> usize
     ensures { λ p. ⌜ Said (now (out .entry)) at (now (out .exit)) p ⌝ }
 {
-    let p = place(out, at, 0, 0);
-    let q = clause(out, p, b"the scene has ", n);
-    word(out, q, b" bytes, and this record alone takes 6")
+    let p = place(s, 0, 0, out, at);
+    let q = clause(out, p, b"the scene has ", s.len());
+    word(out, q, b" bytes, and the header alone takes 6")
 }
 
 pub fn opening(s: &[u8], out: &mut [u8], at: usize) -> usize
     ensures { λ p. ⌜ Said (now (out .entry)) at (now (out .exit)) p ⌝ }
 {
+    if s.len() == 0 {
+        return word(out, at, b"the input is empty");
+    }
+    if inputs::is_text(s) {
+        return inputs::text(s, out, at);
+    }
     if s.len() < 6 {
-        return short(s.len(), out, at);
+        return short(s, out, at);
     }
     marked(s, 0, Scene::SC, b"SC", out, at)
 }
 
 // The count at byte b is n.
 fn counted(
+    s: &[u8],
     what: &[u8],
     b: usize,
     n: usize,
@@ -67,15 +75,16 @@ fn counted(
 ) -> usize
     ensures { λ p. ⌜ Said (now (out .entry)) at (now (out .exit)) p ⌝ }
 {
-    let p = place(out, at, 0, b);
+    let p = place(s, 0, b, out, at);
     let q = clause(out, p, what, n);
     limits(out, q, low, high)
 }
 
-fn vertices(what: &[u8], b: usize, n: usize, out: &mut [u8], at: usize) -> usize
+fn vertices(s: &[u8], what: &[u8], b: usize, n: usize, out: &mut [u8], at: usize) -> usize
     ensures { λ p. ⌜ Said (now (out .entry)) at (now (out .exit)) p ⌝ }
 {
     counted(
+        s,
         what,
         b,
         n,
@@ -86,10 +95,19 @@ fn vertices(what: &[u8], b: usize, n: usize, out: &mut [u8], at: usize) -> usize
     )
 }
 
-fn faces(what: &[u8], b: usize, n: usize, out: &mut [u8], at: usize) -> usize
+fn faces(s: &[u8], what: &[u8], b: usize, n: usize, out: &mut [u8], at: usize) -> usize
     ensures { λ p. ⌜ Said (now (out .entry)) at (now (out .exit)) p ⌝ }
 {
-    counted(what, b, n, Scene::LEAST_FACES, Scene::MOST_FACES, out, at)
+    counted(
+        s,
+        what,
+        b,
+        n,
+        Scene::LEAST_FACES,
+        Scene::MOST_FACES,
+        out,
+        at,
+    )
 }
 
 pub fn counts(s: &[u8], out: &mut [u8], at: usize) -> usize
@@ -97,15 +115,29 @@ pub fn counts(s: &[u8], out: &mut [u8], at: usize) -> usize
 {
     let h = read::counts(s);
     if !is_within(Scene::LEAST_VERTICES, Scene::MOST_VERTICES, h.vertices_a) {
-        return vertices(b"the vertices of A are ", 2, h.vertices_a, out, at);
+        return vertices(
+            s,
+            b"the number of A's vertices is ",
+            2,
+            h.vertices_a,
+            out,
+            at,
+        );
     }
     if !is_within(Scene::LEAST_FACES, Scene::MOST_FACES, h.faces_a) {
-        return faces(b"the faces of A are ", 3, h.faces_a, out, at);
+        return faces(s, b"the number of A's faces is ", 3, h.faces_a, out, at);
     }
     if !is_within(Scene::LEAST_VERTICES, Scene::MOST_VERTICES, h.vertices_b) {
-        return vertices(b"the vertices of B are ", 4, h.vertices_b, out, at);
+        return vertices(
+            s,
+            b"the number of B's vertices is ",
+            4,
+            h.vertices_b,
+            out,
+            at,
+        );
     }
-    faces(b"the faces of B are ", 5, h.faces_b, out, at)
+    faces(s, b"the number of B's faces is ", 5, h.faces_b, out, at)
 }
 
 // How many bytes there are. (Of a longer input than any scene the rest is not read.)
@@ -127,7 +159,7 @@ pub fn length(s: &[u8], out: &mut [u8], at: usize) -> usize
     ensures { λ p. ⌜ Said (now (out .entry)) at (now (out .exit)) p ⌝ }
 {
     let n = offsets::length_of(s);
-    let p = place(out, at, 0, 2);
+    let p = place(s, 0, 2, out, at);
     let q = clause(out, p, b"the counts ask for ", n);
     held(s.len(), out, q)
 }

@@ -1,4 +1,5 @@
-// Why a scene is refused, in one sentence of plain words: which record, at which byte, which value, and the limit or rule that it breaks.
+// Why a scene is refused, in one sentence of plain words: which vertex, face or other record, at which byte, which value, and the limit or
+// rule that it breaks; or that the input is no scene at all.
 // It is put into a lent buffer at a place, as far as there is room; the answer is the place behind. No contract says which words are put,
 // only where.
 ghost use Rattle.why.specs.Said.{Said};
@@ -11,6 +12,8 @@ use scene::offsets;
 mod clauses;
 mod faces;
 mod header;
+mod inputs;
+mod places;
 mod points;
 mod records;
 

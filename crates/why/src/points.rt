@@ -1,31 +1,37 @@
 // Refusals 5, 6, 8 and 14, of a point in record k, in words.
 ghost use Rattle.why.specs.Said.{Said};
-use crate::clauses::clause;
-use crate::clauses::place;
 use crate::clauses::signed_limits;
-use crate::records::point_in;
+use crate::places::place;
 use crate::records::row_in;
 use crate::records::start;
 use render::signed;
 use render::size;
 use render::word;
 use scene::Scene;
-use scene::read;
 
 // The number at byte b is z.
-fn valued(k: usize, b: usize, what: &[u8], z: i64, out: &mut [u8], at: usize) -> usize
+fn valued(s: &[u8], k: usize, b: usize, what: &[u8], z: i64, out: &mut [u8], at: usize) -> usize
     ensures { λ p. ⌜ Said (now (out .entry)) at (now (out .exit)) p ⌝ }
 {
-    let p = place(out, at, k, b);
+    let p = place(s, k, b, out, at);
     let q = word(out, p, what);
     signed(out, q, z)
 }
 
 // And its size may be `most`.
-fn beyond(k: usize, b: usize, what: &[u8], z: i64, most: usize, out: &mut [u8], at: usize) -> usize
+fn beyond(
+    s: &[u8],
+    k: usize,
+    b: usize,
+    what: &[u8],
+    z: i64,
+    most: usize,
+    out: &mut [u8],
+    at: usize,
+) -> usize
     ensures { λ p. ⌜ Said (now (out .entry)) at (now (out .exit)) p ⌝ }
 {
-    let p = valued(k, b, what, z, out, at);
+    let p = valued(s, k, b, what, z, out, at);
     signed_limits(out, p, most)
 }
 
@@ -35,12 +41,12 @@ pub fn coordinate(s: &[u8], k: usize, out: &mut [u8], at: usize) -> usize
     let r = row_in(s, k);
     let b = start(s, k);
     if size(r.x) > Scene::MOST_COORDINATE {
-        return beyond(k, b + 2, b"x is ", r.x, Scene::MOST_COORDINATE, out, at);
+        return beyond(s, k, b + 2, b"x is ", r.x, Scene::MOST_COORDINATE, out, at);
     }
     if size(r.y) > Scene::MOST_COORDINATE {
-        return beyond(k, b + 4, b"y is ", r.y, Scene::MOST_COORDINATE, out, at);
+        return beyond(s, k, b + 4, b"y is ", r.y, Scene::MOST_COORDINATE, out, at);
     }
-    beyond(k, b + 6, b"z is ", r.z, Scene::MOST_COORDINATE, out, at)
+    beyond(s, k, b + 6, b"z is ", r.z, Scene::MOST_COORDINATE, out, at)
 }
 
 pub fn weight(s: &[u8], k: usize, out: &mut [u8], at: usize) -> usize
@@ -48,7 +54,7 @@ pub fn weight(s: &[u8], k: usize, out: &mut [u8], at: usize) -> usize
 {
     let b = start(s, k) + 8;
     let r = row_in(s, k);
-    let p = beyond(k, b, b"the weight is ", r.w, Scene::MOST_WEIGHT, out, at);
+    let p = beyond(s, k, b, b"the weight is ", r.w, Scene::MOST_WEIGHT, out, at);
     if k < 2 {
         return p;
     }
@@ -59,39 +65,22 @@ pub fn nowhere(s: &[u8], k: usize, out: &mut [u8], at: usize) -> usize
     ensures { λ p. ⌜ Said (now (out .entry)) at (now (out .exit)) p ⌝ }
 {
     let b = start(s, k) + 2;
-    let p = place(out, at, k, b);
+    let p = place(s, k, b, out, at);
     word(
         out,
         p,
-        b"x, y, z and the weight of the far point are all 0, and one must not be",
+        b"x, y, z and the weight are all 0, and one must not be",
     )
-}
-
-// In whose faces vertex i is not, of which the first `a` are A's.
-fn whose(i: usize, a: usize, out: &mut [u8], at: usize) -> usize
-    ensures { λ p. ⌜ Said (now (out .entry)) at (now (out .exit)) p ⌝ }
-{
-    if i <= a {
-        return word(out, at, b" is in no face of A");
-    }
-    let p = clause(out, at, b" is vertex ", i - a);
-    word(out, p, b" of B and in no face of B")
-}
-
-fn vertex(i: usize, a: usize, out: &mut [u8], at: usize) -> usize
-    ensures { λ p. ⌜ Said (now (out .entry)) at (now (out .exit)) p ⌝ }
-{
-    let p = clause(out, at, b"point ", i);
-    whose(i, a, out, p)
 }
 
 pub fn unused(s: &[u8], k: usize, out: &mut [u8], at: usize) -> usize
     ensures { λ p. ⌜ Said (now (out .entry)) at (now (out .exit)) p ⌝ }
 {
-    let h = read::counts(s);
-    let i = point_in(s, k);
     let b = start(s, k);
-    let p = place(out, at, k, b);
-    let q = vertex(i, h.vertices_a, out, p);
-    word(out, q, b", and each vertex must be a corner")
+    let p = place(s, k, b, out, at);
+    word(
+        out,
+        p,
+        b"it is a corner of no face, and each vertex must be a corner of one",
+    )
 }

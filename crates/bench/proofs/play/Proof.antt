@@ -22,6 +22,9 @@ say-requires c κs = search needs
 returns : tie.Need-returns Inv-loop μ-loop
 returns c = search needs
 
+moved-requires-2 : tie.Need-moved-requires-2 Inv-loop μ-loop
+moved-requires-2 c κs = search needs
+
 add-i : tie.Need-add-i Inv-loop μ-loop
 add-i c = search needs
 
@@ -30,9 +33,6 @@ loop-less c = search needs
 
 loop-again : tie.Need-loop-again Inv-loop μ-loop
 loop-again c = search needs
-
-say-counts-requires : tie.Need-say-counts-requires Inv-loop μ-loop
-say-counts-requires c κs = search needs
 
 returns-2 : tie.Need-returns-2 Inv-loop μ-loop
 returns-2 c = search needs
@@ -47,8 +47,8 @@ play-spec =
     moved-requires
     say-requires
     returns
+    moved-requires-2
     add-i
     loop-less
     loop-again
-    say-counts-requires
     returns-2)

@@ -28,8 +28,8 @@ returns c = search needs
 step-requires : tie.Need-step-requires Inv-loop μ-loop
 step-requires c κs = search needs
 
-say-requires : tie.Need-say-requires Inv-loop μ-loop
-say-requires c κs = search needs
+operation-requires : tie.Need-operation-requires Inv-loop μ-loop
+operation-requires c κs = search needs
 
 words-of-requires : tie.Need-words-of-requires Inv-loop μ-loop
 words-of-requires c κs = search needs
@@ -58,7 +58,7 @@ play-spec =
     enum-told
     returns
     step-requires
-    say-requires
+    operation-requires
     words-of-requires
     add-i
     loop-less

@@ -28,6 +28,9 @@ whole-requires c κs = search needs
 longer-requires : tie.Need-longer-requires
 longer-requires c κs = search needs
 
+finished-requires : tie.Need-finished-requires
+finished-requires c κs = search needs
+
 returns : tie.Need-returns
 unfolding nextOf
 returns c = cc
@@ -44,4 +47,5 @@ next-spec =
     number-requires
     whole-requires
     longer-requires
+    finished-requires
     returns)

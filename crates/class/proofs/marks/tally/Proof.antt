@@ -4,7 +4,7 @@ use Prim.Native.Nat.{_-_}
 use native.Mathlib.Omega.{arith}
 use borrow.Author.Needs.{needs}
 use lib.ListN.{length}
-use Rattle.class.specs.Counting.{Sofar, sofar-none, sofar-next, sofar-end, verdicts-few, counting-here, sum-fits}
+use Rattle.class.specs.Counting.{Sofar, sofar-none, sofar-next, sofar-end, counting-here, sum-fits}
 use Rattle.block.specs.Scenes.{end-within}
 use denote.Ref.{now}
 use Rattle.class.proofs.marks.tally.Statement.{statement}
@@ -85,16 +85,13 @@ loop-again c =
     (m .mark-of .result) (m .mark-of .ensures) (c .before .count-in .ensures)
 
 told-requires : tie.Need-told-requires Inv-loop μ-loop
-told-requires c κs =
-    let l = c .before .before .loop in
-    let a = c .before .before .before .before in
-    verdicts-few (now (a .args .block)) (l .at) (l .lines) (l .pairs) (l .inv) (a .pre)
+told-requires c κs = search needs
 
 returns : tie.Need-returns Inv-loop μ-loop
 returns c =
     let l = c .before .before .before .loop in
     let a = c .before .before .before .before .before in
-    c .told .ensures ∙ sofar-end (now (a .args .block)) (l .at) (l .lines) (l .pairs) (l .inv) (omega arith)
+    c .told .ensures ∙ sofar-end (now (a .args .block)) (l .at) (l .lines) (l .pairs) (l .inv) (omega arith) (a .pre)
 
 pub tally-spec : {M : Type 1} → statement M
 tally-spec =

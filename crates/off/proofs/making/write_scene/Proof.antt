@@ -21,11 +21,11 @@ array-share-prefix-out c =
     let r = c .before .before .before .before in
     omega (arith, made-room _ _ _ _ (sym (r .scene-of .ensures .answer) ∙ c .before .n .given .1))
 
-slice-aggregate-write-all : tie.Need-slice-aggregate-write-all
-slice-aggregate-write-all c = sym (length-take-le _ _ (array-share-prefix-out (c .before)))
+slice-aggregate-write : tie.Need-slice-aggregate-write
+slice-aggregate-write c = sym (length-take-le _ _ (array-share-prefix-out (c .before)))
 
-write-all-requires : tie.Need-write-all-requires
-write-all-requires c κs = search needs
+write-requires : tie.Need-write-requires
+write-requires c κs = search needs
 
 enum-known-f : tie.Need-enum-known-f
 enum-known-f c = search needs
@@ -47,8 +47,8 @@ write-scene-spec =
     scene-of-requires
     enum-known-n
     array-share-prefix-out
-    slice-aggregate-write-all
-    write-all-requires
+    slice-aggregate-write
+    write-requires
     enum-known-f
     say-fault-requires
     returns

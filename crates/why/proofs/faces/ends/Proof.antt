@@ -4,35 +4,7 @@ use borrow.Author.Needs.{needs}
 use Rattle.why.proofs.faces.ends.Statement.{statement}
 use Rattle.why.proofs.faces.ends.Tie as tie
 
-place-requires : tie.Need-place-requires
-place-requires c κs = search needs
-
-slice-aggregate-clause : tie.Need-slice-aggregate-clause
-slice-aggregate-clause c = search needs
-
-clause-requires : tie.Need-clause-requires
-clause-requires c κs = search needs
-
-slice-aggregate-clause-2 : tie.Need-slice-aggregate-clause-2
-slice-aggregate-clause-2 c = search needs
-
-clause-requires-2 : tie.Need-clause-requires-2
-clause-requires-2 c κs = search needs
-
-same-length : tie.Need-same-length
-same-length c = search needs
-
-returns : tie.Need-returns
-returns c = search (one, and)
-
 pub ends-spec : {M : Type 1} → statement M
 ends-spec =
     tie.close
-    (tie.spec
-    place-requires
-    slice-aggregate-clause
-    clause-requires
-    slice-aggregate-clause-2
-    clause-requires-2
-    same-length
-    returns)
+    (tie.spec (search needs) (search needs) (search needs) (search needs) (search needs) (search needs) (λ c. search (one, and)))

@@ -4,35 +4,7 @@ use borrow.Author.Needs.{needs}
 use Rattle.why.proofs.faces.odd.Statement.{statement}
 use Rattle.why.proofs.faces.odd.Tie as tie
 
-ends-requires : tie.Need-ends-requires
-ends-requires c κs = search needs
-
-slice-aggregate-clause : tie.Need-slice-aggregate-clause
-slice-aggregate-clause c = search needs
-
-clause-requires : tie.Need-clause-requires
-clause-requires c κs = search needs
-
-slice-aggregate-word : tie.Need-slice-aggregate-word
-slice-aggregate-word c = search needs
-
-word-requires : tie.Need-word-requires
-word-requires c κs = search needs
-
-same-length : tie.Need-same-length
-same-length c = search needs
-
-returns : tie.Need-returns
-returns c = search (one, and)
-
 pub odd-spec : {M : Type 1} → statement M
 odd-spec =
     tie.close
-    (tie.spec
-    ends-requires
-    slice-aggregate-clause
-    clause-requires
-    slice-aggregate-word
-    word-requires
-    same-length
-    returns)
+    (tie.spec (search needs) (search needs) (search needs) (search needs) (search needs) (search needs) (λ c. search (one, and)))
