@@ -86,17 +86,22 @@ pub fn answer(program: &[u8], text: &[u8]) -> bool {
     finish(program)
 }
 
-// Answers `-h`, `--help` and `--version` as the first word, and tells whether that was asked.
-pub fn tells(program: &[u8], help: &[u8]) -> bool {
-    if is_word(1, b"-h") || is_word(1, b"--help") {
+// Answers `-h`, `--help` and `--version` as word i, and tells whether that was asked.
+pub fn tells_at(program: &[u8], i: usize, help: &[u8]) -> bool {
+    if is_word(i, b"-h") || is_word(i, b"--help") {
         answer(program, help);
         return true;
     }
-    if is_word(1, b"--version") {
+    if is_word(i, b"--version") {
         answer(program, b"bodhranhaze 1.0.0\n");
         return true;
     }
     false
+}
+
+// The same as the first word.
+pub fn tells(program: &[u8], help: &[u8]) -> bool {
+    tells_at(program, 1, help)
 }
 
 // Whether word i names standard input: it is `-`, or there is none.

@@ -67,22 +67,6 @@ pub fn first_word() -> usize
     if cli::is_word(1, b"--progress") { 2 } else { 1 }
 }
 
-// As `cli::tells`, and behind `--progress` too.
-fn tells(program: &[u8], help: &[u8]) -> bool {
-    if first_word() == 1 {
-        return cli::tells(program, help);
-    }
-    if cli::is_word(2, b"-h") || cli::is_word(2, b"--help") {
-        cli::answer(program, help);
-        return true;
-    }
-    if cli::is_word(2, b"--version") {
-        cli::answer(program, b"bodhranhaze 1.0.0\n");
-        return true;
-    }
-    false
-}
-
 fn walk_over(listed: bool, list: i32, at: usize, end: usize) -> Walk {
     Walk {
         listed,
@@ -162,10 +146,10 @@ fn of_words(program: &[u8], first: usize, usage: &[u8]) -> Walk
 pub fn begin(program: &[u8], own: usize, usage: &[u8]) -> Walk
     requires { ⌜ own ≤ 1 ⌝ }
 {
-    if tells(program, usage) {
+    let first = first_word();
+    if cli::tells_at(program, first, usage) {
         return no_walk();
     }
-    let first = first_word();
     let w = of_words(program, first + own, usage);
     if first == 2 {
         return progress::started(w);
