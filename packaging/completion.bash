@@ -16,8 +16,7 @@ _bodhranhaze() {
         off) words='--write' ;;
         bench) words='one two lecturer' ;;
         merge) words='--reports' ;;
-        class | table) words='--names --progress' ;;
-        pack) words='--names' ;;
+        class | table | pack) words='--names --progress' ;;
     esac
     [[ -z $program ]] || words+=' --help --version'
     mapfile -t COMPREPLY < <(compgen -W "$words" -- "$word")

@@ -52,7 +52,7 @@ def a_file_that_may_not_be_read(_):
         os.chmod(path, 0)
         # Root may read it: so nobody reads, by a copy of the tree where nobody may go.
         shutil.copytree(TREE, f"{room}/tree", symlinks=True)
-        for words in (["report"], ["ask", "judge"], ["marks"], ["merge"], ["class"], ["table"]):
+        for words in (["report"], ["ask", "judge"], ["marks"], ["merge"], ["class"]):
             trouble(run([f"{room}/tree/bin/bodhranhaze", *words, path], **AS_NOBODY), words[0], f"{path}: Permission denied")
 
 
