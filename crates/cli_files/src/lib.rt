@@ -53,7 +53,7 @@ fn is_beyond_standard() -> bool {
 }
 
 // From here on no file that is opened takes the number of a standard one.
-pub fn hold_standard() {
+fn hold_standard() {
     if is_beyond_standard() || is_beyond_standard() {
         return;
     }
@@ -162,6 +162,7 @@ fn of_words(program: &[u8], first: usize, usage: &[u8]) -> Walk
 pub fn begin(program: &[u8], own: usize, usage: &[u8]) -> Walk
     requires { ⌜ own ≤ 1 ⌝ }
 {
+    hold_standard();
     if tells(program, usage) {
         return no_walk();
     }

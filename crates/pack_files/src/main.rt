@@ -171,20 +171,23 @@ fn all_packed(
     p
 }
 
-// The last block, and how many files were left out.
+// The last block. What was left out, and that there is more, is said.
 fn finish(program: &[u8], p: Packing, dir: &[u8], block: &[u8]) {
     let w = p.walk;
     progress::ended(w);
+    let mut q = p;
     let at = p.at;
     if !p.failed && at <= block.len() {
-        let q = written(program, p, dir, &block[0..at]);
-        if !q.failed {
-            cli::finish(program);
-        }
+        q = written(program, p, dir, &block[0..at]);
     }
     if p.left_out > 0 {
         cli_files::say_some(program, p.left_out, w.named, b"files were left out");
     }
+    if q.failed || w.failed {
+        cli::say(program, b"stopped: not every file is packed");
+        return;
+    }
+    cli::finish(program);
 }
 
 fn run(program: &[u8], walk: Walk, dir: &[u8]) {
@@ -245,7 +248,6 @@ fn start(program: &[u8], usage: &[u8]) {
 }
 
 fn main() {
-    cli_files::hold_standard();
     start(
         b"pack",
         b"usage: pack [--progress] DIR FILE...\n       pack [--progress] DIR --names LIST\n\
