@@ -1,5 +1,8 @@
 // Packs scenes that stand in files into blocks, each of whole scenes end to end. A block is written under another name and renamed when
 // it is whole, and no file is overwritten. A file that is left out is lost from the class, and said.
+ghost use mathlib.Core.Path.{_≡_};
+ghost use Rattle.judge.specs.Judge.{judged};
+ghost use Rattle.pack_files.specs.Packed.{passes};
 use class::Tally;
 use class::files::sum;
 use cli_files::MOST_FILES;
@@ -52,9 +55,14 @@ fn written(program: &[u8], p: Packing, dir: &[u8], block: &[u8]) -> Packing {
     q
 }
 
-// The refusals that a block can't pass over.
-fn is_headless(r: Refusal) -> bool {
-    scene::number(r) <= 3
+// Whether it can stand in a block: one that is refused with 1, 2 or 3 would end the block's report.
+fn passes(j: Judged) -> bool
+    ensures { λ r. ⌜ r ≡ passes j ⌝ }
+{
+    match j {
+        Judged::Accepted => true,
+        Judged::Refused(r) => scene::number(r) > 3,
+    }
 }
 
 fn say_refused(program: &[u8], name: &[u8], r: Refusal) {
@@ -66,15 +74,22 @@ fn say_refused(program: &[u8], name: &[u8], r: Refusal) {
     cli::say(program, &out[0..e]);
 }
 
-// Whether the scene can stand in a block; what can't is said.
-fn is_whole(program: &[u8], name: &[u8], s: &[u8]) -> bool {
-    if let Judged::Refused(r) = judge::judge(s) {
-        if is_headless(r) {
-            say_refused(program, name, r);
-            return false;
-        }
+fn say_judged(program: &[u8], name: &[u8], j: Judged) {
+    if let Judged::Refused(r) = j {
+        say_refused(program, name, r);
     }
-    true
+}
+
+// What can't is said.
+fn is_whole(program: &[u8], name: &[u8], s: &[u8]) -> bool
+    ensures { λ r. ⌜ r ≡ passes (judged (now (s .entry))) ⌝ }
+{
+    let j = judge::judge(s);
+    let whole = passes(j);
+    if !whole {
+        say_judged(program, name, j);
+    }
+    whole
 }
 
 fn has_room(at: usize, n: usize) -> bool {
