@@ -53,7 +53,7 @@ fn is_beyond_standard() -> bool {
 }
 
 // From here on no file that is opened takes the number of a standard one.
-pub fn hold_standard() {
+fn hold_standard() {
     if is_beyond_standard() || is_beyond_standard() {
         return;
     }
@@ -146,6 +146,7 @@ fn of_words(program: &[u8], first: usize, usage: &[u8]) -> Walk
 pub fn begin(program: &[u8], own: usize, usage: &[u8]) -> Walk
     requires { ⌜ own ≤ 1 ⌝ }
 {
+    hold_standard();
     let first = first_word();
     if cli::tells_at(program, first, usage) {
         return no_walk();

@@ -111,11 +111,12 @@ fn read_line(list: i32, first: Left, piece: &mut [u8], name: &mut [u8]) -> Line
     }
 }
 
+// The line behind those that were names.
 fn refused(program: &[u8], w: Walk, why: &[u8]) -> Walk {
+    let next = crate::counted(w);
     let mut out = [0u8; 128];
     let p = word(&mut out, 0, b"line");
-    // Lines before it have names.
-    let q = next_number(&mut out, p, w.named);
+    let q = next_number(&mut out, p, next.named);
     let e = next_word(&mut out, q, why);
     cli::say(program, &out[0..e]);
     let mut v = w;
@@ -129,17 +130,17 @@ fn line_read(program: &[u8], w: Walk, n: usize, newline: bool, full: bool) -> Wa
         cli::fail(program, b"the list of names");
         return w;
     }
-    let mut v = w;
-    if n > 0 || newline {
-        v = crate::counted(w);
-    }
     if full {
-        return refused(program, v, b"of the list is longer than a name can be");
+        return refused(program, w, b"of the list is longer than a name can be");
     }
-    if n == 0 && newline {
-        return refused(program, v, b"of the list is empty");
+    if n > 0 {
+        return crate::counted(w);
     }
-    if v.named == 0 {
+    if newline {
+        return refused(program, w, b"of the list is empty");
+    }
+    let mut v = w;
+    if w.named == 0 {
         cli::say(program, b"the list names no file");
         v.failed = true;
     }

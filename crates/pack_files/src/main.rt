@@ -1,5 +1,8 @@
 // Packs scenes that stand in files into blocks, each of whole scenes end to end. A block is written under another name and renamed when
 // it is whole, and no file is overwritten. A file that is left out is lost from the class, and said.
+ghost use mathlib.Core.Path.{_≡_};
+ghost use Rattle.judge.specs.Judge.{judged};
+ghost use Rattle.pack_files.specs.Packed.{passes};
 use class::Tally;
 use class::files::sum;
 use cli_files::MOST_FILES;
@@ -52,9 +55,14 @@ fn written(program: &[u8], p: Packing, dir: &[u8], block: &[u8]) -> Packing {
     q
 }
 
-// The refusals that a block can't pass over.
-fn is_headless(r: Refusal) -> bool {
-    scene::number(r) <= 3
+// Whether it can stand in a block: one that is refused with 1, 2 or 3 would end the block's report.
+fn passes(j: Judged) -> bool
+    ensures { λ r. ⌜ r ≡ passes j ⌝ }
+{
+    match j {
+        Judged::Accepted => true,
+        Judged::Refused(r) => scene::number(r) > 3,
+    }
 }
 
 fn say_refused(program: &[u8], name: &[u8], r: Refusal) {
@@ -66,15 +74,22 @@ fn say_refused(program: &[u8], name: &[u8], r: Refusal) {
     cli::say(program, &out[0..e]);
 }
 
-// Whether the scene can stand in a block; what can't is said.
-fn is_whole(program: &[u8], name: &[u8], s: &[u8]) -> bool {
-    if let Judged::Refused(r) = judge::judge(s) {
-        if is_headless(r) {
-            say_refused(program, name, r);
-            return false;
-        }
+fn say_judged(program: &[u8], name: &[u8], j: Judged) {
+    if let Judged::Refused(r) = j {
+        say_refused(program, name, r);
     }
-    true
+}
+
+// What can't is said.
+fn is_whole(program: &[u8], name: &[u8], s: &[u8]) -> bool
+    ensures { λ r. ⌜ r ≡ passes (judged (now (s .entry))) ⌝ }
+{
+    let j = judge::judge(s);
+    let whole = passes(j);
+    if !whole {
+        say_judged(program, name, j);
+    }
+    whole
 }
 
 fn has_room(at: usize, n: usize) -> bool {
@@ -171,20 +186,23 @@ fn all_packed(
     p
 }
 
-// The last block, and how many files were left out.
+// The last block. What was left out, and that there is more, is said.
 fn finish(program: &[u8], p: Packing, dir: &[u8], block: &[u8]) {
     let w = p.walk;
     progress::ended(w);
+    let mut q = p;
     let at = p.at;
     if !p.failed && at <= block.len() {
-        let q = written(program, p, dir, &block[0..at]);
-        if !q.failed {
-            cli::finish(program);
-        }
+        q = written(program, p, dir, &block[0..at]);
     }
     if p.left_out > 0 {
         cli_files::say_some(program, p.left_out, w.named, b"files were left out");
     }
+    if q.failed || w.failed {
+        cli::say(program, b"stopped: not every file is packed");
+        return;
+    }
+    cli::finish(program);
 }
 
 fn run(program: &[u8], walk: Walk, dir: &[u8]) {
@@ -245,7 +263,6 @@ fn start(program: &[u8], usage: &[u8]) {
 }
 
 fn main() {
-    cli_files::hold_standard();
     start(
         b"pack",
         b"usage: pack [--progress] DIR FILE...\n       pack [--progress] DIR --names LIST\n\
