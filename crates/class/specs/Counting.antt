@@ -174,7 +174,8 @@ up-at l k j h = go (ℕ-discrete j k)
     go (no d) = rw (ne-eqb j k d) (getD-set-other l k j (getD l k 0 + 1) 0 d)
 
 -- in the first line, and in its own
-pub both-at : (l : List ℕ) (k j : ℕ) → length l ≡ lines → 1 ≤ k → k < lines → getD (up (up l 0) k) j 0 ≡ more (eqb j 0 || eqb j k) (getD l j 0)
+pub both-at : (l : List ℕ) (k j : ℕ) → length l ≡ lines → 1 ≤ k → k < lines →
+    getD (up (up l 0) k) j 0 ≡ more (eqb j 0 || eqb j k) (getD l j 0)
 both-at l k j z a b =
     up-at (up l 0) k j (omega (arith, up-size l 0)) ∙ ap (more (eqb j k)) (up-at l 0 j (omega arith)) ∙ go (ℕ-discrete j 0)
   where

@@ -28,8 +28,8 @@ raised-by l k e = ap (set l k) e
 pub line-to : (s : List ℕ) {m : Mark} → m ≡ markOf s → m .line < lines
 line-to s e = let h = line-of s .1 in rw e h
 
-pub scene-next : (f : Files) (s : List ℕ) {m : Mark} {a b : List ℕ} {p : ℕ} → m ≡ markOf s → a ≡ raised (f .lines) 0 → b ≡ raised a (m .line) →
-    p ≡ sumOf (f .pairs) (m .pairs) → record { lines = b; pairs = p } ≡ withScene f s
+pub scene-next : (f : Files) (s : List ℕ) {m : Mark} {a b : List ℕ} {p : ℕ} → m ≡ markOf s → a ≡ raised (f .lines) 0 →
+    b ≡ raised a (m .line) → p ≡ sumOf (f .pairs) (m .pairs) → record { lines = b; pairs = p } ≡ withScene f s
 unfolding withScene
 scene-next f s {b = b} {p = p} e x y z =
     let l : b ≡ raised (raised (f .lines) 0) (markOf s .line) = y ∙ ap₂ raised x (ap (λ (m : Mark). m .line) e) in
@@ -114,7 +114,8 @@ module _ (f : Files) (ss : List (List ℕ)) (h : Held f ss) (s : List ℕ) (few 
 
 -- ---- all of them
 
-held-all : (f : Files) (ss ts : List (List ℕ)) → Held f ss → (length ss + length ts) * mostPairs ≤ largest → Held (withScenes f ts) (ss ++ ts)
+held-all : (f : Files) (ss ts : List (List ℕ)) → Held f ss → (length ss + length ts) * mostPairs ≤ largest →
+    Held (withScenes f ts) (ss ++ ts)
 unfolding withScenes
 held-all f ss [] h few = subst (Held f) (sym (append-nil ss)) h
 held-all f ss (t ∷ ts) h few =
