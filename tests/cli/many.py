@@ -46,6 +46,16 @@ def the_class_of_a_folder():
 
 
 @test
+def a_hidden_scene_counts_and_the_answers_own_file_does_not():
+    with folder() as room:
+        for name in ("a.scene", ".b.scene"):
+            Path(room, name).write_bytes(data("apart.scene"))
+        same(front("class", room).out.splitlines()[0], b"scenes 2")
+        same(front("-o", f"{room}/t.txt", "table", room), (0, b"", ""))
+        holds(front("table", room).err.startswith("note: 1 other files"), room)
+
+
+@test
 def the_class_of_a_list():
     names = "".join(f"{path}\n" for path in SCENES).encode()
     same(front("class", "--names", "-", stdin=names), (0, WANTED, ""))

@@ -128,6 +128,19 @@ def a_scene_is_changed_in_place():
         same(left_in(room), ["x.scene"])
 
 
+@test
+def what_is_read_is_not_lost():
+    with folder() as room:
+        path = f"{room}/x.scene"
+        with open(path, "wb") as file:
+            file.write(data("printed.scene"))
+        for words in (["report", path], ["ask", "verdict", f"{room}/./x.scene"], ["table", room], ["class", path]):
+            same(front("-o", path, *words).status, 2)
+            same(open(path, "rb").read(), data("printed.scene"))
+        same(front("-o", "", "report", path).status, 2)
+        same(left_in(room), ["x.scene"])
+
+
 @each(["edit", "reverse", "8", "refused-14.scene"], ["edit", "move", "1", "2"], ["report", "nothing.scene"], ["nothing"],
       ["map", *["0"] * 16, "printed.scene"], ["off", "--write", "1", "refused-14.scene"])
 def a_file_keeps_its_contents_where_there_is_no_answer(words):
