@@ -8,8 +8,7 @@ PREFIX = /usr/local
 DESTDIR =
 VERSION := $(shell sed -n 's/.*b"bodhranhaze \([0-9.]*\)\\n".*/\1/p' crates/cli/src/lib.rt)
 
-# class_files is installed as class, and so on: the libraries have the shorter names.
-CRATES = report ask edit map off bench marks merge class_files table_files pack_files
+CRATES = report ask edit map off bench marks merge class table pack
 DOCUMENTS = README.md LICENSE CHANGELOG.md $(wildcard docs/GUIDE.md docs/SCENE.md docs/C.md docs/OFFICE.md)
 COMMANDS = bodhranhaze bodhranhaze-blocks
 PAGES = $(notdir $(wildcard packaging/man/*))
@@ -31,7 +30,7 @@ install:
 	    [ -f target/$$file ] || { echo "make install: target/$$file is not there; make builds it" >&2; exit 1; }; \
 	done
 	for command in $(COMMANDS); do install -D -m 755 packaging/$$command $(TREE)/bin/$$command || exit 1; done
-	for crate in $(CRATES); do install -D -m 755 target/bin/$$crate $(TREE)/libexec/bodhranhaze/$${crate%_files} || exit 1; done
+	for crate in $(CRATES); do install -D -m 755 target/bin/$$crate $(TREE)/libexec/bodhranhaze/$$crate || exit 1; done
 	$(INSTALL) include/bodhranhaze.h $(TREE)/include/bodhranhaze.h
 	$(INSTALL) target/staticlib/libbodhranhaze.a $(TREE)/lib/libbodhranhaze.a
 	install -D -m 755 target/shared/libbodhranhaze.so $(TREE)/lib/libbodhranhaze.so.$(VERSION)

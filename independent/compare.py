@@ -22,7 +22,7 @@ from vectors import packed, print_of, questions
 
 def options():
     parser = argparse.ArgumentParser(description="Compares random scenes with the kernel's program.")
-    parser.add_argument("--program", default="target/bin/vectors", help="the command to run")
+    parser.add_argument("--program", default="target/bin/test_vectors", help="the command to run")
     parser.add_argument("--batch", type=int, default=100, help="scenes in one run of the program")
     parser.add_argument("seed", type=int)
     parser.add_argument("count", type=int, nargs="?", default=20000)

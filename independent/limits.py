@@ -15,7 +15,7 @@ from judge import FACE_COUNTS, VERTEX_COUNTS, judge, scene_bytes
 from vectors import packed
 
 ROOT = Path(__file__).resolve().parent.parent
-TABLE, PRINTS = ROOT / "crates" / "limits" / "stdin", ROOT / "crates" / "limits" / "stdout"
+TABLE, PRINTS = ROOT / "crates" / "test_limits" / "stdin", ROOT / "crates" / "test_limits" / "stdout"
 PRINTED = (ROOT / "examples" / "printed.scene").read_bytes()
 MOST_VERTICES, MOST_FACES = VERTEX_COUNTS[-1], FACE_COUNTS[-1]
 

@@ -10,9 +10,8 @@ from tree import ENVIRONMENT, FRONT, each, folder, holds, run, same, test
 def played(script, *words, program="report", **more):
     """A run of the front command over a script."""
     with folder() as room:
-        name = f"{program}_files" if program in ("class", "table", "pack") else program
-        Path(room, name).write_text(script if script.startswith("\0") else f"#!/bin/sh\n{script}\n")
-        os.chmod(Path(room, name), 0o755)
+        Path(room, program).write_text(script if script.startswith("\0") else f"#!/bin/sh\n{script}\n")
+        os.chmod(Path(room, program), 0o755)
         return run([FRONT, *words], **{"env": {**ENVIRONMENT, "BODHRANHAZE_PROGRAMS": room, "BODHRANHAZE_LOADER": ""}, **more})
 
 

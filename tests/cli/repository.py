@@ -33,8 +33,7 @@ class Repository:
         shutil.copytree(ROOT / "packaging", self.root / "packaging")
         shutil.copy(ROOT / "run", self.root)
         shutil.copytree(PROGRAMS, self.root / "built")
-        (self.root / "built/class").rename(self.root / "built/class_files")
-        for crate in ("report", "edit", "class_files"):
+        for crate in ("report", "edit", "class"):
             (self.root / "crates" / crate / "src").mkdir(parents=True)
             (self.root / "crates" / crate / "src/main.rt").write_text("fn main() {}\n")
         (self.root / "crates/cli/src").mkdir(parents=True)
@@ -200,7 +199,7 @@ def an_interrupt_leaves_nothing(its):
 def a_class_is_built_under_its_own_name(its):
     ended = its.run("class", PRINTED)
     holds(ended.status == 0 and ended.out.startswith(b"scenes 1\ncross 1\n"), ended)
-    same(its.calls(), ["class_files"])
+    same(its.calls(), ["class"])
 
 
 @repository
@@ -214,7 +213,7 @@ def options_and_words_go_the_same_way(its):
     same((its.root / "answer").read_bytes(), ANSWER)
 
 
-@each("report", "vectors")
+@each("report", "test_vectors")
 def what_stands_here_is_run_as_built(program):
     """In the real repository, where it is built: no kit is in PATH."""
     if not (ROOT / "target/bin" / program).exists():

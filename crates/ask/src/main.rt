@@ -4,13 +4,13 @@ ghost use lib.ListN.{length};
 use crate::words::Asked;
 use crate::words::asked_at;
 use crate::words::count_at;
-use answers::lent;
-use answers::lent::PLACES;
-use answers::lent::TEXT;
-use answers::reports;
 use cli::is_option;
-use engine::Engine;
 use judge::Judged;
+use pierce_engine::Engine;
+use print_answers::lent;
+use print_answers::lent::PLACES;
+use print_answers::lent::TEXT;
+use print_answers::reports;
 use scene::Scene;
 
 mod said;
@@ -32,18 +32,18 @@ fn answer(engine: Engine, q: Asked, s: &[u8], out: &mut [u8]) -> usize
     match q {
         Asked::Unknown => 0,
         Asked::NoNumber(_) => 0,
-        Asked::Judge => answers::judge(s, out, 0),
-        Asked::Sign(a, b, c, d) => answers::sign(s, a, b, c, d, out, 0),
-        Asked::Pierces(u, v, f) => answers::pierces(engine, s, u, v, f, out, 0),
-        Asked::Mask(u, v, k) => answers::mask(engine, s, u, v, k, out, 0),
-        Asked::Enclosed(i) => answers::enclosed(engine, s, i, out, 0),
-        Asked::Verdict => answers::verdict(engine, s, out, 0),
-        Asked::Record(k) => answers::shown(s, k, out, 0),
-        Asked::Counts => answers::count(engine, s, out, 0),
-        Asked::Listing => answers::listing(engine, s, out, 0),
+        Asked::Judge => print_answers::judge(s, out, 0),
+        Asked::Sign(a, b, c, d) => print_answers::sign(s, a, b, c, d, out, 0),
+        Asked::Pierces(u, v, f) => print_answers::pierces(engine, s, u, v, f, out, 0),
+        Asked::Mask(u, v, k) => print_answers::mask(engine, s, u, v, k, out, 0),
+        Asked::Enclosed(i) => print_answers::enclosed(engine, s, i, out, 0),
+        Asked::Verdict => print_answers::verdict(engine, s, out, 0),
+        Asked::Record(k) => print_answers::shown(s, k, out, 0),
+        Asked::Counts => print_answers::count(engine, s, out, 0),
+        Asked::Listing => print_answers::listing(engine, s, out, 0),
         Asked::Lent(n) => lent_listing(engine, s, n, out),
-        Asked::Why => why::why(s, out, 0),
-        Asked::Clean => answers::clean(s, out, 0),
+        Asked::Why => print_why::why(s, out, 0),
+        Asked::Clean => print_answers::clean(s, out, 0),
     }
 }
 

@@ -3,8 +3,8 @@ use crate::words::Number;
 use crate::words::number_in;
 use check::same;
 use libc::STDERR_FILENO;
-use render::newline;
-use render::word;
+use print::newline;
+use print::word;
 use scene::Refusal;
 
 fn say(text: &[u8]) {
@@ -85,7 +85,7 @@ pub fn too_many(i: usize) {
 pub fn scene(s: &[u8], r: Refusal) {
     let mut out = [0u8; 512];
     let p = word(&mut out, 0, b"why: ");
-    let q = why::sentence(s, r, &mut out, p);
+    let q = print_why::sentence(s, r, &mut out, p);
     let n = newline(&mut out, q);
     say(&out[0..n]);
 }

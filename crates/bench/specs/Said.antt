@@ -1,13 +1,13 @@
 -- The lines that are printed: an operation's answer, the counts of both groups, and which word is wrong. Assumes nothing.
 use mathlib.Core.List.{[], _∷_}
 use Prim.Native.Nat.{ℕ}
-use Rattle.render.specs.Back.{Words}
-use Rattle.render.specs.Text.{ascii, decimal}
+use Rattle.print.specs.Back.{Words}
+use Rattle.print.specs.Text.{ascii, decimal}
 use Rattle.questions.specs.declared.Counts.{Counts}
-use Rattle.benches.specs.Bench.{faultNumber, faultPlace}
-use Rattle.benches.specs.declared.Fault.{Fault}
-use Rattle.benches.specs.declared.Answer.{Answer}
-use Rattle.benches.specs.declared.Answer.the-variants.{Done, Refused}
+use Rattle.bench_moves.specs.Bench.{faultNumber, faultPlace}
+use Rattle.bench_moves.specs.declared.Fault.{Fault}
+use Rattle.bench_moves.specs.declared.Answer.{Answer}
+use Rattle.bench_moves.specs.declared.Answer.the-variants.{Done, Refused}
 
 abbrev pub faultLine : Fault → Words
 faultLine f = ascii "refused" ∷ decimal (faultNumber f) ∷ decimal (faultPlace f) ∷ []

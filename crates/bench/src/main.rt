@@ -1,18 +1,18 @@
 // bench FIRST SECOND [one P X Y Z W | two P X Y Z W | lecturer N X Y Z W]... opens a bench from two scenes and makes the moves of the
 // command line: each answer is a line, and the next has both groups' counts.
 ghost use Prim.Native.Nat.{_+_, _<_, _≤_};
-use benches::Answer;
-use benches::Answered;
-use benches::Bench;
-use benches::Group;
+use bench_moves::Answer;
+use bench_moves::Answered;
+use bench_moves::Bench;
+use bench_moves::Group;
 use cli::is_option;
 use cli::is_word;
+use cli_words::Word;
+use cli_words::number_at;
 use libc::STDERR_FILENO;
-use lines::rows::least;
+use print_lines::rows::least;
 use scene::Row;
 use scene::Scene;
-use words::Word;
-use words::number_at;
 
 mod said;
 mod whys;
@@ -108,7 +108,7 @@ fn point_at(i: usize) -> usize {
     if z < 0 {
         return 0;
     }
-    render::size(z)
+    print::size(z)
 }
 
 // The move whose name is word i.
@@ -179,7 +179,7 @@ fn say_usage(k: usize) {
 fn use_bench(s: &[u8], t: &[u8], count: usize)
     requires { ⌜ count < 4194304 ⌝ }
 {
-    let c = benches::open(s, t);
+    let c = bench_moves::open(s, t);
     if !say(c) {
         return;
     }

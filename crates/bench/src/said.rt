@@ -1,15 +1,15 @@
 // The lines that are printed, each rendered into a lent buffer; the answer is the place behind.
 ghost use mathlib.Core.List.{[], _∷_};
-ghost use Rattle.render.specs.Put.{Put};
-ghost use Rattle.render.specs.Text.{ascii, line};
+ghost use Rattle.print.specs.Put.{Put};
+ghost use Rattle.print.specs.Text.{ascii, line};
 ghost use Rattle.bench.specs.Said.{faultLine, answerLine, countsLine, usageLine};
-use benches::Answer;
-use benches::Fault;
+use bench_moves::Answer;
+use bench_moves::Fault;
+use print::newline;
+use print::next_number;
+use print::next_word;
+use print::word;
 use questions::Counts;
-use render::newline;
-use render::next_number;
-use render::next_word;
-use render::word;
 
 fn done(out: &mut [u8]) -> usize
     ensures { λ p. ⌜ Put (now (out .entry)) 0 (line (ascii "done" ∷ [])) (now (out .exit)) p ⌝ }
@@ -22,8 +22,8 @@ fn refused(out: &mut [u8], f: Fault) -> usize
     ensures { λ p. ⌜ Put (now (out .entry)) 0 (line (faultLine f)) (now (out .exit)) p ⌝ }
 {
     let p = word(out, 0, b"refused");
-    let q = next_number(out, p, benches::number(f));
-    let e = next_number(out, q, benches::place(f));
+    let q = next_number(out, p, bench_moves::number(f));
+    let e = next_number(out, q, bench_moves::place(f));
     newline(out, e)
 }
 

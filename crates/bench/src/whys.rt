@@ -1,8 +1,8 @@
 // What is said on standard error: the help, and why the bench or a move is refused.
-use benches::Answer;
+use bench_moves::Answer;
 use judge::Judged;
 use libc::STDERR_FILENO;
-use render::newline;
+use print::newline;
 use scene::Refusal;
 
 fn say(text: &[u8]) {
@@ -41,7 +41,7 @@ fn rule(number: usize) {
 
 pub fn moved(a: Answer) {
     if let Answer::Refused(f) = a {
-        rule(benches::number(f));
+        rule(bench_moves::number(f));
     }
 }
 
@@ -50,8 +50,8 @@ fn scene_refused(i: usize, s: &[u8], r: Refusal) {
     say(b"why: ");
     cli::say_name(i);
     let mut out = [0u8; 512];
-    let p = render::word(&mut out, 0, b": ");
-    let q = why::sentence(s, r, &mut out, p);
+    let p = print::word(&mut out, 0, b": ");
+    let q = print_why::sentence(s, r, &mut out, p);
     let n = newline(&mut out, q);
     say(&out[0..n]);
 }

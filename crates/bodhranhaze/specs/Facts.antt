@@ -14,7 +14,7 @@ use Rattle.judge.specs.Judge.{rule, andThen, judged}
 use Rattle.judge.specs.declared.Judged.{Judged}
 use Rattle.judge.specs.declared.Judged.the-variants.{Accepted, Refused}
 use Rattle.questions.specs.Answers.{answered, countsIn, listFault, heldIn, verdictNumber}
-use Rattle.readings.specs.Facts.{factsIn, IsSurvey}
+use Rattle.survey_scene.specs.Facts.{factsIn, IsSurvey}
 use Rattle.questions.specs.declared.Facts.{Facts}
 use Rattle.questions.specs.declared.Surveyed.{Surveyed}
 use Rattle.questions.specs.declared.Surveyed.the-variants as surveyed

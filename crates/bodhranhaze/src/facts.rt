@@ -6,9 +6,9 @@ ghost use Rattle.bodhranhaze.specs.Facts.{roomFor, told, nothingKnown, T
 use crate::number_of;
 use crate::place_of;
 use crate::verdict_number;
-use engine::Engine;
 use judge::Judged;
 use kernel::facts::survey;
+use pierce_engine::Engine;
 use questions::Counts;
 use questions::Facts;
 use questions::Surveyed;

@@ -1,8 +1,8 @@
 // Why the questions beside the verdict are refused, for C: a number, or 0 where there is an answer. The calls that count say nothing of it.
 ghost use mathlib.Core.Path.{_≡_};
 ghost use Rattle.bodhranhaze.specs.Refusals.{insideRefusal, listingRefusal};
-use engine::Engine;
 use judge::Judged;
+use pierce_engine::Engine;
 use questions::Enclosing;
 
 // The scene's own refusal, or 11 for a solid that is neither 1 nor 2.

@@ -5,9 +5,9 @@ ghost use Rattle.io.specs.Counts.{Counts};
 use check::same;
 use libc::STDERR_FILENO;
 use libc::STDIN_FILENO;
-use render::next_number;
-use render::next_word;
-use render::word;
+use print::next_number;
+use print::next_word;
+use print::word;
 
 mod list;
 pub mod progress;
@@ -266,7 +266,7 @@ pub fn step(program: &[u8], w: Walk, piece: &mut [u8], name: &mut [u8], buf: &mu
 // `k of n` and the words, as a line of trouble.
 pub fn say_some(program: &[u8], k: usize, n: usize, words: &[u8]) {
     let mut out = [0u8; 160];
-    let p = render::number(&mut out, 0, k);
+    let p = print::number(&mut out, 0, k);
     let q = next_word(&mut out, p, b"of");
     let r = next_number(&mut out, q, n);
     let e = next_word(&mut out, r, words);

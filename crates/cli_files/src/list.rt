@@ -1,9 +1,9 @@
 // The names of a list, a line each. A last line without its newline counts; an empty line is refused.
 ghost use Rattle.io.specs.Counts.{Counts};
 use crate::Walk;
-use render::next_number;
-use render::next_word;
-use render::word;
+use print::next_number;
+use print::next_word;
+use print::word;
 
 // The next name: how many bytes of it stand in the lent buffer.
 pub struct Next {

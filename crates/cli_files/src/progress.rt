@@ -1,8 +1,8 @@
 // How far a walk is, on the terminal, where it takes longer than two seconds: a line that the next one, or any other, is written over.
 ghost use Prim.Native.Nat.{_≤_};
 use crate::Walk;
-use render::next_number;
-use render::next_word;
+use print::next_number;
+use print::next_word;
 
 // The largest time that is told apart.
 const LAST: usize = 4611686018427387904;
@@ -15,7 +15,7 @@ fn seconds() -> usize
     if z < 0 {
         return 0;
     }
-    let n = render::size(z);
+    let n = print::size(z);
     if n > LAST {
         return LAST;
     }
@@ -33,10 +33,10 @@ pub fn started(w: Walk) -> Walk {
 fn show(w: Walk) {
     // Two numbers of no more than 20 digits, and 11 bytes more.
     let mut out = [0u8; 64];
-    let p = render::number(&mut out, 0, w.named);
+    let p = print::number(&mut out, 0, w.named);
     let q = rest(&mut out, p, w.all);
     let r = next_word(&mut out, q, b"files");
-    let e = render::byte(&mut out, r, b'\r');
+    let e = print::byte(&mut out, r, b'\r');
     io::write_all(w.terminal, &out[0..e]);
 }
 

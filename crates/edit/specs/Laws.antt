@@ -10,7 +10,7 @@ use lib.IntN.{ℤ, pos, natAbs}
 use lib.Signed.{ltZ}
 use mir.Syntax.{w64}
 use mir.Val.{SFits}
-use Rattle.render.specs.Size.{reread, cast-size}
+use Rattle.print.specs.Size.{reread, cast-size}
 use Rattle.scene.specs.Negative.{below, above}
 use Rattle.scene.specs.declared.Row.{Row}
 use Rattle.scene.specs.declared.Refusal.{Refusal}
@@ -21,8 +21,8 @@ use Rattle.questions.specs.declared.Counted.the-variants as counted
 use Rattle.session.specs.Session.{movedOf, farMovedOf, reversedOf}
 use Rattle.session.specs.declared.Session.{Session}
 use Rattle.session.specs.declared.Changed.{Changed}
-use Rattle.words.specs.declared.Word.{Word}
-use Rattle.words.specs.declared.Word.the-variants.{Number, None}
+use Rattle.cli_words.specs.declared.Word.{Word}
+use Rattle.cli_words.specs.declared.Word.the-variants.{Number, None}
 use Rattle.edit.specs.Operations.{same, named, rowOf, moveBy, farBy, reverseOf}
 use Rattle.edit.specs.Steps.{stepOf, toldBy}
 use Rattle.edit.specs.declared.operations.Operation.{Operation}

@@ -4,10 +4,10 @@ use mathlib.Core.Bool.{Bool, true, false, cond, _&&_}
 use mathlib.Core.List.{List, [], _∷_}
 use lib.Dec.{eqb}
 use lib.IntN.{ℤ, pos, negsuc}
-use Rattle.render.specs.Text.{ascii}
+use Rattle.print.specs.Text.{ascii}
 use Rattle.scene.specs.declared.Row.{Row}
-use Rattle.words.specs.declared.Word.{Word}
-use Rattle.words.specs.declared.Word.the-variants.{Number, None}
+use Rattle.cli_words.specs.declared.Word.{Word}
+use Rattle.cli_words.specs.declared.Word.the-variants.{Number, None}
 use Rattle.edit.specs.declared.operations.Operation.{Operation}
 use Rattle.edit.specs.declared.operations.Operation.the-variants as operation
 use Rattle.edit.specs.declared.operations.Asked.{Asked}

@@ -4,8 +4,8 @@ use mathlib.Core.Bool.{cond, _&&_}
 use mathlib.Core.List.{List, [], _∷_}
 use lib.Dec.{leb}
 use lib.ListN.{length}
-use Rattle.render.specs.Text.{ascii, decimal}
-use Rattle.render.specs.Back.{Words}
+use Rattle.print.specs.Text.{ascii, decimal}
+use Rattle.print.specs.Back.{Words}
 use Rattle.judge.specs.declared.Judged.{Judged}
 use Rattle.judge.specs.declared.Judged.the-variants as judged
 use Rattle.questions.specs.declared.Counted.{Counted}

@@ -3,10 +3,10 @@
 ghost use Prim.Native.Nat.{_<_};
 use crate::operations::Asked;
 use cli::is_option;
-use lines::rows::least;
+use cli_words::number_at;
+use print_lines::rows::least;
 use scene::Scene;
 use session::Session;
-use words::number_at;
 
 mod operations;
 mod said;

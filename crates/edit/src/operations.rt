@@ -3,8 +3,8 @@
 ghost use mathlib.Core.Path.{_≡_};
 ghost use Prim.Native.Nat.{_<_, _≤_};
 ghost use Rattle.edit.specs.Operations.{same, named, rowOf, moveOf, farOf, reverseOf, operationOf, wordsOf};
+use cli_words::Word;
 use scene::Row;
-use words::Word;
 
 pub enum Operation {
     Move(usize, Row),

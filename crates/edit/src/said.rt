@@ -2,8 +2,8 @@
 use crate::steps;
 use judge::Judged;
 use libc::STDERR_FILENO;
-use render::newline;
-use render::word;
+use print::newline;
+use print::word;
 use scene::Refusal;
 use session::Changed;
 
@@ -45,7 +45,7 @@ fn answer(c: Changed) {
 fn why(s: &[u8], r: Refusal) {
     let mut out = [0u8; 512];
     let p = word(&mut out, 0, b"why: ");
-    let q = why::sentence(s, r, &mut out, p);
+    let q = print_why::sentence(s, r, &mut out, p);
     let n = newline(&mut out, q);
     say(&out[0..n]);
 }

@@ -2,18 +2,18 @@
 ghost use mathlib.Core.Path.{_≡_};
 ghost use Prim.Native.Nat.{_≤_};
 ghost use lib.ListN.{length, take};
-ghost use Rattle.render.specs.Put.{Put};
-ghost use Rattle.render.specs.Text.{line};
-ghost use Rattle.lines.specs.Lines.{countsLine};
+ghost use Rattle.print.specs.Put.{Put};
+ghost use Rattle.print.specs.Text.{line};
+ghost use Rattle.print_lines.specs.Lines.{countsLine};
 ghost use Rattle.session.specs.Session.{scene};
 ghost use Rattle.edit.specs.Steps.{stepOf, toldOf, usageLine, sceneWithin};
 use crate::operations::Operation;
 use judge::Judged;
+use print::newline;
+use print::next_number;
+use print::next_word;
+use print::word;
 use questions::Counted;
-use render::newline;
-use render::next_number;
-use render::next_word;
-use render::word;
 use session::Changed;
 use session::Session;
 use session::save::save;
@@ -44,7 +44,7 @@ fn told(c: Changed) -> Counted
 pub fn line_of(out: &mut [u8], c: Changed) -> usize
     ensures { λ p. ⌜ Put (now (out .entry)) 0 (line (countsLine (toldOf c))) (now (out .exit)) p ⌝ }
 {
-    lines::counts::counts(out, 0, told(c))
+    print_lines::counts::counts(out, 0, told(c))
 }
 
 // The session's scene to the front of out; the answer is its length, 0 for the empty session.

@@ -4,16 +4,16 @@ ghost use Rattle.scene.specs.View.{viewOf};
 ghost use Rattle.judge.specs.Judge.{judged};
 ghost use Rattle.judge.specs.declared.Judged.the-variants.{Accepted};
 ghost use Rattle.questions.specs.Answers.{countsIn, countedOf};
-use engine::Engine;
 use judge::Judged;
+use pierce_engine::Engine;
 use questions::Counted;
 use questions::Counts;
-use readings::survey_of;
 use survey::answers::count_inside;
 use survey::answers::count_pairs;
-use table::ENDS;
-use table::Ends;
-use table::Masks;
+use survey_edges::ENDS;
+use survey_edges::Ends;
+use survey_edges::Masks;
+use survey_scene::survey_of;
 
 // Of an accepted scene.
 fn counts_of(engine: Engine, s: &[u8]) -> Counts

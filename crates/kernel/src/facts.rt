@@ -4,19 +4,19 @@ ghost use mathlib.Core.Path.{_≡_};
 ghost use Rattle.judge.specs.Judge.{judged};
 ghost use Rattle.judge.specs.declared.Judged.the-variants.{Accepted};
 ghost use Rattle.scene.specs.View.{viewOf};
-ghost use Rattle.readings.specs.Facts.{IsSurvey, Gathered};
-use engine::Engine;
+ghost use Rattle.survey_scene.specs.Facts.{IsSurvey, Gathered};
 use judge::Judged;
+use pierce_engine::Engine;
 use questions::Counts;
 use questions::Facts;
 use questions::Surveyed;
-use readings::pour_read;
-use readings::survey_of;
-use readings::verdict_read;
 use survey::answers::count_inside;
-use table::ENDS;
-use table::Ends;
-use table::Masks;
+use survey_edges::ENDS;
+use survey_edges::Ends;
+use survey_edges::Masks;
+use survey_scene::pour_read;
+use survey_scene::survey_of;
+use survey_scene::verdict_read;
 
 // Of an accepted scene.
 fn gather(engine: Engine, s: &[u8], out: &mut [u16]) -> Facts

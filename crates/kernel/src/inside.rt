@@ -4,8 +4,8 @@ ghost use Rattle.scene.specs.View.{viewOf};
 ghost use Rattle.judge.specs.Judge.{judged};
 ghost use Rattle.judge.specs.declared.Judged.the-variants.{Accepted};
 ghost use Rattle.questions.specs.Answers.{insideFault, insideIn, insideOf};
-use engine::Engine;
 use judge::Judged;
+use pierce_engine::Engine;
 use questions::Enclosing;
 use scene::Corners;
 use scene::Refusal;
@@ -17,9 +17,9 @@ use scene::offsets::points;
 use scene::read::solid;
 use survey::answers::count_inside;
 use survey::survey_solid;
-use table::ENDS;
-use table::Ends;
-use table::Masks;
+use survey_edges::ENDS;
+use survey_edges::Ends;
+use survey_edges::Masks;
 
 fn inside_fault(k: usize) -> Judged
     ensures { λ r. ⌜ r ≡ insideFault k ⌝ }

@@ -5,15 +5,15 @@ ghost use Rattle.judge.specs.declared.Judged.the-variants.{Accepted};
 ghost use Rattle.scene.specs.View.{viewOf};
 ghost use Rattle.questions.specs.Answers.{listingIn, IsListed, IsPart};
 ghost use Rattle.questions.specs.Listings.{PouredIf};
-use engine::Engine;
 use judge::Judged;
+use pierce_engine::Engine;
 use questions::Listed;
-use readings::pour_read;
-use readings::survey_of;
 use scene::Refusal;
-use table::ENDS;
-use table::Ends;
-use table::Masks;
+use survey_edges::ENDS;
+use survey_edges::Ends;
+use survey_edges::Masks;
+use survey_scene::pour_read;
+use survey_scene::survey_of;
 
 // Of an accepted scene.
 fn pour(engine: Engine, s: &[u8], from: usize, all: bool, out: &mut [u16]) -> usize

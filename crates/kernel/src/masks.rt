@@ -1,16 +1,16 @@
 // Questions about a solid: the faces that an edge pierces, and whether a vertex is enclosed.
 ghost use mathlib.Core.Path.{_≡_};
 ghost use Rattle.scene.specs.View.{viewOf};
-ghost use Rattle.face_masks.specs.Faces.{valueOf};
+ghost use Rattle.pierce_masks.specs.Faces.{valueOf};
 ghost use Rattle.judge.specs.Judge.{judged};
 ghost use Rattle.judge.specs.declared.Judged.the-variants.{Accepted};
 ghost use Rattle.questions.specs.Answers.{isVertexOf, edgeAndSolid, outside, maskFault, maskIn, saidMask, maskedOf, enclosedFault};
 ghost use Rattle.questions.specs.Answers.{otherSolid, enclosedOf};
 ghost use Rattle.questions.specs.Asked.{Outside};
 use crate::points::is_point;
-use engine::Engine;
-use face_masks::Mask;
 use judge::Judged;
+use pierce_engine::Engine;
+use pierce_masks::Mask;
 use questions::Answer;
 use questions::Masked;
 use scene::Corners;
@@ -78,7 +78,7 @@ fn mask_of(engine: Engine, s: &[u8], u: usize, v: usize, k: usize) -> Mask
     decode::rows(s, &mut rows);
     decode::faces(s, &mut corners);
     let o = solid(s, k);
-    engine::mask(engine, &rows, &corners, points(s), u, v, o.first, o.count)
+    pierce_engine::mask(engine, &rows, &corners, points(s), u, v, o.first, o.count)
 }
 
 // The mask of u, v against solid k, with the number of its ones.
@@ -92,7 +92,7 @@ pub fn mask(engine: Engine, s: &[u8], u: usize, v: usize, k: usize) -> Masked
         return Masked::Refused(r);
     }
     let m = mask_of(engine, s, u, v, k);
-    Masked::Faces(m, face_masks::ones(m))
+    Masked::Faces(m, pierce_masks::ones(m))
 }
 
 fn enclosed_fault(s: &[u8], i: usize) -> Judged
@@ -125,7 +125,7 @@ pub fn enclosed(engine: Engine, s: &[u8], i: usize) -> Answer
     if let Judged::Refused(r) = enclosed_fault(s, i) {
         return Answer::Refused(r);
     }
-    if face_masks::is_odd(mask_of(engine, s, i, points(s), other_solid(s, i))) {
+    if pierce_masks::is_odd(mask_of(engine, s, i, points(s), other_solid(s, i))) {
         return Answer::Yes;
     }
     Answer::No

@@ -2,8 +2,8 @@
 ghost use mathlib.Core.Path.{_≡_};
 ghost use Rattle.scene.specs.View.{viewOf};
 ghost use Rattle.questions.specs.Answers.{isPoint, arePoints, differ, signFault, signOf, clear, edgeAndFace, piercesFault, piercesOf};
-use engine::Engine;
 use judge::Judged;
+use pierce_engine::Engine;
 use questions::Answer;
 use questions::Signed;
 use scene::Face;
@@ -94,10 +94,10 @@ fn is_clear(u: usize, v: usize, f: Face) -> bool
     if u == v {
         return false;
     }
-    if edges::is_corner(f, u) {
+    if scene_edges::is_corner(f, u) {
         return false;
     }
-    !edges::is_corner(f, v)
+    !scene_edges::is_corner(f, v)
 }
 
 fn is_clear_of(s: &[u8], u: usize, v: usize, f: usize) -> bool
@@ -142,7 +142,7 @@ pub fn pierces(engine: Engine, s: &[u8], u: usize, v: usize, f: usize) -> Answer
     }
     let mut rows: Rows = [0; Scene::ROWS];
     decode::rows(s, &mut rows);
-    if engine::pierces(engine, &rows, points(s), u, v, corners(s, f)) {
+    if pierce_engine::pierces(engine, &rows, points(s), u, v, corners(s, f)) {
         return Answer::Yes;
     }
     Answer::No

@@ -1,11 +1,11 @@
 // The verdict: the first pierced pair; else the lowest vertex of A enclosed by B; else the lowest of B enclosed by A; else apart.
 ghost use mathlib.Core.Path.{_≡_};
 ghost use Rattle.questions.specs.Answers.{verdictOf};
-use engine::Engine;
 use judge::Judged;
+use pierce_engine::Engine;
 use questions::Verdict;
-use readings::sought_of;
-use readings::verdict_by;
+use survey_scene::sought_of;
+use survey_scene::verdict_by;
 
 pub fn verdict_of(engine: Engine, s: &[u8]) -> Verdict
     ensures { λ r. ⌜ r ≡ verdictOf (now (s .entry)) ⌝ }

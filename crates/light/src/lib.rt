@@ -4,7 +4,7 @@ ghost use Prim.Native.Nat.{_+_, _%_, _<_, _≤_};
 ghost use lib.ListN.{length};
 ghost use Rattle.questions.specs.Answers.{verdictOf};
 ghost use Rattle.light.specs.Light.{lightNumber, colourOf, word, put, total, isFull, more, IsLight};
-use engine::Engine;
+use pierce_engine::Engine;
 use questions::Verdict;
 
 // The counts hold this many answers.

@@ -1,6 +1,6 @@
 -- Four words that are numbers denote a row, and four rows a map. Assumes nothing.
-use Rattle.words.specs.declared.Word.{Word}
-use Rattle.words.specs.declared.Word.the-variants.{Number, None}
+use Rattle.cli_words.specs.declared.Word.{Word}
+use Rattle.cli_words.specs.declared.Word.the-variants.{Number, None}
 use Rattle.map.specs.declared.asked.Entries.{Entries}
 use Rattle.map.specs.declared.asked.Entries.the-variants as entries
 use Rattle.map.specs.declared.asked.Asked.{Asked}

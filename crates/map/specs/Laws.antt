@@ -11,14 +11,14 @@ use mir.ValLaws.{toZ-ofZ}
 use Rattle.laws.specs.Size.{reread}
 use Rattle.scene.specs.Records.{verts}
 use Rattle.scene.specs.declared.Row.{Row}
-use Rattle.maps.specs.declared.Map.{Map}
-use Rattle.maps.specs.declared.Imaged.{Imaged}
-use Rattle.maps.specs.declared.Imaged.the-variants.{Written}
-use Rattle.maps.specs.Faults.{wrote}
-use Rattle.maps.specs.Image.{IsImage, imageBytes, imageRow}
-use Rattle.maps.specs.Filling.{filled-length}
-use Rattle.words.specs.declared.Word.{Word}
-use Rattle.words.specs.declared.Word.the-variants.{Number, None}
+use Rattle.map_image.specs.declared.Map.{Map}
+use Rattle.map_image.specs.declared.Imaged.{Imaged}
+use Rattle.map_image.specs.declared.Imaged.the-variants.{Written}
+use Rattle.map_image.specs.Faults.{wrote}
+use Rattle.map_image.specs.Image.{IsImage, imageBytes, imageRow}
+use Rattle.map_image.specs.Filling.{filled-length}
+use Rattle.cli_words.specs.declared.Word.{Word}
+use Rattle.cli_words.specs.declared.Word.the-variants.{Number, None}
 use Rattle.map.specs.Asked.{rowOf, mapOf}
 use Rattle.map.specs.declared.asked.Entries.{Entries}
 use Rattle.map.specs.declared.asked.Entries.the-variants as entries

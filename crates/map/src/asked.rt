@@ -1,9 +1,9 @@
 // The map that sixteen words denote: each a whole number, row by row.
 ghost use mathlib.Core.Path.{_≡_};
 ghost use Rattle.map.specs.Asked.{rowOf, mapOf};
-use maps::Map;
+use cli_words::Word;
+use map_image::Map;
 use scene::Row;
-use words::Word;
 
 pub enum Entries {
     Row(Row),

@@ -4,12 +4,12 @@ use asked::Entries;
 use asked::map_of;
 use asked::row_of;
 use cli::is_option;
-use maps::Imaged;
-use maps::Map;
-use maps::image::image;
+use cli_words::Word;
+use cli_words::number_at;
+use map_image::Imaged;
+use map_image::Map;
+use map_image::image::image;
 use scene::Scene;
-use words::Word;
-use words::number_at;
 
 mod asked;
 mod line;

@@ -2,9 +2,9 @@
 use crate::line;
 use judge::Judged;
 use libc::STDERR_FILENO;
-use maps::Fault;
-use render::newline;
-use render::word;
+use map_image::Fault;
+use print::newline;
+use print::word;
 use scene::Refusal;
 
 fn say(text: &[u8]) {
@@ -57,7 +57,7 @@ pub fn too_many(i: usize) {
 fn scene(s: &[u8], r: Refusal) {
     let mut out = [0u8; 512];
     let p = word(&mut out, 0, b"why: ");
-    let q = why::sentence(s, r, &mut out, p);
+    let q = print_why::sentence(s, r, &mut out, p);
     let n = newline(&mut out, q);
     say(&out[0..n]);
 }
@@ -83,7 +83,7 @@ fn explain(s: &[u8], f: Fault) {
     let j = judge::judge(s);
     match j {
         Judged::Refused(r) => scene(s, r),
-        Judged::Accepted => image(maps::number(f)),
+        Judged::Accepted => image(map_image::number(f)),
     }
 }
 

@@ -1,6 +1,6 @@
 // Prints the class report of the block in a file, or on standard input.
-use class::Report;
-use class::Tally;
+use class_tally::Report;
+use class_tally::Tally;
 
 fn help() -> bool {
     cli::tells(
@@ -49,7 +49,7 @@ fn are_wrong() -> bool {
 fn print(r: Report) {
     // The longest report has 16 lines of no more than 71 bytes.
     let mut out = [0u8; 1136];
-    let p = sheet::sheet(&mut out, 0, r);
+    let p = class_print::sheet(&mut out, 0, r);
     cli::answer(b"marks", &out[0..p]);
 }
 
@@ -59,7 +59,7 @@ fn mark_block() {
     let r = cli::read_at(b"marks", 1, &mut block);
     let n = r.count;
     if r.whole {
-        print(class::report_of(&block[..n]));
+        print(class_tally::report_of(&block[..n]));
     }
 }
 

@@ -3,12 +3,12 @@
 ghost use Prim.Native.Nat.{_≤_};
 ghost use lib.ListN.{length};
 use check::same;
-use class::Report;
-use merged::Merged;
-use render::size;
-use totals::Reading;
-use words::Word;
-use words::number_at;
+use class_read::Reading;
+use class_sum::Merged;
+use class_tally::Report;
+use cli_words::Word;
+use cli_words::number_at;
+use print::size;
 
 mod said;
 
@@ -90,7 +90,7 @@ fn name_of(i: usize, out: &mut [u8]) -> usize
     ensures { λ n. ⌜ n ≤ length (now (out .exit)) ⌝ }
 {
     if cli::is_standard(i) {
-        return render::word(out, 0, b"standard input");
+        return print::word(out, 0, b"standard input");
     }
     os::arg(i, out)
 }
@@ -106,7 +106,7 @@ fn read_text(file: i32, known: Reading) -> Text {
         let got = cli::read(file, &mut piece);
         readable = got.whole;
         let n = got.count;
-        let f = totals::read(&piece[0..n], r);
+        let f = class_read::read(&piece[0..n], r);
         r = f.reading;
         bytes += f.end;
         if f.end < piece.len() {
@@ -123,7 +123,7 @@ fn read_text(file: i32, known: Reading) -> Text {
 
 // Whether a text ends with a whole report, and its sums can be told; what is wrong is said.
 fn stands(name: &[u8], r: Reading, bytes: usize) -> bool {
-    match merged::sum_of(r) {
+    match class_sum::sum_of(r) {
         Merged::Sum(_) => true,
         Merged::TooLarge => {
             said::wrong_at(name, b"a sum reaches 2^64 - 1", bytes);
@@ -173,7 +173,7 @@ fn read_inputs(first: usize, count: usize) -> Known
     requires { ⌜ first ≤ 3 ⌝ }
 {
     let alone = cli::is_standard(first) && count <= first + 1;
-    let mut k = read_input(first, alone, merged::nothing());
+    let mut k = read_input(first, alone, class_sum::nothing());
     let mut i = first + 1;
     while i < count {
         if !k.stands {
@@ -200,7 +200,7 @@ fn is_asked(a: Asked, read: usize) -> bool {
 fn print(r: Report) {
     // The longest report has 16 lines of no more than 71 bytes.
     let mut out = [0u8; 1136];
-    let p = sheet::sheet(&mut out, 0, r);
+    let p = class_print::sheet(&mut out, 0, r);
     cli::answer(b"merge", &out[0..p]);
 }
 
@@ -219,7 +219,7 @@ fn merge_inputs(first: usize, a: Asked)
     if !is_asked(a, r.reports) {
         return;
     }
-    if let Merged::Sum(s) = merged::sum_of(r) {
+    if let Merged::Sum(s) = class_sum::sum_of(r) {
         print(s);
     }
 }

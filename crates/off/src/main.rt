@@ -2,11 +2,11 @@
 // object text. What is refused is told on standard error.
 use cli::is_option;
 use cli::is_word;
-use items::numbers::Number;
-use items::numbers::is_whole;
-use items::numbers::told;
 use libc::STDERR_FILENO;
-use solids::points::Point;
+use off_items::numbers::Number;
+use off_items::numbers::is_whole;
+use off_items::numbers::told;
+use off_solids::points::Point;
 
 mod making;
 mod writing;

@@ -1,10 +1,10 @@
 // The scene of two files and a far point, on standard output; or on standard error why there is none.
 use crate::say;
 use crate::write;
-use objects::Fault;
-use objects::Made;
+use off_scene::Fault;
+use off_scene::Made;
+use off_solids::points::Point;
 use scene::Scene;
-use solids::points::Point;
 
 const ROOM: usize = 262144;
 
@@ -14,13 +14,13 @@ const MOST: usize = ROOM - 1;
 // The refusal and its words, of which a word of the text may be a part.
 fn say_fault(a: &[u8], b: &[u8], f: Fault) {
     let mut out = [0u8; 512];
-    let p = faults::fault(&mut out, 0, a, b, f);
+    let p = off_words::fault(&mut out, 0, a, b, f);
     say(&out[0..p]);
 }
 
 fn write_scene(a: &[u8], b: &[u8], far: Point) {
     let mut out = [0u8; Scene::LONGEST];
-    match objects::scene_of(a, b, far, &mut out) {
+    match off_scene::scene_of(a, b, far, &mut out) {
         Made::Scene(n) => write(&out[..n]),
         Made::Refused(f) => say_fault(a, b, f),
     }

@@ -2,17 +2,17 @@
 use crate::say;
 use crate::write;
 use judge::Judged;
-use objects::Fault;
-use render::newline;
-use render::word;
+use off_scene::Fault;
+use print::newline;
+use print::word;
 use scene::Refusal;
 use scene::Scene;
 
 fn say_refused(s: &[u8], r: Refusal) {
     let mut out = [0u8; 512];
-    let p = faults::refused(&mut out, 0, Fault::OfScene(r));
+    let p = off_words::refused(&mut out, 0, Fault::OfScene(r));
     let q = word(&mut out, p, b"why: ");
-    let e = why::sentence(s, r, &mut out, q);
+    let e = print_why::sentence(s, r, &mut out, q);
     let n = newline(&mut out, e);
     say(&out[0..n]);
 }
@@ -20,7 +20,7 @@ fn say_refused(s: &[u8], r: Refusal) {
 // The longest text has 48 lines of 22 bytes, 96 of 11, and two short ones.
 fn write_text(s: &[u8], k: usize) {
     let mut out = io::buffer();
-    let p = drawing::drawing(&mut out, 0, s, k);
+    let p = off_write::drawing(&mut out, 0, s, k);
     write(&out[0..p]);
 }
 

@@ -3,7 +3,7 @@ use mathlib.Core.Bool.{Bool}
 use Prim.Native.Nat.{ℕ}
 use Rattle.scene.specs.declared.Row.{Row}
 use Rattle.scene.specs.declared.Face.{Face}
-use Rattle.face_masks.specs.Faces.{maskBy, isOdd}
+use Rattle.pierce_masks.specs.Faces.{maskBy, isOdd}
 use Rattle.pierce.specs.Formula.{pierced}
 
 -- the mask of u, v against the solid, in a scene of n points

@@ -17,7 +17,7 @@ use Rattle.orient.specs.Signs.{Upto, Six, ne-sym, Rules}
 use Rattle.pierce.specs.Formula.{pierces}
 use Rattle.pierce.specs.Five.{hits, hitsFace, by-helper}
 use Rattle.pierce.specs.Triangles.{two-faces, hits-back}
-use Rattle.face_masks.specs.Faces.{maskBy, isOdd, odd-faces}
+use Rattle.pierce_masks.specs.Faces.{maskBy, isOdd, odd-faces}
 use Rattle.pierce.specs.Beside.{in-scene, apart}
 use Rattle.pierce.specs.Closed.{Closed, BothWays, round, closed-sum, closed-by-edges}
 

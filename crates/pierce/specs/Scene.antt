@@ -14,7 +14,7 @@ use Rattle.orient.specs.Signs.{Upto}
 use Rattle.pierce.specs.Formula.{pierced}
 use Rattle.pierce.specs.Helper.{Five}
 use Rattle.pierce.specs.Five.{hitsFace, by-five}
-use Rattle.face_masks.specs.Faces.{isOdd}
+use Rattle.pierce_masks.specs.Faces.{isOdd}
 use Rattle.pierce.specs.Against.{maskAgainst, enclosed}
 use Rattle.pierce.specs.Parity.{Solid, Triangle, mask-parity, mask-route}
 

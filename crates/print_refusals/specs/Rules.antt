@@ -5,8 +5,8 @@ use mathlib.Core.Bool.{cond}
 use mathlib.Core.List.{List, [], _∷_, _++_}
 use borrow.Author.Tests.{eq-eqb, ne-eqb}
 use lib.Dec.{eqb}
-use Rattle.render.specs.Put.{Put}
-use Rattle.render.specs.Text.{ascii, decimal}
+use Rattle.print.specs.Put.{Put}
+use Rattle.print.specs.Text.{ascii, decimal}
 use Rattle.scene.specs.Limits.{limits}
 
 -- words, and the numbers of no larger size than n behind them

@@ -1,11 +1,11 @@
 // The rule that a refusal says was broken, in words, put into a lent buffer at a place; the answer is the place behind. (Why a scene is
 // refused, with the byte at fault, is said by `why`.)
-ghost use Rattle.render.specs.Put.{Put};
+ghost use Rattle.print.specs.Put.{Put};
 ghost use Rattle.print_refusals.specs.Rules.{beyond as Rules·beyond, weightRule, otherRule, questionRule, ruleOf, whyOf};
-use render::newline;
-use render::next_number;
-use render::number;
-use render::word;
+use print::newline;
+use print::next_number;
+use print::number;
+use print::word;
 use scene::Scene;
 
 // That something is no number of at most this size.

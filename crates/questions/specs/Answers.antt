@@ -19,13 +19,13 @@ use Rattle.judge.specs.declared.Judged.{Judged}
 use Rattle.judge.specs.declared.Judged.the-variants.{Accepted, Refused}
 use Rattle.orient.specs.Terms.{positiveAt, termsAt}
 use Rattle.pierce.specs.Formula.{pierced}
-use Rattle.face_masks.specs.Faces.{isOdd, valueOf}
+use Rattle.pierce_masks.specs.Faces.{isOdd, valueOf}
 use Rattle.pierce.specs.Against.{maskAgainst}
-use Rattle.listing.specs.Hits.{Seen, Hit, solidHits, insideCount, lowestInside}
-use Rattle.listing.specs.First.{firstOf}
-use Rattle.listing.specs.Pour.{allIn, partIn}
-use Rattle.listing.specs.declared.find.Found.{Found}
-use Rattle.listing.specs.declared.find.Found.the-variants.{Nothing, Pair}
+use Rattle.question_listing.specs.Hits.{Seen, Hit, solidHits, insideCount, lowestInside}
+use Rattle.question_listing.specs.First.{firstOf}
+use Rattle.question_listing.specs.Pour.{allIn, partIn}
+use Rattle.question_listing.specs.declared.find.Found.{Found}
+use Rattle.question_listing.specs.declared.find.Found.the-variants.{Nothing, Pair}
 use Rattle.questions.specs.declared.Signed.{Signed}
 use Rattle.questions.specs.declared.Signed.the-variants as sign
 use Rattle.questions.specs.declared.Answer.{Answer}

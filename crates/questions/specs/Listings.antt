@@ -12,9 +12,9 @@ use Rattle.scene.specs.declared.Refusal.the-variants.{Room}
 use Rattle.judge.specs.Judge.{rule, judged}
 use Rattle.judge.specs.declared.Judged.{Judged}
 use Rattle.judge.specs.declared.Judged.the-variants.{Accepted, Refused}
-use Rattle.listing.specs.Hits.{Hit}
-use Rattle.listing.specs.Pour.{Pours, poured, partIn, allIn}
-use Rattle.listing.specs.Poured.{poured-part, poured-all}
+use Rattle.question_listing.specs.Hits.{Hit}
+use Rattle.question_listing.specs.Pour.{Pours, poured, partIn, allIn}
+use Rattle.question_listing.specs.Poured.{poured-part, poured-all}
 use Rattle.scene.specs.View.{View, viewOf}
 use Rattle.questions.specs.Answers.{answered, listingIn, listFault, listedIn, heldIn, IsListed, IsPart}
 use Rattle.questions.specs.declared.Listed.{Listed}

@@ -1,6 +1,6 @@
 // What may be asked of a scene: the types of the answers here, each question as a definition on a view in `specs/Answers`.
-use face_masks::Mask;
 use orient::Terms;
+use pierce_masks::Mask;
 use scene::Refusal;
 use scene::Scene;
 

@@ -3,22 +3,22 @@ ghost use mathlib.Core.Path.{_≡_};
 ghost use Rattle.scene.specs.View.{viewOf};
 ghost use Rattle.judge.specs.Judge.{judged};
 ghost use Rattle.judge.specs.declared.Judged.the-variants.{Accepted};
-ghost use Rattle.readings.specs.Surveys.{SurveyIs};
+ghost use Rattle.survey_scene.specs.Surveys.{SurveyIs};
 use cli::is_option;
-use engine::Engine;
 use judge::Judged;
-use lines::refused;
-use lines::rows::least;
+use pierce_engine::Engine;
+use print_lines::refused;
+use print_lines::rows::least;
+use print_report::head_read;
+use print_report::part_read;
 use questions::MOST_PAIRS;
-use readings::survey_of;
 use scene::Refusal;
 use scene::Scene;
 use survey::Survey;
-use surveyed::head_read;
-use surveyed::part_read;
-use table::ENDS;
-use table::Ends;
-use table::Masks;
+use survey_edges::ENDS;
+use survey_edges::Ends;
+use survey_edges::Masks;
+use survey_scene::survey_of;
 
 // What is held at once, 64 KiB: the 4,096 bytes that `io` takes to write; the scene, where one byte more than the longest tells that the
 // input is too long; the survey's tables, two bytes for an end and eight for a word, of both solids; a sixth of the longest listing, two

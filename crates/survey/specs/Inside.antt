@@ -11,10 +11,10 @@ use Rattle.laws.specs.Lists.{count-run}
 use Rattle.laws.specs.Mask.{mask-ones, mask-test, testBit}
 use Rattle.laws.specs.Range.{fold, over, lowestOf}
 use Rattle.laws.specs.Walk.{mask-first}
-use Rattle.links.specs.Bits.{test-zero}
+use Rattle.survey_links.specs.Bits.{test-zero}
 use Rattle.scene.specs.declared.Solid.{Solid}
-use Rattle.listing.specs.Hits.{Seen, isInside, insideCount, lowestInside}
-use Rattle.spread.specs.Walk.{insideWord}
+use Rattle.question_listing.specs.Hits.{Seen, isInside, insideCount, lowestInside}
+use Rattle.survey_enclosed.specs.Walk.{insideWord}
 
 -- the lowest vertex of the word w, of the n points above low; the number behind the last where there is none
 abbrev pub lowestOfWord : (w low n : ℕ) → ℕ

@@ -9,15 +9,15 @@ use lib.Dec.{ltb}
 use lib.ListN.{length, length-append}
 use Rattle.laws.specs.Lists.{Each, each-left, each-right}
 use Rattle.laws.specs.Runs.{upTo, bounded, each-upTo, each-only}
-use Rattle.edges.specs.Edges.{joined}
+use Rattle.scene_edges.specs.Edges.{joined}
 use Rattle.scene.specs.declared.Solid.{Solid}
-use Rattle.listing.specs.Hits.{Seen, Sound, solidHits}
-use Rattle.face_masks.specs.Faces.{width}
-use Rattle.table.specs.Table.{Entry, entryIn, entriesIn, entryHits, tableHits}
-use Rattle.table.specs.Entries.{entry-most}
-use Rattle.table.specs.Edges.{entry, vertexEdges, solidEdges, Filled}
-use Rattle.table.specs.Order.{table-hits}
-use Rattle.spread.specs.Odds.{EndsIn, Marked}
+use Rattle.question_listing.specs.Hits.{Seen, Sound, solidHits}
+use Rattle.pierce_masks.specs.Faces.{width}
+use Rattle.survey_edges.specs.Table.{Entry, entryIn, entriesIn, entryHits, tableHits}
+use Rattle.survey_edges.specs.Entries.{entry-most}
+use Rattle.survey_edges.specs.Edges.{entry, vertexEdges, solidEdges, Filled}
+use Rattle.survey_edges.specs.Order.{table-hits}
+use Rattle.survey_enclosed.specs.Odds.{EndsIn, Marked}
 use Rattle.survey.specs.Survey.{Surveyed, pairsOf}
 use Rattle.survey.specs.declared.Survey.{Survey}
 

@@ -5,11 +5,11 @@ use mathlib.Core.List.{List, _++_}
 use Prim.Native.Nat.{ℕ, _*_, _≤_}
 use lib.ListN.{length}
 use Rattle.scene.specs.declared.Solid.{Solid}
-use Rattle.listing.specs.Hits.{Seen, Hit}
-use Rattle.links.specs.Links.{words}
-use Rattle.table.specs.Table.{mostEdges, entriesIn, tableHits}
-use Rattle.table.specs.Edges.{solidEdges}
-use Rattle.spread.specs.Walk.{insideWord}
+use Rattle.question_listing.specs.Hits.{Seen, Hit}
+use Rattle.survey_links.specs.Links.{words}
+use Rattle.survey_edges.specs.Table.{mostEdges, entriesIn, tableHits}
+use Rattle.survey_edges.specs.Edges.{solidEdges}
+use Rattle.survey_enclosed.specs.Walk.{insideWord}
 use Rattle.survey.specs.declared.Part.{Part}
 use Rattle.survey.specs.declared.Survey.{Survey}
 

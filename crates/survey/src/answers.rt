@@ -5,17 +5,17 @@ ghost use Prim.Native.Nat.{ℕ, _+_, _*_, _≤_};
 ghost use lib.Count.{ones};
 ghost use lib.ListN.{length};
 ghost use Rattle.scene.specs.Limits.{limits};
-ghost use Rattle.listing.specs.First.{firstOf};
-ghost use Rattle.listing.specs.Pour.{Pours};
+ghost use Rattle.question_listing.specs.First.{firstOf};
+ghost use Rattle.question_listing.specs.Pour.{Pours};
 ghost use Rattle.survey.specs.Survey.{Fits, pairsOf};
 ghost use Rattle.survey.specs.Inside.{lowestOfWord};
 use crate::Survey;
-use listing::find::Found;
-use table::Ends;
-use table::Masks;
-use table::count;
-use table::first::find;
-use table::pour::pour;
+use question_listing::find::Found;
+use survey_edges::Ends;
+use survey_edges::Masks;
+use survey_edges::count;
+use survey_edges::first::find;
+use survey_edges::pour::pour;
 
 // How many pairs, whatever the ends and the numbers of the faces.
 pub fn count_pairs(t: Survey, amasks: &Masks, bmasks: &Masks) -> usize

@@ -1,27 +1,27 @@
 // The survey of a scene: everything of it is worked out once, and all answers are read off tables.
-ghost use Rattle.sides.specs.Lent.{Told};
-ghost use Rattle.narrow.specs.Lent.{Parted};
-ghost use Rattle.listing.specs.Hits.{seenIn};
-ghost use Rattle.spread.specs.Ready.{Ready};
+ghost use Rattle.survey_sides.specs.Lent.{Told};
+ghost use Rattle.survey_narrow.specs.Lent.{Parted};
+ghost use Rattle.question_listing.specs.Hits.{seenIn};
+ghost use Rattle.survey_enclosed.specs.Ready.{Ready};
 ghost use Rattle.survey.specs.Survey.{Surveyed, Sized, Wide};
-use edge_masks::fill_solid;
-use engine::Engine;
-use links::WORDS;
-use links::Words;
-use links::fill_links;
-use narrow::cuts::Cuts;
+use pierce_engine::Engine;
 use scene::Corners;
 use scene::Rows;
 use scene::Scene;
 use scene::Solid;
-use sides::planes::Planes;
-use spread::enclosed_word;
-use spread::odds::fill_odds;
-use table::Ends;
-use table::Masks;
-use told::make_planes;
-use told::tell_parts;
-use told::tell_sides;
+use survey_edges::Ends;
+use survey_edges::Masks;
+use survey_enclosed::enclosed_word;
+use survey_enclosed::odds::fill_odds;
+use survey_links::WORDS;
+use survey_links::Words;
+use survey_links::fill_links;
+use survey_masks::fill_solid;
+use survey_narrow::cuts::Cuts;
+use survey_setup::make_planes;
+use survey_setup::tell_parts;
+use survey_setup::tell_sides;
+use survey_sides::planes::Planes;
 
 pub mod answers;
 
@@ -51,8 +51,8 @@ pub fn survey_solid(
     ensures { λ r. ⌜ Surveyed (seenIn n (now (rows .entry)) (now (corners .entry))) k (now (ends .exit)) (now (masks .exit)) r ⌝ }
 {
     let mut planes: Planes = [0; 4 * (Scene::MOST_FACES + 1)];
-    let mut words: sides::words::Words = [0; 2 * (Scene::MOST_POINTS + 1)];
-    let own: sides::words::Words = [0; 2 * (Scene::MOST_POINTS + 1)];
+    let mut words: survey_sides::words::Words = [0; 2 * (Scene::MOST_POINTS + 1)];
+    let own: survey_sides::words::Words = [0; 2 * (Scene::MOST_POINTS + 1)];
     let cuts: Cuts = [0; 2 * (Scene::MOST_FACES + 1)];
     let mut links: Words = [0; WORDS];
     let mut odds: Words = [0; WORDS];
@@ -81,8 +81,8 @@ fn survey_part(
     corners: &Corners,
     n: usize,
     k: Solid,
-    words: &sides::words::Words,
-    own: &sides::words::Words,
+    words: &survey_sides::words::Words,
+    own: &survey_sides::words::Words,
     cuts: &Cuts,
     ends: &mut Ends,
     masks: &mut Masks,
@@ -137,9 +137,9 @@ pub fn survey_scene(
     ensures { λ r. ⌜ Surveyed (seenIn n (now (rows .entry)) (now (corners .entry))) b (now (bends .exit)) (now (bmasks .exit)) (r .b) ⌝ }
 {
     let mut planes: Planes = [0; 4 * (Scene::MOST_FACES + 1)];
-    let mut wa: sides::words::Words = [0; 2 * (Scene::MOST_POINTS + 1)];
-    let mut wb: sides::words::Words = [0; 2 * (Scene::MOST_POINTS + 1)];
-    let mut own: sides::words::Words = [0; 2 * (Scene::MOST_POINTS + 1)];
+    let mut wa: survey_sides::words::Words = [0; 2 * (Scene::MOST_POINTS + 1)];
+    let mut wb: survey_sides::words::Words = [0; 2 * (Scene::MOST_POINTS + 1)];
+    let mut own: survey_sides::words::Words = [0; 2 * (Scene::MOST_POINTS + 1)];
     let mut cuts: Cuts = [0; 2 * (Scene::MOST_FACES + 1)];
     let mut links: Words = [0; WORDS];
     let mut odds: Words = [0; WORDS];

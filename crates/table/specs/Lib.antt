@@ -1,11 +1,2 @@
-pub mod Table
-pub mod Sums
-pub mod Runs
-pub mod Entries
-pub mod Rest
-pub mod Edges
-pub mod Order
-pub mod Pairs
-pub mod TwoFaces
-pub mod Counted
-pub mod Room
+pub mod Row
+pub mod Laws

@@ -4,7 +4,7 @@ use Prim.Native.Nat.{_+_, _*_, _≤_}
 use native.Mathlib.Omega.{arith}
 use lib.ListN.{length, length-take, length-drop}
 use borrow.Author.Needs.{needs}
-use Rattle.totals.specs.Branches.{fed-within}
+use Rattle.class_read.specs.Branches.{fed-within}
 use Rattle.merge.proofs.read_text.Statement.{statement}
 use Rattle.merge.proofs.read_text.Tie as tie
 

@@ -2,9 +2,9 @@
 use native.Mathlib.Omega.{arith}
 use denote.Ref.{now}
 use mathlib.Core.Path.{_∙_}
-use Rattle.listing.specs.Hits.{seenIn}
-use Rattle.table.specs.Room.{solid-room}
-use Rattle.spread.specs.OddsProof.{odds-are}
+use Rattle.question_listing.specs.Hits.{seenIn}
+use Rattle.survey_edges.specs.Room.{solid-room}
+use Rattle.survey_enclosed.specs.OddsProof.{odds-are}
 use Rattle.survey.specs.Laws.{filled-edges, marked-edges, ends-in}
 use borrow.Author.Needs.{needs}
 use Rattle.survey.proofs.survey_part.Statement.{statement}

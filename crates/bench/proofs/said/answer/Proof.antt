@@ -1,5 +1,5 @@
 -- By its cases.
-use Rattle.lines.specs.Laws.{by-case}
+use Rattle.print_lines.specs.Laws.{by-case}
 use Rattle.bench.specs.Said.{answerLine}
 use borrow.Author.Needs.{needs}
 use Rattle.bench.proofs.said.answer.Statement.{statement}

@@ -1,5 +1,5 @@
 -- The cast keeps a number that is not below 0.
-use Rattle.render.specs.Size.{casts}
+use Rattle.print.specs.Size.{casts}
 use Rattle.edit.specs.Laws.{named-below, named-above}
 use Rattle.edit.proofs.operations.named.Statement.{statement}
 use Rattle.edit.proofs.operations.named.Tie as tie

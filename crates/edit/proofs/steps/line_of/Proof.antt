@@ -1,7 +1,7 @@
 -- The line of what is told.
 use mathlib.Core.Path.{sym}
-use Rattle.lines.specs.Laws.{by-case}
-use Rattle.lines.specs.Lines.{countsLine}
+use Rattle.print_lines.specs.Laws.{by-case}
+use Rattle.print_lines.specs.Lines.{countsLine}
 use borrow.Author.Needs.{needs}
 use Rattle.edit.proofs.steps.line_of.Statement.{statement}
 use Rattle.edit.proofs.steps.line_of.Tie as tie

@@ -1,5 +1,5 @@
 -- Read off the survey.
-use Rattle.readings.specs.Readings.{counts-read}
+use Rattle.survey_scene.specs.Readings.{counts-read}
 use borrow.Author.Needs.{needs}
 use Rattle.kernel.proofs.counts.counts_of.Statement.{statement}
 use Rattle.kernel.proofs.counts.counts_of.Tie as tie

@@ -1,6 +1,6 @@
 -- Each fact is read off the survey.
 use denote.Ref.{now}
-use Rattle.readings.specs.Readings.{gathered}
+use Rattle.survey_scene.specs.Readings.{gathered}
 use borrow.Author.Needs.{needs}
 use Rattle.kernel.proofs.facts.gather.Statement.{statement}
 use Rattle.kernel.proofs.facts.gather.Tie as tie

@@ -1,6 +1,6 @@
 -- The judge decides; an accepted scene is answered.
 use Rattle.questions.specs.Laws.{accepted-so}
-use Rattle.readings.specs.Facts.{survey-refused, survey-told}
+use Rattle.survey_scene.specs.Facts.{survey-refused, survey-told}
 use borrow.Author.Needs.{needs}
 use Rattle.kernel.proofs.facts.survey.Statement.{statement}
 use Rattle.kernel.proofs.facts.survey.Tie as tie

@@ -1,7 +1,7 @@
 -- The solid can be surveyed, and what is told of the arrays is so of the scene.
 use Rattle.rules.specs.Given.{rows-within, faces-within}
-use Rattle.readings.specs.Ready.{rows-fit, faces-fit, decoded}
-use Rattle.readings.specs.Surveys.{to-survey, inside-is}
+use Rattle.survey_scene.specs.Ready.{rows-fit, faces-fit, decoded}
+use Rattle.survey_scene.specs.Surveys.{to-survey, inside-is}
 use borrow.Author.Needs.{needs}
 use Rattle.kernel.proofs.inside.inside_of.Statement.{statement}
 use Rattle.kernel.proofs.inside.inside_of.Tie as tie

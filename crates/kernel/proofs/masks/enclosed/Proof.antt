@@ -2,7 +2,7 @@
 use Rattle.questions.specs.Answers.{enclosedIn, enclosedOf}
 use Rattle.questions.specs.Asked.{enclosed-vertex, far-outside}
 use Rattle.questions.specs.Laws.{accepted-so, refused-so, own-refused, both-accept, yes-so, no-so}
-use Rattle.readings.specs.Ready.{enclosed-found}
+use Rattle.survey_scene.specs.Ready.{enclosed-found}
 use Rattle.questions.specs.declared.Answer.the-variants.{Refused}
 use borrow.Author.Needs.{needs}
 use Rattle.kernel.proofs.masks.enclosed.Statement.{statement}

@@ -2,7 +2,7 @@
 use Rattle.questions.specs.Answers.{maskedIn, maskedOf, refused}
 use Rattle.questions.specs.Asked.{mask-outside}
 use Rattle.questions.specs.Laws.{accepted-so, refused-so, own-refused, both-accept}
-use Rattle.readings.specs.Ready.{mask-said}
+use Rattle.survey_scene.specs.Ready.{mask-said}
 use borrow.Author.Needs.{needs}
 use Rattle.kernel.proofs.masks.mask.Statement.{statement}
 use Rattle.kernel.proofs.masks.mask.Tie as tie

@@ -1,7 +1,7 @@
 -- The solid's faces are beside an edge of two points that are none of its vertices.
 use denote.Ref.{now}
 use Rattle.rules.specs.Given.{rows-within, faces-within}
-use Rattle.readings.specs.Ready.{rows-fit, faces-fit, mask-fits, decoded, mask-found}
+use Rattle.survey_scene.specs.Ready.{rows-fit, faces-fit, mask-fits, decoded, mask-found}
 use borrow.Author.Needs.{needs}
 use Rattle.kernel.proofs.masks.mask_of.Statement.{statement}
 use Rattle.kernel.proofs.masks.mask_of.Tie as tie

@@ -7,7 +7,7 @@ use Rattle.scene.specs.View.{viewOf}
 use Rattle.questions.specs.Answers.{piercesFault, piercesIn, piercesOf}
 use Rattle.questions.specs.Laws.{accepted-so, refused-so, own-refused, both-accept, yes-so, no-so}
 use Rattle.rules.specs.Given.{rows-within}
-use Rattle.readings.specs.Ready.{rows-fit, pierces-fit, pierces-found}
+use Rattle.survey_scene.specs.Ready.{rows-fit, pierces-fit, pierces-found}
 use Rattle.questions.specs.declared.Answer.the-variants.{Refused}
 use borrow.Author.Needs.{needs}
 use Rattle.kernel.proofs.points.pierces.Statement.{statement}

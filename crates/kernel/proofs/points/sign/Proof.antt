@@ -2,7 +2,7 @@
 use Rattle.questions.specs.Answers.{signIn, signOf}
 use Rattle.questions.specs.Laws.{accepted-so, refused-so, own-refused, both-accept}
 use Rattle.rules.specs.Given.{rows-within}
-use Rattle.readings.specs.Ready.{rows-fit, sign-fits, four-are, sign-found}
+use Rattle.survey_scene.specs.Ready.{rows-fit, sign-fits, four-are, sign-found}
 use Rattle.questions.specs.declared.Signed.the-variants.{Refused}
 use borrow.Author.Needs.{needs}
 use Rattle.kernel.proofs.points.sign.Statement.{statement}

@@ -2,7 +2,7 @@
 use Rattle.questions.specs.declared.Verdict.the-variants.{Refused}
 use Rattle.questions.specs.Laws.{accepted-so, refused-so, answered-so}
 use Rattle.questions.specs.Answers.{verdictOf}
-use Rattle.readings.specs.Surveys.{sought-settles}
+use Rattle.survey_scene.specs.Surveys.{sought-settles}
 use borrow.Author.Needs.{needs}
 use Rattle.kernel.proofs.verdict.verdict_of.Statement.{statement}
 use Rattle.kernel.proofs.verdict.verdict_of.Tie as tie

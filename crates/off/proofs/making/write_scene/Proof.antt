@@ -2,7 +2,7 @@
 use mathlib.Core.Path.{sym, _∙_}
 use native.Mathlib.Omega.{arith}
 use lib.Seq.{length-take-le}
-use Rattle.objects.specs.Laws.{made-room}
+use Rattle.off_scene.specs.Laws.{made-room}
 use borrow.Author.Needs.{needs}
 use Rattle.off.proofs.making.write_scene.Statement.{statement}
 use Rattle.off.proofs.making.write_scene.Tie as tie

@@ -3,7 +3,7 @@ use Prim.Native.Nat.{_+_}
 use native.Mathlib.Omega.{arith}
 use borrow.Author.Tests.{eq-eqb, ne-eqb}
 use lib.Count.{trailing-le, trailingZeros}
-use Rattle.spread.specs.WalkProof.{told-yes, told-no}
+use Rattle.survey_enclosed.specs.WalkProof.{told-yes, told-no}
 use borrow.Author.Needs.{needs}
 use Rattle.survey.proofs.answers.lowest_inside.Statement.{statement}
 use Rattle.survey.proofs.answers.lowest_inside.Tie as tie

@@ -1,0 +1,34 @@
+-- Line by line, and the four verdicts' sum.
+use denote.Ref.{now}
+use Rattle.class_tally.specs.Counting.{told-by}
+use borrow.Author.Needs.{needs}
+use Rattle.class_tally.proofs.marks.told.Statement.{statement}
+use Rattle.class_tally.proofs.marks.told.Tie as tie
+
+returns : tie.Need-returns
+returns c =
+    let s = c .before .before .before .before .before .before .before .before in
+    let a = s .before .before .before .before .before .before .before .before .args in
+    told-by (now (a .lines)) (a .pairs) (c .accepted .ensures)
+
+pub told-spec : {M : Type 1} → statement M
+told-spec =
+    tie.close
+    (tie.spec
+    (λ c. search needs)
+    (λ c. search needs)
+    (λ c. search needs)
+    (λ c. search needs)
+    (λ c. search needs)
+    (λ c. search needs)
+    (λ c. search needs)
+    (λ c. search needs)
+    (λ c. search needs)
+    (λ c. search needs)
+    (λ c. search needs)
+    (λ c. search needs)
+    (λ c. search needs)
+    (λ c. search needs)
+    (λ c. search needs)
+    (λ c κs. search needs)
+    returns)

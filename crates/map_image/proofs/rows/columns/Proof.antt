@@ -1,0 +1,28 @@
+-- Each column is made of the four rows.
+use borrow.Author.Needs.{needs}
+use Rattle.map_image.proofs.rows.columns.Statement.{statement}
+use Rattle.map_image.proofs.rows.columns.Tie as tie
+
+column-x-requires : tie.Need-column-x-requires
+column-x-requires c κs = search needs
+
+column-y-requires : tie.Need-column-y-requires
+column-y-requires c κs = search needs
+
+column-z-requires : tie.Need-column-z-requires
+column-z-requires c κs = search needs
+
+column-w-requires : tie.Need-column-w-requires
+column-w-requires c κs = search needs
+
+returns : tie.Need-returns
+returns c =
+    let z = c .before in
+    let y = z .before in
+    let x = y .before in
+    λ i. record { x = x .column-x .ensures i; y = y .column-y .ensures i; z = z .column-z .ensures i; w = c .column-w .ensures i }
+
+pub columns-spec : {M : Type 1} → statement M
+columns-spec =
+    tie.close
+    (tie.spec column-x-requires column-y-requires column-z-requires column-w-requires returns)

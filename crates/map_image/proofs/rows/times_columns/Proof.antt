@@ -1,0 +1,36 @@
+-- A product with each column.
+use Rattle.laws.specs.Size.{called}
+use Rattle.map_image.specs.Columns.{timesColumns}
+use borrow.Author.Needs.{needs}
+use Rattle.map_image.proofs.rows.times_columns.Statement.{statement}
+use Rattle.map_image.proofs.rows.times_columns.Tie as tie
+
+dot-requires : tie.Need-dot-requires
+dot-requires c κs = search needs
+
+dot-requires-2 : tie.Need-dot-requires-2
+dot-requires-2 c κs = search needs
+
+dot-requires-3 : tie.Need-dot-requires-3
+dot-requires-3 c κs = search needs
+
+dot-requires-4 : tie.Need-dot-requires-4
+dot-requires-4 c κs = search needs
+
+returns : tie.Need-returns
+unfolding timesColumns
+returns c =
+    let z = c .before in
+    let y = z .before in
+    let x = y .before in
+    λ i.
+    record {
+      x = called (x .dot .ok) (x .dot .ensures) i;
+      y = called (y .dot2 .ok) (y .dot2 .ensures) i;
+      z = called (z .dot3 .ok) (z .dot3 .ensures) i;
+      w = called (c .dot4 .ok) (c .dot4 .ensures) i;
+    }
+
+pub times-columns-spec : {M : Type 1} → statement M
+times-columns-spec =
+    tie.close (tie.spec dot-requires dot-requires-2 dot-requires-3 dot-requires-4 returns)

@@ -1,0 +1,14 @@
+-- From the keyword's end on.
+use Rattle.off_form.specs.Laws.{counts-from}
+use borrow.Author.Needs.{needs}
+use Rattle.off_form.proofs.counts.Statement.{statement}
+use Rattle.off_form.proofs.counts.Tie as tie
+
+wholes-requires : tie.Need-wholes-requires
+wholes-requires c κs = search needs
+
+returns : tie.Need-returns
+returns c = search counts-from
+
+pub counts-spec : {M : Type 1} → statement M
+counts-spec = tie.close (tie.spec wholes-requires returns)

@@ -1,0 +1,28 @@
+-- The keyword, and what is behind it.
+use Rattle.off_form.specs.Laws.{keyword-first, keyword-high, form-outside, form-counts}
+use borrow.Author.Needs.{needs}
+use Rattle.off_form.proofs.form.Statement.{statement}
+use Rattle.off_form.proofs.form.Tie as tie
+
+next-requires : tie.Need-next-requires
+next-requires c κs = search needs
+
+sub-keyword : tie.Need-sub-keyword
+sub-keyword c = search needs
+
+keyword-requires : tie.Need-keyword-requires
+keyword-requires c κs = search needs
+
+returns : tie.Need-returns
+returns c = search form-outside
+
+counts-then-requires : tie.Need-counts-then-requires
+counts-then-requires c κs = (search needs, search needs, search keyword-first, search keyword-high)
+
+returns-2 : tie.Need-returns-2
+returns-2 c = search form-counts
+
+pub form-spec : {M : Type 1} → statement M
+form-spec =
+    tie.close
+    (tie.spec next-requires sub-keyword keyword-requires returns counts-then-requires returns-2)

@@ -1,0 +1,21 @@
+-- Copied where there is room.
+use native.Mathlib.Omega.{arith}
+use Rattle.off_scene.specs.Laws.{room-lacks, room-serves}
+use borrow.Author.Needs.{needs}
+use Rattle.off_scene.proofs.placed.Statement.{statement}
+use Rattle.off_scene.proofs.placed.Tie as tie
+
+returns : tie.Need-returns
+returns c = room-lacks _ _ (omega arith)
+
+copy-requires : tie.Need-copy-requires
+copy-requires c κs = omega arith
+
+same-length : tie.Need-same-length
+same-length c = search needs
+
+returns-2 : tie.Need-returns-2
+returns-2 c = room-serves _ _ (omega arith) (c .before .before .copy .ensures)
+
+pub placed-spec : {M : Type 1} → statement M
+placed-spec = tie.close (tie.spec returns copy-requires same-length returns-2)

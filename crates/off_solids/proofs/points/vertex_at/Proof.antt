@@ -1,0 +1,55 @@
+-- Number by number.
+use native.Mathlib.Omega.{arith}
+use Rattle.off_solids.specs.Told.{number-told, row-told}
+use borrow.Author.Needs.{needs}
+use Rattle.off_solids.proofs.points.vertex_at.Statement.{statement}
+use Rattle.off_solids.proofs.points.vertex_at.Tie as tie
+
+next-requires : tie.Need-next-requires
+next-requires c κs = search needs
+
+next-requires-2 : tie.Need-next-requires-2
+next-requires-2 c κs = search needs
+
+next-requires-3 : tie.Need-next-requires-3
+next-requires-3 c κs = search needs
+
+told-requires : tie.Need-told-requires
+told-requires c κs = search needs
+
+told-requires-2 : tie.Need-told-requires-2
+told-requires-2 c κs = search needs
+
+told-requires-3 : tie.Need-told-requires-3
+told-requires-3 c κs = search needs
+
+weight-at-requires : tie.Need-weight-at-requires
+weight-at-requires c κs = search needs
+
+returns : tie.Need-returns
+returns c =
+    let tz = c .before in
+    let ty = tz .before in
+    let tx = ty .before in
+    let z = tx .before in
+    let y = z .before in
+    let x = y .before in
+    row-told _ _ _ (x .next .ensures .1) (y .next2 .ensures .1) (z .next3 .ensures .1)
+    (record { x = tx .told .result; y = ty .told2 .result; z = tz .told3 .result; w = c .weight-at .result })
+    (number-told _ _ (x .next .ensures .0) (x .next .ensures .1) 32767 (omega arith) (tx .told .ensures .0) (tx .told .ensures .1))
+    (number-told _ _ (y .next2 .ensures .0) (y .next2 .ensures .1) 32767 (omega arith) (ty .told2 .ensures .0) (ty .told2 .ensures .1))
+    (number-told _ _ (z .next3 .ensures .0) (z .next3 .ensures .1) 32767 (omega arith) (tz .told3 .ensures .0) (tz .told3 .ensures .1))
+    (c .weight-at .ensures)
+
+pub vertex-at-spec : {M : Type 1} → statement M
+vertex-at-spec =
+    tie.close
+    (tie.spec
+    next-requires
+    next-requires-2
+    next-requires-3
+    told-requires
+    told-requires-2
+    told-requires-3
+    weight-at-requires
+    returns)

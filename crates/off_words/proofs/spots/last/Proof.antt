@@ -1,0 +1,55 @@
+-- The rest of the text ends where the text does.
+use Prim.Native.Nat.{_+_, _-_, _≤_}
+use mathlib.Core.Path.{_≡_, refl}
+use native.Mathlib.Omega.{arith}
+use lib.ListN.{length, drop}
+use Rattle.off_words.specs.Spots.{lineAfter, columnAfter, turns}
+use Rattle.off_words.proofs.spots.last.Statement.{statement}
+use Rattle.off_words.proofs.spots.last.Tie as tie
+
+abbrev Inv-loop : tie.InvT-loop
+Inv-loop text line₀ column₀ i₀ line column i =
+    (lineAfter line (drop i text) ≡ lineAfter 1 text) × (columnAfter column (drop i text) ≡ columnAfter 1 text)
+    × (line ≤ i + 1) × (column ≤ i + 1) × (i ≤ length text)
+
+abbrev μ-loop : tie.MeasureT-loop
+μ-loop text line₀ column₀ i₀ line column i = length text - i
+
+loop-holds : tie.Need-loop-holds Inv-loop μ-loop
+loop-holds c = (refl, refl, omega arith, omega arith, omega arith)
+
+shared-slice-read-c : tie.Need-shared-slice-read-c Inv-loop μ-loop
+shared-slice-read-c c = search turns
+
+line-behind-requires : tie.Need-line-behind-requires Inv-loop μ-loop
+line-behind-requires c κs = search turns
+
+column-behind-requires : tie.Need-column-behind-requires Inv-loop μ-loop
+column-behind-requires c κs = search turns
+
+add-i : tie.Need-add-i Inv-loop μ-loop
+add-i c = search turns
+
+loop-less : tie.Need-loop-less Inv-loop μ-loop
+loop-less c = search turns
+
+loop-again : tie.Need-loop-again Inv-loop μ-loop
+loop-again c = search turns
+
+returns : tie.Need-returns Inv-loop μ-loop
+returns c = search turns
+
+pub last-spec : {M : Type 1} → statement M
+last-spec =
+    tie.close
+    (tie.spec
+    Inv-loop
+    μ-loop
+    loop-holds
+    shared-slice-read-c
+    line-behind-requires
+    column-behind-requires
+    add-i
+    loop-less
+    loop-again
+    returns)

@@ -1,0 +1,27 @@
+-- The digits, and the place behind them.
+use mathlib.Core.Path.{refl}
+use Rattle.print.specs.Loops.{number-put}
+use borrow.Author.Needs.{needs}
+use Rattle.print.proofs.many_digits.Statement.{statement}
+use Rattle.print.proofs.many_digits.Tie as tie
+
+places-requires : tie.Need-places-requires
+places-requires c κs = search needs
+
+digits-requires : tie.Need-digits-requires
+digits-requires c κs = search needs
+
+after-requires : tie.Need-after-requires
+after-requires c κs = search needs
+
+same-length : tie.Need-same-length
+same-length c = search needs
+
+returns : tie.Need-returns
+returns c =
+    let d = c .before .before .before in
+    number-put _ (d .digits .ensures) (d .before .before .places .ensures) refl (c .after .ensures)
+
+pub many-digits-spec : {M : Type 1} → statement M
+many-digits-spec =
+    tie.close (tie.spec places-requires digits-requires after-requires same-length returns)

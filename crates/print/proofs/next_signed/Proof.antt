@@ -1,0 +1,24 @@
+-- The space, and then the number.
+use Rattle.print.specs.Put.{end-to-end}
+use Rattle.print.specs.Loops.{signed-put}
+use borrow.Author.Needs.{needs}
+use Rattle.print.proofs.next_signed.Statement.{statement}
+use Rattle.print.proofs.next_signed.Tie as tie
+
+space-requires : tie.Need-space-requires
+space-requires c κs = search needs
+
+signed-requires : tie.Need-signed-requires
+signed-requires c κs = search needs
+
+same-length : tie.Need-same-length
+same-length c = search needs
+
+returns : tie.Need-returns
+returns c =
+    let n = c .before .before in
+    let p = n .before .before .before .before in
+    end-to-end (p .space .ensures) (signed-put (p .before .before .before .fits .z) (n .signed .ensures))
+
+pub next-signed-spec : {M : Type 1} → statement M
+next-signed-spec = tie.close (tie.spec space-requires signed-requires same-length returns)

@@ -1,0 +1,28 @@
+-- Its words, one after the other.
+use Rattle.print.specs.Put.{end-to-end}
+use borrow.Author.Needs.{needs}
+use Rattle.print_answers.proofs.said.said.Statement.{statement}
+use Rattle.print_answers.proofs.said.said.Tie as tie
+
+word-requires : tie.Need-word-requires
+word-requires c κs = search needs
+
+next-word-requires : tie.Need-next-word-requires
+next-word-requires c κs = search needs
+
+newline-requires : tie.Need-newline-requires
+newline-requires c κs = search needs
+
+same-length : tie.Need-same-length
+same-length c = search needs
+
+returns : tie.Need-returns
+returns c =
+    let r3 = c .before .before in
+    let r2 = r3 .before .before .before .before in
+    let r1 = r2 .before .before .before .before in
+    end-to-end (r1 .word .ensures) (end-to-end (r2 .next-word .ensures) (r3 .newline .ensures))
+
+pub said-spec : {M : Type 1} → statement M
+said-spec =
+    tie.close (tie.spec word-requires next-word-requires newline-requires same-length returns)

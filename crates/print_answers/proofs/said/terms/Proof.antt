@@ -1,0 +1,51 @@
+-- The four terms, one after the other.
+use Rattle.print.specs.Put.{end-to-end}
+use Rattle.print_lines.specs.Laws.{signed-is}
+use borrow.Author.Needs.{needs}
+use Rattle.print_answers.proofs.said.terms.Statement.{statement}
+use Rattle.print_answers.proofs.said.terms.Tie as tie
+
+next-signed-requires : tie.Need-next-signed-requires
+next-signed-requires c κs = search needs
+
+next-signed-requires-2 : tie.Need-next-signed-requires-2
+next-signed-requires-2 c κs = search needs
+
+next-signed-requires-3 : tie.Need-next-signed-requires-3
+next-signed-requires-3 c κs = search needs
+
+next-signed-requires-4 : tie.Need-next-signed-requires-4
+next-signed-requires-4 c κs = search needs
+
+newline-requires : tie.Need-newline-requires
+newline-requires c κs = search needs
+
+same-length : tie.Need-same-length
+same-length c = search needs
+
+returns : tie.Need-returns
+returns c =
+    let r5 = c .before .before in
+    let r4 = r5 .before .before .before .before in
+    let r3 = r4 .before .before .before .before .before in
+    let r2 = r3 .before .before .before .before .before in
+    let r1 = r2 .before .before .before .before .before in
+    let k = r1 .before .struct-told .given in
+    let t = r1 .before .before .before .before .args .t in
+    end-to-end (signed-is (t .c0) (search needs) (r1 .next-signed .ensures))
+    (end-to-end (signed-is (t .c1) (search needs) (r2 .next-signed2 .ensures))
+    (end-to-end (signed-is (t .c2) (search needs) (r3 .next-signed3 .ensures))
+    (end-to-end (signed-is (t .c3) (search needs) (r4 .next-signed4 .ensures))
+    (r5 .newline .ensures))))
+
+pub terms-spec : {M : Type 1} → statement M
+terms-spec =
+    tie.close
+    (tie.spec
+    next-signed-requires
+    next-signed-requires-2
+    next-signed-requires-3
+    next-signed-requires-4
+    newline-requires
+    same-length
+    returns)

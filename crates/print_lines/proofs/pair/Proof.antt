@@ -1,0 +1,39 @@
+-- Its words, one after the other.
+use Rattle.print.specs.Put.{end-to-end}
+use borrow.Author.Needs.{needs}
+use Rattle.print_lines.proofs.pair.Statement.{statement}
+use Rattle.print_lines.proofs.pair.Tie as tie
+
+number-requires : tie.Need-number-requires
+number-requires c κs = search needs
+
+next-number-requires : tie.Need-next-number-requires
+next-number-requires c κs = search needs
+
+next-number-requires-2 : tie.Need-next-number-requires-2
+next-number-requires-2 c κs = search needs
+
+newline-requires : tie.Need-newline-requires
+newline-requires c κs = search needs
+
+same-length : tie.Need-same-length
+same-length c = search needs
+
+returns : tie.Need-returns
+returns c =
+    let r4 = c .before .before in
+    let r3 = r4 .before .before .before .before in
+    let r2 = r3 .before .before .before .before in
+    let r1 = r2 .before .before .before .before in
+    end-to-end (r1 .number .ensures) (end-to-end (r2 .next-number .ensures) (end-to-end (r3 .next-number2 .ensures) (r4 .newline .ensures)))
+
+pub pair-spec : {M : Type 1} → statement M
+pair-spec =
+    tie.close
+    (tie.spec
+    number-requires
+    next-number-requires
+    next-number-requires-2
+    newline-requires
+    same-length
+    returns)

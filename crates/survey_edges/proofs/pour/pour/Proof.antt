@@ -1,0 +1,59 @@
+-- Each turn pours one edge more.
+use Prim.Native.Nat.{_-_, _≤_}
+use native.Mathlib.Omega.{arith}
+use denote.Ref.{now}
+use Rattle.pierce_masks.specs.Faces.{width}
+use Rattle.question_listing.specs.Pour.{Pours}
+use Rattle.question_listing.specs.Poured.{pours-start, pours-next, pours-all, reached}
+use Rattle.survey_edges.specs.Table.{entryIn, entryHits, tableHits}
+use Rattle.survey_edges.specs.Entries.{entry-most}
+use borrow.Author.Needs.{needs}
+use Rattle.survey_edges.proofs.pour.pour.Statement.{statement}
+use Rattle.survey_edges.proofs.pour.pour.Tie as tie
+
+abbrev Inv-loop : tie.InvT-loop
+Inv-loop ends masks n first from seen out₀ c₀ j₀ out c j = (j ≤ n) × Pours (tableHits first ends masks j) from seen out₀ out c
+
+abbrev μ-loop : tie.MeasureT-loop
+μ-loop ends masks n first from seen out₀ c₀ j₀ out c j = n - j
+
+loop-holds : tie.Need-loop-holds Inv-loop μ-loop
+loop-holds c = (omega arith, pours-start _ _ _ _)
+
+pour-entry-requires : tie.Need-pour-entry-requires Inv-loop μ-loop
+pour-entry-requires c κs =
+    let l = c .before .before in
+    let s = l .before .before .args in
+    let r = reached (λ i. entryHits (s .first) (entryIn (now (s .ends)) (now (s .masks)) i)) width (l .loop .j)
+    (λ i. entry-most (s .first) (entryIn (now (s .ends)) (now (s .masks)) i)) (l .loop .inv .1) in
+    (omega arith, omega arith, omega (arith, r))
+
+add-j : tie.Need-add-j Inv-loop μ-loop
+add-j c = search needs
+
+loop-less : tie.Need-loop-less Inv-loop μ-loop
+loop-less c = search needs
+
+loop-again : tie.Need-loop-again Inv-loop μ-loop
+loop-again c =
+    (omega arith, pours-next _ _ (c .before .before .before .before .before .loop .inv .1) (c .before .before .pour-entry .ensures))
+
+same-length : tie.Need-same-length Inv-loop μ-loop
+same-length c = c .before .loop .inv .1 .long
+
+returns : tie.Need-returns Inv-loop μ-loop
+returns c = pours-all _ (c .before .loop .inv .0) (c .loop-test .left) (c .before .loop .inv .1)
+
+pub pour-spec : {M : Type 1} → statement M
+pour-spec =
+    tie.close
+    (tie.spec
+    Inv-loop
+    μ-loop
+    loop-holds
+    pour-entry-requires
+    add-j
+    loop-less
+    loop-again
+    same-length
+    returns)

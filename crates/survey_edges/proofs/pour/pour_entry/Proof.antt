@@ -1,0 +1,80 @@
+-- The faces of the first word, then those of the second.
+use native.Mathlib.Omega.{arith}
+use denote.Ref.{now}
+use lib.ListN.{getD}
+use Prim.Native.Nat.{_+_, _*_}
+use Rattle.question_listing.specs.Poured.{pours-same, pours-more}
+use Rattle.survey_edges.specs.Table.{entryIn}
+use Rattle.survey_edges.specs.Entries.{hits-most, entry-words}
+use borrow.Author.Needs.{needs}
+use Rattle.survey_edges.proofs.pour.pour_entry.Statement.{statement}
+use Rattle.survey_edges.proofs.pour.pour_entry.Tie as tie
+
+mask-at-requires : tie.Need-mask-at-requires
+mask-at-requires c κs = search needs
+
+mul-at : tie.Need-mul-at
+mul-at c = search needs
+
+mul-u : tie.Need-mul-u
+mul-u c = search needs
+
+element-copy-out-u : tie.Need-element-copy-out-u
+element-copy-out-u c = search needs
+
+add-v : tie.Need-add-v
+add-v c = search needs
+
+mul-v : tie.Need-mul-v
+mul-v c = search needs
+
+element-copy-out-v : tie.Need-element-copy-out-v
+element-copy-out-v c = search needs
+
+pour-word-requires : tie.Need-pour-word-requires
+pour-word-requires c κs = search needs
+
+add-pour-word : tie.Need-add-pour-word
+add-pour-word c = search needs
+
+pour-word-requires-2 : tie.Need-pour-word-requires-2
+pour-word-requires-2 c κs =
+    let w = c .before .before .before in
+    let s = w .before .before .before .before .before .before .args in
+    let m = w .before .before .before .before .mask-at .result in (
+      search needs,
+      omega (
+        arith,
+        w .pour-word .ensures .count,
+        hits-most (getD (now (s .ends)) (2 * s .j) 0) (getD (now (s .ends)) (2 * s .j + 1) 0) (s .first) (m .low) 64,
+      ),
+    )
+
+same-length : tie.Need-same-length
+same-length c = search needs
+
+returns : tie.Need-returns
+returns c =
+    let w2 = c .before .before in
+    let w1 = w2 .before .before .before .before in
+    let m = w1 .before .before .before .before .mask-at in
+    let s = w1 .before .before .before .before .before .before .args in
+    pours-same (entry-words (s .first) (entryIn (now (s .ends)) (now (s .masks)) (s .j)) (m .result) (m .ensures .0) (search needs))
+    (pours-more (w1 .pour-word .ensures) (w2 .pour-word2 .ensures))
+
+pub pour-entry-spec : {M : Type 1} → statement M
+pour-entry-spec =
+    tie.close
+    (tie.spec
+    mask-at-requires
+    mul-at
+    mul-u
+    element-copy-out-u
+    add-v
+    mul-v
+    element-copy-out-v
+    pour-word-requires
+    add-pour-word
+    pour-word-requires-2
+    same-length
+    returns)

@@ -1,0 +1,11 @@
+pub mod Table
+pub mod Sums
+pub mod Runs
+pub mod Entries
+pub mod Rest
+pub mod Edges
+pub mod Order
+pub mod Pairs
+pub mod TwoFaces
+pub mod Counted
+pub mod Room

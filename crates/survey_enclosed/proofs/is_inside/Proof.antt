@@ -1,0 +1,23 @@
+-- The oddness of the mask toward the far point, asked for against the other solid.
+use mathlib.Core.Path.{ap, _∙_}
+use Rattle.pierce_masks.specs.Faces.{isOdd}
+use Rattle.question_listing.specs.Hits.{isInside}
+use borrow.Author.Needs.{needs}
+use Rattle.survey_enclosed.proofs.is_inside.Statement.{statement}
+use Rattle.survey_enclosed.proofs.is_inside.Tie as tie
+
+mask-requires : tie.Need-mask-requires
+mask-requires c κs =
+    let p = c .pre .0 in
+    let t = c .pre .1 in
+    (search needs, (search needs, (search needs, ((p .0 .weighted, p .0 .outward _ (p .1)), (t .own _ (p .1), t .far)))))
+
+is-odd-requires : tie.Need-is-odd-requires
+is-odd-requires c κs = search needs
+
+returns : tie.Need-returns
+unfolding isInside
+returns c = c .is-odd .ensures ∙ ap isOdd (c .before .mask .ensures)
+
+pub is-inside-spec : {M : Type 1} → statement M
+is-inside-spec = tie.close (tie.spec mask-requires is-odd-requires returns)

@@ -1,0 +1,93 @@
+-- Nothing is found so far.
+use Prim.Native.Nat.{_+_, _-_, _≤_}
+use mathlib.Core.Path.{_≡_}
+use mathlib.Core.List.{[]}
+use native.Mathlib.Omega.{arith}
+use denote.Ref.{now}
+use Rattle.survey_edges.specs.Order.{higher}
+use Rattle.question_listing.specs.First.{first-start, first-more}
+use Rattle.question_listing.specs.Hits.{seenIn, Own}
+use Rattle.survey_first.specs.First.{hitsTo, all-found, all-end}
+use borrow.Author.Needs.{needs}
+use Rattle.survey_first.proofs.first.first_of.Statement.{statement}
+use Rattle.survey_first.proofs.first.first_of.Tie as tie
+
+abbrev Inv-loop : tie.InvT-loop
+Inv-loop engine rows corners n k links words own cuts low verts i₀ i = (i ≤ verts) × ([] ≡ hitsTo (seenIn n rows corners) k i)
+
+abbrev μ-loop : tie.MeasureT-loop
+μ-loop engine rows corners n k links words own cuts low verts i₀ i = verts - i
+
+loop-holds : tie.Need-loop-holds Inv-loop μ-loop
+loop-holds c = (omega arith, first-start _)
+
+add-u : tie.Need-add-u Inv-loop μ-loop
+add-u c = search needs
+
+add-u-2 : tie.Need-add-u-2 Inv-loop μ-loop
+add-u-2 c = omega (arith, c .before .before .pre .0 .0 .vertices .1)
+
+mul-higher : tie.Need-mul-higher Inv-loop μ-loop
+mul-higher c = omega (arith, c .before .before .pre .0 .0 .vertices .1)
+
+element-copy-out-higher : tie.Need-element-copy-out-higher Inv-loop μ-loop
+element-copy-out-higher c = omega (arith, c .before .before .pre .0 .0 .vertices .1)
+
+add-higher : tie.Need-add-higher Inv-loop μ-loop
+add-higher c = search needs
+
+shr-higher : tie.Need-shr-higher Inv-loop μ-loop
+shr-higher c = omega (arith, c .before .before .before .pre .0 .0 .vertices .0)
+
+first-of-vertex-requires : tie.Need-first-of-vertex-requires Inv-loop μ-loop
+first-of-vertex-requires c κs =
+    let l = c .before .before in
+    let s = l .before in
+    let v = seenIn (s .args .n) (now (s .args .rows)) (now (s .args .corners)) in
+    let o = s .pre .0 .0 in
+    let i = l .loop .i in
+    let own : Own v (s .args .k) (s .args .k .low + 1 + i) = (omega arith, omega arith) in
+    ((o, own, higher v (s .args .k) o i (omega arith) (s .pre .0 .1 _ own)), s .pre .1)
+
+enum-known-found : tie.Need-enum-known-found Inv-loop μ-loop
+enum-known-found c = search needs
+
+returns : tie.Need-returns Inv-loop μ-loop
+returns c = search all-found
+
+enum-told : tie.Need-enum-told Inv-loop μ-loop
+enum-told c = search needs
+
+add-i : tie.Need-add-i Inv-loop μ-loop
+add-i c = search needs
+
+loop-less : tie.Need-loop-less Inv-loop μ-loop
+loop-less c = search needs
+
+loop-again : tie.Need-loop-again Inv-loop μ-loop
+loop-again c = (omega arith, search first-more)
+
+returns-2 : tie.Need-returns-2 Inv-loop μ-loop
+returns-2 c = search all-end
+
+pub first-of-spec : {M : Type 1} → statement M
+first-of-spec =
+    tie.close
+    (tie.spec
+    Inv-loop
+    μ-loop
+    loop-holds
+    add-u
+    add-u-2
+    mul-higher
+    element-copy-out-higher
+    add-higher
+    shr-higher
+    first-of-vertex-requires
+    enum-known-found
+    returns
+    enum-told
+    add-i
+    loop-less
+    loop-again
+    returns-2)

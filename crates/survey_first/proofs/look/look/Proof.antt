@@ -1,0 +1,55 @@
+-- What is found from the first vertex is the first of all.
+use Prim.Native.Nat.{_+_}
+use native.Mathlib.Omega.{arith}
+use denote.Ref.{now}
+use Rattle.question_listing.specs.Hits.{seenIn, Own}
+use Rattle.survey_first.specs.Look.{side-asked, higher-first, glimpsed-first}
+use borrow.Author.Needs.{needs}
+use Rattle.survey_first.proofs.look.look.Statement.{statement}
+use Rattle.survey_first.proofs.look.look.Tie as tie
+
+returns : tie.Need-returns
+returns c = (search needs, c .before .before .pre .1 .1)
+
+add-u : tie.Need-add-u
+add-u c = search needs
+
+sides-requires : tie.Need-sides-requires
+sides-requires c κs =
+    let s = c .before .before .before .before in
+    let v = seenIn (s .args .n) (now (s .args .rows)) (now (s .args .corners)) in
+    let q = side-asked v (s .args .k) (s .args .k .low + 1) (s .pre .0 .0) (s .pre .0 .1) (omega arith, omega arith) in
+    (q .0, (q .1 .0, (q .1 .1, s .pre .1 .1)))
+
+mul-higher : tie.Need-mul-higher
+mul-higher c = search needs
+
+element-copy-out-higher : tie.Need-element-copy-out-higher
+element-copy-out-higher c = search needs
+
+look-from-requires : tie.Need-look-from-requires
+look-from-requires c κs =
+    let d = c .before in
+    let s = d .before .before .before .before .before .before in
+    let v = seenIn (s .args .n) (now (s .args .rows)) (now (s .args .corners)) in
+    let o = s .pre .0 .0 in
+    let own : Own v (s .args .k) (s .args .k .low + 1) = (omega arith, omega arith) in
+    (s .pre .0, ((own, higher-first v (s .args .k) o (omega arith) (s .pre .1 .0 _ own)), d .before .sides .ensures))
+
+returns-2 : tie.Need-returns-2
+returns-2 c =
+    let s = c .before .before .before .before .before .before .before .before in
+    let v = seenIn (s .args .n) (now (s .args .rows)) (now (s .args .corners)) in
+    (glimpsed-first v (s .args .k) (s .pre .0 .0) (omega arith) (c .look-from .result) (c .look-from .ensures .0), c .look-from .ensures .1)
+
+pub look-spec : {M : Type 1} → statement M
+look-spec =
+    tie.close
+    (tie.spec
+    returns
+    add-u
+    sides-requires
+    mul-higher
+    element-copy-out-higher
+    look-from-requires
+    returns-2)

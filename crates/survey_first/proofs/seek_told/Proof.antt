@@ -1,0 +1,153 @@
+-- A's edges, then B's; where none pierces no edge is odd.
+use denote.Ref.{now}
+use Rattle.question_listing.specs.Hits.{seenIn, solidHits}
+use Rattle.survey_setup.specs.Parted.{blank-new, parts-asked, parts-told, blank-told}
+use Rattle.survey_first.specs.Seek.{none-first, sought-in-a, sought-in-b, sought-none}
+use borrow.Author.Needs.{needs}
+use Rattle.survey_first.proofs.seek_told.Statement.{statement}
+use Rattle.survey_first.proofs.seek_told.Tie as tie
+
+make-planes-requires : tie.Need-make-planes-requires
+make-planes-requires c κs =
+    let b = c .before .pre .0 in
+    let o = b .b-ready .within .sound in
+    ((o .rows, o .faces), (o .other, b .room))
+
+tell-lent-requires : tie.Need-tell-lent-requires
+tell-lent-requires c κs =
+    let m = c .before .before .before in
+    let s = m .before .before in
+    ((s .pre .0 .b-ready, search needs), (m .make-planes .ensures, s .pre .1))
+
+tell-parts-requires : tie.Need-tell-parts-requires
+tell-parts-requires c κs =
+    let t = c .before .before .before in
+    let s = t .before .before .before .before .before .before in
+    parts-asked _ (s .args .a) (s .pre .0 .a-ready)
+
+first-of-requires : tie.Need-first-of-requires
+first-of-requires c κs =
+    let p = c .before .before in
+    let t = p .before .before .before .before in
+    let s = t .before .before .before .before .before .before in
+    let v = seenIn (s .args .n) (now (s .args .rows)) (now (s .args .corners)) in
+    let b = s .pre .0 in
+    let e = p .tell-parts .ensures in
+    let z = blank-new v (s .args .a) (s .args .b) in (
+      (b .a-ready .within .sound, b .linked),
+      (b .told, parts-told v (s .args .a) (s .args .b) (b .a-ready) (b .b-ready) (t .tell-lent .ensures .0) (e .0) (e .1) z),
+    )
+
+enum-known-of-a : tie.Need-enum-known-of-a
+enum-known-of-a c = search needs
+
+crossed-requires : tie.Need-crossed-requires
+crossed-requires c κs = search needs
+
+returns : tie.Need-returns
+returns c = search sought-in-a
+
+enum-told : tie.Need-enum-told
+enum-told c = search needs
+
+fill-links-requires : tie.Need-fill-links-requires
+fill-links-requires c κs =
+    let n = c .before in
+    let t = n .before .before .before .before .before .before .before .before .before in
+    let s = t .before .before .before .before .before .before in
+    let o = s .pre .0 .b-ready .within .sound in
+    ((o .corners, o .own), (search needs, o .vertices .0, o .vertices .1))
+
+tell-parts-requires-2 : tie.Need-tell-parts-requires-2
+tell-parts-requires-2 c κs =
+    let l = c .before .before in
+    let t = l .before .before .before .before .before .before .before .before .before .before .before in
+    let s = t .before .before .before .before .before .before in
+    parts-asked _ (s .args .b) (s .pre .0 .b-ready)
+
+first-of-requires-2 : tie.Need-first-of-requires-2
+first-of-requires-2 c κs =
+    let q = c .before .before .before .before in
+    let l = q .before .before .before in
+    let p = l .before .before .before .before .before .before .before in
+    let t = p .before .before .before .before in
+    let s = t .before .before .before .before .before .before in
+    let v = seenIn (s .args .n) (now (s .args .rows)) (now (s .args .corners)) in
+    let b = s .pre .0 in
+    let e = p .tell-parts .ensures in
+    let f = q .tell-parts2 .ensures in
+    let n = blank-new v (s .args .b) (s .args .a) in
+    let z = blank-told v (s .args .a) (s .args .b) (b .a-ready) (b .b-ready) (t .tell-lent .ensures .0) (e .0) (e .1) n in (
+      (b .b-ready .within .sound, l .fill-links .ensures .own),
+      (t .tell-lent .ensures .0, parts-told v (s .args .b) (s .args .a) (b .b-ready) (b .a-ready) (b .told) (f .0) (f .1) z),
+    )
+
+enum-known-of-b : tie.Need-enum-known-of-b
+enum-known-of-b c = search needs
+
+crossed-requires-2 : tie.Need-crossed-requires-2
+crossed-requires-2 c κs = search needs
+
+returns-2 : tie.Need-returns-2
+returns-2 c = search sought-in-b
+
+enum-told-2 : tie.Need-enum-told-2
+enum-told-2 c = search needs
+
+inside-still-requires : tie.Need-inside-still-requires
+inside-still-requires c κs =
+    let q = c .before .before .before .before .before .before .before in
+    let l = q .before .before .before in
+    let n = l .before .before in
+    let t = n .before .before .before .before .before .before .before .before .before in
+    let s = t .before .before .before .before .before .before in
+    let v = seenIn (s .args .n) (now (s .args .rows)) (now (s .args .corners)) in (
+      (s .pre .0 .a-ready, s .pre .0 .linked),
+      (s .pre .0 .told, none-first (solidHits v (s .args .a)) (n .before .before .first-of .ensures) (n .enum-told .given .1)),
+    )
+
+inside-still-requires-2 : tie.Need-inside-still-requires-2
+inside-still-requires-2 c κs =
+    let n = c .before .before .before in
+    let f = n .before .before in
+    let l = f .before .before .before .before .before .before .before .before in
+    let t = l .before .before .before .before .before .before .before .before .before .before .before in
+    let s = t .before .before .before .before .before .before in
+    let v = seenIn (s .args .n) (now (s .args .rows)) (now (s .args .corners)) in (
+      (s .pre .0 .b-ready, l .fill-links .ensures .own),
+      (t .tell-lent .ensures .0, none-first (solidHits v (s .args .b)) (f .first-of2 .ensures) (n .enum-told2 .given .1)),
+    )
+
+returns-3 : tie.Need-returns-3
+returns-3 c =
+    let i = c .before .before .before in
+    let n = i .before in
+    let m = n .before .before .before .before .before .before .before .before .before .before .before .before in
+    let t = m .before .before .before .before .before .before .before .before .before in
+    let s = t .before .before .before .before .before .before in
+    let v = seenIn (s .args .n) (now (s .args .rows)) (now (s .args .corners)) in
+    sought-none v (s .args .a) (s .args .b) (m .before .before .first-of .ensures) (m .enum-told .given .1)
+    (n .before .before .first-of2 .ensures) (n .enum-told2 .given .1) (i .inside-still .ensures) (c .inside-still2 .ensures)
+
+pub seek-told-spec : {M : Type 1} → statement M
+seek-told-spec =
+    tie.close
+    (tie.spec
+    make-planes-requires
+    tell-lent-requires
+    tell-parts-requires
+    first-of-requires
+    enum-known-of-a
+    crossed-requires
+    returns
+    enum-told
+    fill-links-requires
+    tell-parts-requires-2
+    first-of-requires-2
+    enum-known-of-b
+    crossed-requires-2
+    returns-2
+    enum-told-2
+    inside-still-requires
+    inside-still-requires-2
+    returns-3)

@@ -1,0 +1,27 @@
+-- Both tables are filled, or stay as they are.
+use mathlib.Core.Path.{refl, sym, _∙_}
+use borrow.Author.Needs.{needs}
+use Rattle.survey_setup.proofs.tell_parts.Statement.{statement}
+use Rattle.survey_setup.proofs.tell_parts.Tie as tie
+
+mirrors-requires : tie.Need-mirrors-requires
+mirrors-requires c κs = search needs
+
+fill-requires : tie.Need-fill-requires
+fill-requires c κs = search needs
+
+fill-requires-2 : tie.Need-fill-requires-2
+fill-requires-2 c κs = search needs
+
+returns : tie.Need-returns
+returns c =
+    let f = c .before .before in
+    let b = f .before .before in
+    let h = sym (b .before .mirrors .ensures) ∙ b .if1 .taken in
+    rw h (f .fill .ensures, c .fill2 .ensures)
+
+returns-2 : tie.Need-returns-2
+returns-2 c = let h = sym (c .before .mirrors .ensures) ∙ c .if1 .left in rw h (refl, refl)
+
+pub tell-parts-spec : {M : Type 1} → statement M
+tell-parts-spec = tie.close (tie.spec mirrors-requires fill-requires fill-requires-2 returns returns-2)

@@ -1,0 +1,35 @@
+-- The far point's words, then those of the vertices.
+use denote.Ref.{now}
+use Rattle.question_listing.specs.Hits.{seenIn}
+use Rattle.survey_setup.specs.Told.{own-asked, far-asked, told}
+use borrow.Author.Needs.{needs}
+use Rattle.survey_setup.proofs.tell_sides.Statement.{statement}
+use Rattle.survey_setup.proofs.tell_sides.Tie as tie
+
+far-requires : tie.Need-far-requires
+far-requires c κs = search needs
+
+fill-requires : tie.Need-fill-requires
+fill-requires c κs =
+    let s = c .before .before in
+    let v = seenIn (s .args .n) (now (s .args .rows)) (now (s .args .corners)) in
+    let p = s .pre .0 .0 in
+    ((p .within .sound .rows, p .within .sound .faces), far-asked v (s .args .k) p (s .pre .1) (c .before .far .ensures))
+
+fill-requires-2 : tie.Need-fill-requires-2
+fill-requires-2 c κs =
+    let s = c .before .before .before .before in
+    let v = seenIn (s .args .n) (now (s .args .rows)) (now (s .args .corners)) in
+    let p = s .pre .0 .0 in
+    ((p .within .sound .rows, p .within .sound .faces), own-asked v (s .args .k) p (s .pre .1))
+
+returns : tie.Need-returns
+returns c =
+    let s = c .before .before .before .before .before in
+    let v = seenIn (s .args .n) (now (s .args .rows)) (now (s .args .corners)) in
+    told v (s .args .k) (s .pre .0 .0) _ (s .pre .0 .1) (c .before .before .before .before .far .ensures) (c .before .before .fill .ensures)
+    (c .fill2 .ensures)
+
+pub tell-sides-spec : {M : Type 1} → statement M
+tell-sides-spec =
+    tie.close (tie.spec far-requires fill-requires fill-requires-2 returns)

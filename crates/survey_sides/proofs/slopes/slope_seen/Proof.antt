@@ -1,0 +1,189 @@
+-- The rows and shifts of a face's corners, seen from the last, are within the limits; what is made of them is the slope.
+use borrow.Author.Needs.{needs}
+use mathlib.Core.Path.{_≡_, _∙_}
+use Prim.Native.Nat.{ℕ}
+use denote.Ref.{now}
+use Rattle.laws.specs.Size.{called, reread}
+use Rattle.scene.specs.Arrays.{rowIn}
+use Rattle.scene.specs.declared.Row.{Row}
+use Rattle.orient.specs.Minors.{lessOf, tripleOf}
+use Rattle.orient.specs.Shifts.{shiftAt}
+use Rattle.survey_sides.specs.Slopes.{sumOf, slopeFor}
+use Rattle.survey_sides.specs.Units.{seenPlane, level, unit-slope}
+use Rattle.survey_sides.specs.UnitSizes.{unit-less, shift-less, first-seen, second-seen, third-seen, seen-summed, triple-at, sum-at}
+use Rattle.survey_sides.proofs.slopes.slope_seen.Statement.{statement}
+use Rattle.survey_sides.proofs.slopes.slope_seen.Tie as tie
+
+abbrev row : tie.Start → ℕ → Row
+row s = rowIn (now (s .args .rows))
+
+-- ---- what is made on the way
+
+abbrev start : tie.After-less → tie.Start
+start c = c .before .before .before .before
+
+abbrev u : (s : tie.Start) → Row
+u s = lessOf (row s (s .args .f .q)) (row s (s .args .f .r))
+
+abbrev v : (s : tie.Start) → Row
+v s = lessOf (row s (s .args .f .p)) (row s (s .args .f .r))
+
+abbrev du : (s : tie.Start) → Row
+du s = lessOf (shiftAt (row s) (s .args .f .q)) (shiftAt (row s) (s .args .f .r))
+
+abbrev dv : (s : tie.Start) → Row
+dv s = lessOf (shiftAt (row s) (s .args .f .p)) (shiftAt (row s) (s .args .f .r))
+
+r-is : (c : tie.After-less) → let s = start c in c .before .before .before .row-in .result ≡ row s (s .args .f .r)
+r-is c = c .before .before .before .row-in .ensures
+
+o-is : (c : tie.After-less) → let s = start c in c .before .before .shift-at .result ≡ shiftAt (row s) (s .args .f .r)
+o-is c = c .before .before .shift-at .ensures
+
+u-is : (c : tie.After-less) → c .less .result ≡ u (start c)
+u-is c = c .less .ensures ∙ (λ i. lessOf (c .before .row-in2 .ensures i) (r-is c i))
+
+v-is : (c : tie.After-less2) → c .less2 .result ≡ v (start (c .before .before))
+v-is c = c .less2 .ensures ∙ (λ i. lessOf (c .before .row-in3 .ensures i) (r-is (c .before .before) i))
+
+du-is : (c : tie.After-less3) → c .less3 .result ≡ du (start (c .before .before .before .before))
+du-is c = c .less3 .ensures ∙ (λ i. lessOf (c .before .shift-at2 .ensures i) (o-is (c .before .before .before .before) i))
+
+dv-is : (c : tie.After-less4) → c .less4 .result ≡ dv (start (c .before .before .before .before .before .before .before))
+dv-is c =
+    c .less4 .ensures ∙ (λ i. lessOf (c .before .shift-at3 .ensures i) (o-is (c .before .before .before .before .before .before .before) i))
+
+-- ---- what each step asks for
+
+row-in-requires : tie.Need-row-in-requires
+row-in-requires c κs = search needs
+
+shift-at-requires : tie.Need-shift-at-requires
+shift-at-requires c κs = search needs
+
+row-in-requires-2 : tie.Need-row-in-requires-2
+row-in-requires-2 c κs = search needs
+
+less-requires : tie.Need-less-requires
+less-requires c κs =
+    let d = c .before .before in
+    let p = d .before .pre .0 in
+    rw (c .row-in2 .ensures, d .row-in .ensures) (unit-less (p _) (p _))
+
+row-in-requires-3 : tie.Need-row-in-requires-3
+row-in-requires-3 c κs = search needs
+
+less-requires-2 : tie.Need-less-requires-2
+less-requires-2 c κs =
+    let p = start (c .before) .pre .0 in
+    rw (c .row-in3 .ensures, r-is (c .before)) (unit-less (p _) (p _))
+
+shift-at-requires-2 : tie.Need-shift-at-requires-2
+shift-at-requires-2 c κs = search needs
+
+less-requires-3 : tie.Need-less-requires-3
+less-requires-3 c κs =
+    let l = c .before .before .before in
+    let s = start l in
+    let h = s .pre .1 in
+    rw (c .shift-at2 .ensures, o-is l)
+    (shift-less (row s) (s .args .f .q) (s .args .f .p) (s .args .f .r) (s .pre .0) (h .q) (h .p) (h .r))
+
+seen-requires : tie.Need-seen-requires
+seen-requires c κs =
+    let m = c .before .before in
+    let l = m .before .before in
+    let s = start l in
+    let h = s .pre .1 in
+    triple-at (r-is l) (du-is c) (v-is m)
+    (first-seen (row s) (s .args .f .q) (s .args .f .p) (s .args .f .r) (s .pre .0) (h .q) (h .p) (h .r))
+
+shift-at-requires-3 : tie.Need-shift-at-requires-3
+shift-at-requires-3 c κs = let s = start (c .before .before .before .before .before) in (s .pre .0, s .pre .1 .p)
+
+less-requires-4 : tie.Need-less-requires-4
+less-requires-4 c κs =
+    let l = c .before .before .before .before .before .before in
+    let s = start l in
+    let h = s .pre .1 in
+    rw (c .shift-at3 .ensures, o-is l)
+    (shift-less (row s) (s .args .f .p) (s .args .f .q) (s .args .f .r) (s .pre .0) (h .p) (h .q) (h .r))
+
+seen-requires-2 : tie.Need-seen-requires-2
+seen-requires-2 c κs =
+    let l = c .before .before .before .before .before .before .before in
+    let s = start l in
+    let h = s .pre .1 in
+    triple-at (r-is l) (u-is l) (dv-is c)
+    (second-seen (row s) (s .args .f .q) (s .args .f .p) (s .args .f .r) (s .pre .0) (h .q) (h .p) (h .r))
+
+triple-requires : tie.Need-triple-requires
+triple-requires c κs =
+    let m = c .before .before .before .before .before .before in
+    let l = m .before .before in
+    let s = start l in
+    let h = s .pre .1 in
+    triple-at (o-is l) (u-is l) (v-is m)
+    (third-seen (row s) (s .args .f .q) (s .args .f .p) (s .args .f .r) (s .pre .0) (h .q) (h .p) (h .r))
+
+-- ---- the three parts, and their sum
+
+module _ (c : tie.After-triple) where
+  abbrev last : tie.After-less4
+  last = c .before .before
+
+  abbrev near : tie.After-less3
+  near = last .before .before .before
+
+  abbrev middle : tie.After-less2
+  middle = near .before .before
+
+  abbrev first : tie.After-less
+  first = middle .before .before
+
+  abbrev s : tie.Start
+  s = start first
+
+  first-is : last .before .before .seen .result ≡ seenPlane (du s) (v s) (row s (s .args .f .r))
+  first-is = last .before .before .seen .ensures ∙ (λ i. seenPlane (du-is near i) (v-is middle i) (r-is first i))
+
+  second-is : c .before .seen2 .result ≡ seenPlane (u s) (dv s) (row s (s .args .f .r))
+  second-is = c .before .seen2 .ensures ∙ (λ i. seenPlane (u-is first i) (dv-is last i) (r-is first i))
+
+  third-is : _≡_ {A = Row} (level (reread (c .triple .result))) (level (tripleOf (shiftAt (row s) (s .args .f .r)) (u s) (v s)))
+  third-is i = level (called (c .triple .ok) (c .triple .ensures ∙ (λ j. tripleOf (o-is first j) (u-is first j) (v-is middle j))) i)
+
+added-requires : tie.Need-added-requires
+added-requires c κs =
+    let o = s c in
+    let h = o .pre .1 in
+    sum-at (first-is c) (second-is c) (third-is c)
+    (seen-summed (row o) (o .args .f .q) (o .args .f .p) (o .args .f .r) (o .pre .0) (h .q) (h .p) (h .r))
+
+returns : tie.Need-returns
+unfolding slopeFor
+returns c =
+    let d = c .before in
+    let o = s d in
+    c .added .ensures ∙ (λ i. sumOf (first-is d i) (second-is d i) (third-is d i))
+    ∙ unit-slope (row o) (o .args .f .q) (o .args .f .p) (o .args .f .r) (o .pre .2)
+
+pub slope-seen-spec : {M : Type 1} → statement M
+slope-seen-spec =
+    tie.close
+    (tie.spec
+    row-in-requires
+    shift-at-requires
+    row-in-requires-2
+    less-requires
+    row-in-requires-3
+    less-requires-2
+    shift-at-requires-2
+    less-requires-3
+    seen-requires
+    shift-at-requires-3
+    less-requires-4
+    seen-requires-2
+    triple-requires
+    added-requires
+    returns)

@@ -1,0 +1,43 @@
+-- Field by field: each minor of the directions, and their determinant with the row.
+use borrow.Author.Needs.{needs}
+use Rattle.laws.specs.Size.{called}
+use Rattle.orient.specs.Bits.{RowFits, crossed}
+use Rattle.survey_sides.proofs.units.seen.Statement.{statement}
+use Rattle.survey_sides.proofs.units.seen.Tie as tie
+
+u-fits : (c : tie.Start) → RowFits (c .args .u)
+u-fits c = search needs
+
+v-fits : (c : tie.Start) → RowFits (c .args .v)
+v-fits c = search needs
+
+cross-requires : tie.Need-cross-requires
+cross-requires c κs = search needs
+
+cross-requires-2 : tie.Need-cross-requires-2
+cross-requires-2 c κs = search needs
+
+cross-requires-3 : tie.Need-cross-requires-3
+cross-requires-3 c κs = search needs
+
+triple-requires : tie.Need-triple-requires
+triple-requires c κs = search needs
+
+returns : tie.Need-returns
+returns c =
+    let c3 = c .before in
+    let c2 = c3 .before .before .before .before .before in
+    let c1 = c2 .before .before .before .before .before in
+    let s = c1 .before .before .before .before .before in
+    let u = u-fits s in
+    let v = v-fits s in
+    λ i.
+    record {
+      x = crossed (u .y) (u .z) (v .y) (v .z) (c1 .cross .ok) (c1 .cross .ensures) i;
+      y = crossed (u .x) (u .z) (v .x) (v .z) (c2 .cross2 .ok) (c2 .cross2 .ensures) i;
+      z = crossed (u .x) (u .y) (v .x) (v .y) (c3 .cross3 .ok) (c3 .cross3 .ensures) i;
+      w = called (c .triple .ok) (c .triple .ensures) i;
+    }
+
+pub seen-spec : {M : Type 1} → statement M
+seen-spec = tie.close (tie.spec cross-requires cross-requires-2 cross-requires-3 triple-requires returns)

@@ -1,0 +1,74 @@
+-- Each turn stores the words of one more point; a slope that is in the table stays right.
+use borrow.Author.Needs.{needs}
+use mathlib.Core.Path.{_≡_, _∙_}
+use Prim.Native.Nat.{_-_, _≤_}
+use native.Mathlib.Omega.{arith}
+use Rattle.laws.specs.Filled.{filled}
+use Rattle.scene.specs.Arrays.{rowIn, faceIn}
+use Rattle.survey_sides.specs.Tables.{masksFrom, masks-more}
+use Rattle.survey_sides.specs.Sides.{sidesOf}
+use Rattle.survey_sides.specs.Slopes.{Sloped}
+use Rattle.survey_sides.proofs.words.fill_points.Statement.{statement}
+use Rattle.survey_sides.proofs.words.fill_points.Tie as tie
+
+abbrev Inv-loop : tie.InvT-loop
+Inv-loop rows corners planes low n first count words₀ slopes₀ i₀ words slopes i =
+    (i ≤ n) × (words ≡ masksFrom (sidesOf (rowIn rows) (faceIn corners) first count) low i words₀)
+    × Sloped (rowIn rows) (faceIn corners) slopes
+
+abbrev μ-loop : tie.MeasureT-loop
+μ-loop rows corners planes low n first count words₀ slopes₀ i₀ words slopes i = n - i
+
+loop-holds : tie.Need-loop-holds Inv-loop μ-loop
+unfolding masksFrom filled
+loop-holds c = (search needs, search needs, c .pre .1 .1 .1)
+
+add-t : tie.Need-add-t Inv-loop μ-loop
+add-t c = search needs
+
+add-t-2 : tie.Need-add-t-2 Inv-loop μ-loop
+add-t-2 c = search needs
+
+sides-requires : tie.Need-sides-requires Inv-loop μ-loop
+sides-requires c κs =
+    let l = c .before .before .before in
+    let p = l .before .pre in (
+      (p .0 .0, p .0 .1, search needs),
+      ((p .1 .0 .1, p .1 .0 .2), (p .1 .1 .0 (l .loop .i) (search needs), l .loop .inv .2)),
+    )
+
+put-requires : tie.Need-put-requires Inv-loop μ-loop
+put-requires c κs = search needs
+
+add-i : tie.Need-add-i Inv-loop μ-loop
+add-i c = search needs
+
+loop-less : tie.Need-loop-less Inv-loop μ-loop
+loop-less c = search needs
+
+loop-again : tie.Need-loop-again Inv-loop μ-loop
+loop-again c =
+    let d = c .before in
+    let l = d .before .before .before .before in
+    (omega arith, c .put .ensures ∙ masks-more _ _ _ _ (l .loop .inv .1) (d .sides .ensures .0), d .sides .ensures .1)
+
+returns : tie.Need-returns Inv-loop μ-loop
+returns c =
+    let e : c .before .loop .i ≡ c .before .before .args .n = omega arith in
+    (cc (c .before .loop .inv .1), c .before .loop .inv .2)
+
+pub fill-points-spec : {M : Type 1} → statement M
+fill-points-spec =
+    tie.close
+    (tie.spec
+    Inv-loop
+    μ-loop
+    loop-holds
+    add-t
+    add-t-2
+    sides-requires
+    put-requires
+    add-i
+    loop-less
+    loop-again
+    returns)

@@ -1,0 +1,31 @@
+-- Its words, one after the other.
+use Rattle.print.specs.Put.{end-to-end}
+use Rattle.table.specs.Laws.{number-is}
+use borrow.Author.Needs.{needs}
+use Rattle.table.proofs.row.refused.Statement.{statement}
+use Rattle.table.proofs.row.refused.Tie as tie
+
+returns : tie.Need-returns
+returns c =
+    let r4 = c .before .before in
+    let r3 = r4 .before .before .before .before .before in
+    let r2 = r3 .before .before .before .before .before in
+    let r1 = r2 .before .before .before .before .before in
+    end-to-end (r1 .word .ensures)
+    (end-to-end (number-is (r2 .before .number .ensures) (r2 .next-number .ensures))
+    (end-to-end (number-is (r3 .before .place .ensures) (r3 .next-number2 .ensures)) (r4 .word2 .ensures)))
+
+pub refused-spec : {M : Type 1} → statement M
+refused-spec =
+    tie.close
+    (tie.spec
+    (λ c. search needs)
+    (λ c κs. search needs)
+    (λ c κs. search needs)
+    (λ c κs. search needs)
+    (λ c κs. search needs)
+    (λ c κs. search needs)
+    (λ c. search needs)
+    (λ c κs. search needs)
+    (λ c. search needs)
+    returns)

@@ -1,9 +1,0 @@
--- Its parts, one after the other.
-use Rattle.why.specs.Said.{one, and}
-use borrow.Author.Needs.{needs}
-use Rattle.why.proofs.places.place.Statement.{statement}
-use Rattle.why.proofs.places.place.Tie as tie
-
-pub place-spec : {M : Type 1} → statement M
-place-spec =
-    tie.close (tie.spec (search needs) (search needs) (search needs) (λ c. search (one, and)))
