@@ -40,15 +40,4 @@ returns-2 c = search needs
 pub play-spec : {M : Type 1} → statement M
 play-spec =
     tie.close
-    (tie.spec
-    Inv-loop
-    μ-loop
-    loop-holds
-    moved-requires
-    say-requires
-    returns
-    moved-requires-2
-    add-i
-    loop-less
-    loop-again
-    returns-2)
+    (tie.spec Inv-loop μ-loop loop-holds moved-requires say-requires returns moved-requires-2 add-i loop-less loop-again returns-2)

@@ -40,15 +40,4 @@ returns-3 c = search needs
 pub wrong-move-spec : {M : Type 1} → statement M
 wrong-move-spec =
     tie.close
-    (tie.spec
-    Inv-loop
-    μ-loop
-    loop-holds
-    is-name-requires
-    is-number-requires
-    returns
-    add-i
-    loop-less
-    loop-again
-    returns-2
-    returns-3)
+    (tie.spec Inv-loop μ-loop loop-holds is-name-requires is-number-requires returns add-i loop-less loop-again returns-2 returns-3)

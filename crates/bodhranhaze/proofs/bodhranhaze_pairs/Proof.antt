@@ -4,18 +4,6 @@ use borrow.Author.Needs.{needs}
 use Rattle.bodhranhaze.proofs.bodhranhaze_pairs.Statement.{statement}
 use Rattle.bodhranhaze.proofs.bodhranhaze_pairs.Tie as tie
 
-slice-aggregate-listing-part : tie.Need-slice-aggregate-listing-part
-slice-aggregate-listing-part c = search needs
-
-listing-part-requires : tie.Need-listing-part-requires
-listing-part-requires c κs = search needs
-
-enum-known-l : tie.Need-enum-known-l
-enum-known-l c = search needs
-
-enum-told : tie.Need-enum-told
-enum-told c = search needs
-
 returns : tie.Need-returns
 returns c = search pairs-are
 
@@ -25,10 +13,4 @@ returns-2 c = search pairs-are
 pub bodhranhaze-pairs-spec : {M : Type 1} → statement M
 bodhranhaze-pairs-spec =
     tie.close
-    (tie.spec
-    slice-aggregate-listing-part
-    listing-part-requires
-    enum-known-l
-    enum-told
-    returns
-    returns-2)
+    (tie.spec (λ c. search needs) (λ c κs. search needs) (λ c. search needs) (λ c. search needs) returns returns-2)

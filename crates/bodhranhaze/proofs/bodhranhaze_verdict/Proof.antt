@@ -5,14 +5,8 @@ use borrow.Author.Needs.{needs}
 use Rattle.bodhranhaze.proofs.bodhranhaze_verdict.Statement.{statement}
 use Rattle.bodhranhaze.proofs.bodhranhaze_verdict.Tie as tie
 
-verdict-of-requires : tie.Need-verdict-of-requires
-verdict-of-requires c κs = search needs
-
-verdict-number-requires : tie.Need-verdict-number-requires
-verdict-number-requires c κs = search needs
-
 returns : tie.Need-returns
 returns c = search (by-answer verdictNumber)
 
 pub bodhranhaze-verdict-spec : {M : Type 1} → statement M
-bodhranhaze-verdict-spec = tie.close (tie.spec verdict-of-requires verdict-number-requires returns)
+bodhranhaze-verdict-spec = tie.close (tie.spec (λ c κs. search needs) (λ c κs. search needs) returns)

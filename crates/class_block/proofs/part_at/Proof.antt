@@ -6,18 +6,6 @@ use borrow.Author.Needs.{needs}
 use Rattle.class_block.proofs.part_at.Statement.{statement}
 use Rattle.class_block.proofs.part_at.Tie as tie
 
-sub-size : tie.Need-sub-size
-sub-size c = search needs
-
-part-size-start : tie.Need-part-size-start
-part-size-start c = search needs
-
-part-size-end : tie.Need-part-size-end
-part-size-end c = search needs
-
-size-requires : tie.Need-size-requires
-size-requires c κs = search needs
-
 add-result : tie.Need-add-result
 add-result c = let a = c .before .before .before .before .args in omega (arith, part-fits (now (a .block)) (a .at) (c .size .ensures))
 
@@ -30,4 +18,4 @@ returns-2 c = search part-none
 pub part-at-spec : {M : Type 1} → statement M
 part-at-spec =
     tie.close
-    (tie.spec sub-size part-size-start part-size-end size-requires add-result returns returns-2)
+    (tie.spec (λ c. search needs) (λ c. search needs) (λ c. search needs) (λ c κs. search needs) add-result returns returns-2)

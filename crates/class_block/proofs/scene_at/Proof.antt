@@ -6,9 +6,6 @@ use Rattle.class_block.specs.Scenes.{end-within, scene-here, scene-none}
 use Rattle.class_block.proofs.scene_at.Statement.{statement}
 use Rattle.class_block.proofs.scene_at.Tie as tie
 
-part-at-requires : tie.Need-part-at-requires
-part-at-requires c κs = search needs
-
 sub-result : tie.Need-sub-result
 sub-result c =
     let a = c .before .before .before .args in
@@ -32,20 +29,11 @@ returns c =
     let a = c .before .before .before .before .args in
     scene-here (now (a .block)) (a .at) (omega arith) (c .before .part-at .result) (c .before .part-at .ensures)
 
-sub-result-2 : tie.Need-sub-result-2
-sub-result-2 c = search needs
-
-part-result-start-2 : tie.Need-part-result-start-2
-part-result-start-2 c = search needs
-
-part-result-end-2 : tie.Need-part-result-end-2
-part-result-end-2 c = search needs
-
 returns-2 : tie.Need-returns-2
 returns-2 c = search scene-none
 
 pub scene-at-spec : {M : Type 1} → statement M
 scene-at-spec =
     tie.close
-    (tie.spec part-at-requires sub-result part-result-start part-result-end returns sub-result-2 part-result-start-2
-    part-result-end-2 returns-2)
+    (tie.spec (λ c κs. search needs) sub-result part-result-start part-result-end returns (λ c. search needs) (λ c. search needs)
+    (λ c. search needs) returns-2)

@@ -4,14 +4,8 @@ use borrow.Author.Needs.{needs}
 use Rattle.class_block.proofs.size.Statement.{statement}
 use Rattle.class_block.proofs.size.Tie as tie
 
-is-headed-requires : tie.Need-is-headed-requires
-is-headed-requires c κs = search needs
-
 returns : tie.Need-returns
 returns c = search size-unheaded
-
-stated-requires : tie.Need-stated-requires
-stated-requires c κs = search needs
 
 returns-2 : tie.Need-returns-2
 returns-2 c = search size-whole
@@ -20,4 +14,4 @@ returns-3 : tie.Need-returns-3
 returns-3 c = search size-ended
 
 pub size-spec : {M : Type 1} → statement M
-size-spec = tie.close (tie.spec is-headed-requires returns stated-requires returns-2 returns-3)
+size-spec = tie.close (tie.spec (λ c κs. search needs) returns (λ c κs. search needs) returns-2 returns-3)

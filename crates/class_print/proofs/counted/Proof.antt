@@ -4,18 +4,6 @@ use borrow.Author.Needs.{needs}
 use Rattle.class_print.proofs.counted.Statement.{statement}
 use Rattle.class_print.proofs.counted.Tie as tie
 
-word-requires : tie.Need-word-requires
-word-requires c κs = search needs
-
-next-number-requires : tie.Need-next-number-requires
-next-number-requires c κs = search needs
-
-newline-requires : tie.Need-newline-requires
-newline-requires c κs = search needs
-
-same-length : tie.Need-same-length
-same-length c = search needs
-
 returns : tie.Need-returns
 returns c =
     let r3 = c .before .before in
@@ -25,4 +13,4 @@ returns c =
 
 pub counted-spec : {M : Type 1} → statement M
 counted-spec =
-    tie.close (tie.spec word-requires next-number-requires newline-requires same-length returns)
+    tie.close (tie.spec (λ c κs. search needs) (λ c κs. search needs) (λ c κs. search needs) (λ c. search needs) returns)

@@ -5,24 +5,6 @@ use borrow.Author.Needs.{needs}
 use Rattle.class_print.proofs.tallied.Statement.{statement}
 use Rattle.class_print.proofs.tallied.Tie as tie
 
-mean-of-requires : tie.Need-mean-of-requires
-mean-of-requires c κs = search needs
-
-verdicts-requires : tie.Need-verdicts-requires
-verdicts-requires c κs = search needs
-
-refused-low-requires : tie.Need-refused-low-requires
-refused-low-requires c κs = search needs
-
-refused-high-requires : tie.Need-refused-high-requires
-refused-high-requires c κs = search needs
-
-mean-line-requires : tie.Need-mean-line-requires
-mean-line-requires c κs = search needs
-
-same-length : tie.Need-same-length
-same-length c = search needs
-
 returns : tie.Need-returns
 unfolding tallied
 returns c =
@@ -37,11 +19,5 @@ returns c =
 pub tallied-spec : {M : Type 1} → statement M
 tallied-spec =
     tie.close
-    (tie.spec
-    mean-of-requires
-    verdicts-requires
-    refused-low-requires
-    refused-high-requires
-    mean-line-requires
-    same-length
-    returns)
+    (tie.spec (λ c κs. search needs) (λ c κs. search needs) (λ c κs. search needs) (λ c κs. search needs) (λ c κs. search needs)
+    (λ c. search needs) returns)

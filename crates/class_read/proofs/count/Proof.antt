@@ -6,20 +6,8 @@ use borrow.Author.Needs.{needs}
 use Rattle.class_read.proofs.count.Statement.{statement}
 use Rattle.class_read.proofs.count.Tie as tie
 
-ends-requires : tie.Need-ends-requires
-ends-requires c κs = search needs
-
 sub-add : tie.Need-sub-add
 sub-add c = omega (arith, ends-from _ _ (c .before .before .ends .ensures) (c .before .if1 .taken))
-
-add-requires : tie.Need-add-requires
-add-requires c κs = search needs
-
-add-pairs-requires : tie.Need-add-pairs-requires
-add-pairs-requires c κs = search needs
-
-same-length : tie.Need-same-length
-same-length c = search needs
 
 returns : tie.Need-returns
 unfolding countedOf
@@ -32,4 +20,4 @@ returns-2 c = search picks
 pub count-spec : {M : Type 1} → statement M
 count-spec =
     tie.close
-    (tie.spec ends-requires sub-add add-requires add-pairs-requires same-length returns returns-2)
+    (tie.spec (λ c κs. search needs) sub-add (λ c κs. search needs) (λ c κs. search needs) (λ c. search needs) returns returns-2)

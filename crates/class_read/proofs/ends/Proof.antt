@@ -5,12 +5,6 @@ use borrow.Author.Needs.{needs}
 use Rattle.class_read.proofs.ends.Statement.{statement}
 use Rattle.class_read.proofs.ends.Tie as tie
 
-is-letter-requires : tie.Need-is-letter-requires
-is-letter-requires c κs = search needs
-
-is-digit-requires : tie.Need-is-digit-requires
-is-digit-requires c κs = search needs
-
 returns : tie.Need-returns
 unfolding ends
 returns c = search picks
@@ -20,4 +14,4 @@ unfolding ends
 returns-2 c = search picks
 
 pub ends-spec : {M : Type 1} → statement M
-ends-spec = tie.close (tie.spec is-letter-requires is-digit-requires returns returns-2)
+ends-spec = tie.close (tie.spec (λ c κs. search needs) (λ c κs. search needs) returns returns-2)

@@ -42,14 +42,4 @@ returns-2 c = search fed-end
 pub feed-spec : {M : Type 1} → statement M
 feed-spec =
     tie.close
-    (tie.spec
-    Inv-loop
-    μ-loop
-    loop-holds
-    returns
-    shared-slice-read-next
-    next-requires
-    add-i
-    loop-less
-    loop-again
-    returns-2)
+    (tie.spec Inv-loop μ-loop loop-holds returns shared-slice-read-next next-requires add-i loop-less loop-again returns-2)

@@ -5,9 +5,6 @@ use borrow.Author.Needs.{needs}
 use Rattle.class_read.proofs.finished.Statement.{statement}
 use Rattle.class_read.proofs.finished.Tie as tie
 
-sum-requires : tie.Need-sum-requires
-sum-requires c κs = search needs
-
 returns : tie.Need-returns
 unfolding finished
 returns c = search picks
@@ -17,4 +14,4 @@ unfolding finished
 returns-2 c = search picks
 
 pub finished-spec : {M : Type 1} → statement M
-finished-spec = tie.close (tie.spec sum-requires returns returns-2)
+finished-spec = tie.close (tie.spec (λ c κs. search needs) returns returns-2)

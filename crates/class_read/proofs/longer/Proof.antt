@@ -4,9 +4,6 @@ use borrow.Author.Needs.{needs}
 use Rattle.class_read.proofs.longer.Statement.{statement}
 use Rattle.class_read.proofs.longer.Tie as tie
 
-begins-requires : tie.Need-begins-requires
-begins-requires c κs = search needs
-
 returns : tie.Need-returns
 returns c = search picks
 
@@ -14,4 +11,4 @@ returns-2 : tie.Need-returns-2
 returns-2 c = search picks
 
 pub longer-spec : {M : Type 1} → statement M
-longer-spec = tie.close (tie.spec begins-requires returns returns-2)
+longer-spec = tie.close (tie.spec (λ c κs. search needs) returns returns-2)

@@ -5,18 +5,6 @@ use borrow.Author.Needs.{needs}
 use Rattle.class_read.proofs.number.Statement.{statement}
 use Rattle.class_read.proofs.number.Tie as tie
 
-is-digit-requires : tie.Need-is-digit-requires
-is-digit-requires c κs = search needs
-
-product-requires : tie.Need-product-requires
-product-requires c κs = search needs
-
-digit-requires : tie.Need-digit-requires
-digit-requires c κs = search needs
-
-sum-requires : tie.Need-sum-requires
-sum-requires c κs = search needs
-
 returns : tie.Need-returns
 unfolding numberOf
 returns c = search (picks, grown-is)
@@ -28,4 +16,4 @@ returns-2 c = search picks
 pub number-spec : {M : Type 1} → statement M
 number-spec =
     tie.close
-    (tie.spec is-digit-requires product-requires digit-requires sum-requires returns returns-2)
+    (tie.spec (λ c κs. search needs) (λ c κs. search needs) (λ c κs. search needs) (λ c κs. search needs) returns returns-2)

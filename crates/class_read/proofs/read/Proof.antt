@@ -4,15 +4,9 @@ use borrow.Author.Needs.{needs}
 use Rattle.class_read.proofs.read.Statement.{statement}
 use Rattle.class_read.proofs.read.Tie as tie
 
-slice-aggregate-feed : tie.Need-slice-aggregate-feed
-slice-aggregate-feed c = search needs
-
-feed-requires : tie.Need-feed-requires
-feed-requires c κs = search needs
-
 returns : tie.Need-returns
 unfolding reports
 returns c = search needs
 
 pub read-spec : {M : Type 1} → statement M
-read-spec = tie.close (tie.spec slice-aggregate-feed feed-requires returns)
+read-spec = tie.close (tie.spec (λ c. search needs) (λ c κs. search needs) returns)

@@ -5,9 +5,6 @@ use borrow.Author.Needs.{needs}
 use Rattle.class_read.proofs.start.Statement.{statement}
 use Rattle.class_read.proofs.start.Tie as tie
 
-begins-requires : tie.Need-begins-requires
-begins-requires c κs = search needs
-
 returns : tie.Need-returns
 unfolding startOf
 returns c = search picks
@@ -17,4 +14,4 @@ unfolding startOf
 returns-2 c = search picks
 
 pub start-spec : {M : Type 1} → statement M
-start-spec = tie.close (tie.spec begins-requires returns returns-2)
+start-spec = tie.close (tie.spec (λ c κs. search needs) returns returns-2)

@@ -5,9 +5,6 @@ use borrow.Author.Needs.{needs}
 use Rattle.class_read.proofs.whole.Statement.{statement}
 use Rattle.class_read.proofs.whole.Tie as tie
 
-ends-requires : tie.Need-ends-requires
-ends-requires c κs = search needs
-
 returns : tie.Need-returns
 unfolding wholeOf
 returns c = search picks
@@ -21,4 +18,4 @@ unfolding wholeOf
 returns-3 c = search picks
 
 pub whole-spec : {M : Type 1} → statement M
-whole-spec = tie.close (tie.spec ends-requires returns returns-2 returns-3)
+whole-spec = tie.close (tie.spec (λ c κs. search needs) returns returns-2 returns-3)

@@ -14,18 +14,9 @@ returns-2 : tie.Need-returns-2
 unfolding sumOf
 returns-2 c = search (picks, sum-of-tally)
 
-slice-aggregate-reaches : tie.Need-slice-aggregate-reaches
-slice-aggregate-reaches c = search needs
-
-reaches-requires : tie.Need-reaches-requires
-reaches-requires c κs = search needs
-
 returns-3 : tie.Need-returns-3
 unfolding sumOf
 returns-3 c = search (picks, sum-of-tally)
-
-tally-in-requires : tie.Need-tally-in-requires
-tally-in-requires c κs = search needs
 
 returns-4 : tie.Need-returns-4
 unfolding sumOf
@@ -34,11 +25,4 @@ returns-4 c = search (picks, sum-of-tally)
 pub sum-of-spec : {M : Type 1} → statement M
 sum-of-spec =
     tie.close
-    (tie.spec
-    returns
-    returns-2
-    slice-aggregate-reaches
-    reaches-requires
-    returns-3
-    tally-in-requires
-    returns-4)
+    (tie.spec returns returns-2 (λ c. search needs) (λ c κs. search needs) returns-3 (λ c κs. search needs) returns-4)

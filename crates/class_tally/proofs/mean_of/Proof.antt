@@ -7,14 +7,8 @@ use Rattle.class_tally.proofs.mean_of.Tie as tie
 returns : tie.Need-returns
 returns c = search mean-none
 
-div-t5 : tie.Need-div-t5
-div-t5 c = search needs
-
-rem-t6 : tie.Need-rem-t6
-rem-t6 c = search needs
-
 returns-2 : tie.Need-returns-2
 returns-2 c = search mean-some
 
 pub mean-of-spec : {M : Type 1} → statement M
-mean-of-spec = tie.close (tie.spec returns div-t5 rem-t6 returns-2)
+mean-of-spec = tie.close (tie.spec returns (λ c. search needs) (λ c. search needs) returns-2)

@@ -7,11 +7,8 @@ use Rattle.class_tally.proofs.report_of.Tie as tie
 returns : tie.Need-returns
 returns c = search report-longer
 
-tally-requires : tie.Need-tally-requires
-tally-requires c κs = search needs
-
 returns-2 : tie.Need-returns-2
 returns-2 c = search report-tallied
 
 pub report-of-spec : {M : Type 1} → statement M
-report-of-spec = tie.close (tie.spec returns tally-requires returns-2)
+report-of-spec = tie.close (tie.spec returns (λ c κs. search needs) returns-2)

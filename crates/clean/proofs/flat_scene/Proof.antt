@@ -12,18 +12,6 @@ use Rattle.clean.proofs.flat_scene.Tie as tie
 rows-requires : tie.Need-rows-requires
 rows-requires c κs = search (rows-fit, rows-within)
 
-byte-requires : tie.Need-byte-requires
-byte-requires c κs = search needs
-
-byte-requires-2 : tie.Need-byte-requires-2
-byte-requires-2 c κs = search needs
-
-add-has-flat : tie.Need-add-has-flat
-add-has-flat c = search needs
-
-add-has-flat-2 : tie.Need-add-has-flat-2
-add-has-flat-2 c = search needs
-
 has-flat-requires : tie.Need-has-flat-requires
 has-flat-requires c κs =
     let d = c .before .before .before in
@@ -38,11 +26,4 @@ returns c =
 pub flat-scene-spec : {M : Type 1} → statement M
 flat-scene-spec =
     tie.close
-    (tie.spec
-    rows-requires
-    byte-requires
-    byte-requires-2
-    add-has-flat
-    add-has-flat-2
-    has-flat-requires
-    returns)
+    (tie.spec rows-requires (λ c κs. search needs) (λ c κs. search needs) (λ c. search needs) (λ c. search needs) has-flat-requires returns)

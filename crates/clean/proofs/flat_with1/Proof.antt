@@ -44,15 +44,4 @@ returns-2 c = search loops
 pub flat-with1-spec : {M : Type 1} → statement M
 flat-with1-spec =
     tie.close
-    (tie.spec
-    Inv-loop
-    μ-loop
-    add-e
-    add-b
-    loop-holds
-    flat-with2-requires
-    returns
-    add-b-2
-    loop-less
-    loop-again
-    returns-2)
+    (tie.spec Inv-loop μ-loop add-e add-b loop-holds flat-with2-requires returns add-b-2 loop-less loop-again returns-2)

@@ -44,15 +44,4 @@ returns-2 c = search loops
 pub flat-with2-spec : {M : Type 1} → statement M
 flat-with2-spec =
     tie.close
-    (tie.spec
-    Inv-loop
-    μ-loop
-    add-e
-    add-c
-    loop-holds
-    flat-with3-requires
-    returns
-    add-c-2
-    loop-less
-    loop-again
-    returns-2)
+    (tie.spec Inv-loop μ-loop add-e add-c loop-holds flat-with3-requires returns add-c-2 loop-less loop-again returns-2)

@@ -8,15 +8,6 @@ use Rattle.clean.specs.Sizes.{row-small, three-small}
 use Rattle.clean.proofs.flat_with3.Statement.{statement}
 use Rattle.clean.proofs.flat_with3.Tie as tie
 
-row-in-requires : tie.Need-row-in-requires
-row-in-requires c κs = search needs
-
-row-in-requires-2 : tie.Need-row-in-requires-2
-row-in-requires-2 c κs = search needs
-
-row-in-requires-3 : tie.Need-row-in-requires-3
-row-in-requires-3 c κs = search needs
-
 plane-requires : tie.Need-plane-requires
 plane-requires c κs =
     let s = c .before .before .before in (
@@ -24,12 +15,6 @@ plane-requires c κs =
       row-small (s .pre .0) _ (c .before .row-in2 .ensures),
       row-small (s .pre .0) _ (c .row-in3 .ensures),
     )
-
-add-meets : tie.Need-add-meets
-add-meets c = search needs
-
-add-meets-2 : tie.Need-add-meets-2
-add-meets-2 c = search needs
 
 meets-requires : tie.Need-meets-requires
 meets-requires c κs =
@@ -51,12 +36,5 @@ returns c =
 pub flat-with3-spec : {M : Type 1} → statement M
 flat-with3-spec =
     tie.close
-    (tie.spec
-    row-in-requires
-    row-in-requires-2
-    row-in-requires-3
-    plane-requires
-    add-meets
-    add-meets-2
-    meets-requires
-    returns)
+    (tie.spec (λ c κs. search needs) (λ c κs. search needs) (λ c κs. search needs) plane-requires (λ c. search needs) (λ c. search needs)
+    meets-requires returns)

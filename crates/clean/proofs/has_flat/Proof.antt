@@ -41,14 +41,4 @@ returns-2 c = search loops
 pub has-flat-spec : {M : Type 1} → statement M
 has-flat-spec =
     tie.close
-    (tie.spec
-    Inv-loop
-    μ-loop
-    add-e
-    loop-holds
-    flat-with1-requires
-    returns
-    add-a
-    loop-less
-    loop-again
-    returns-2)
+    (tie.spec Inv-loop μ-loop add-e loop-holds flat-with1-requires returns add-a loop-less loop-again returns-2)

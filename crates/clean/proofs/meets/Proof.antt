@@ -37,13 +37,4 @@ returns-2 c = search loops
 pub meets-spec : {M : Type 1} → statement M
 meets-spec =
     tie.close
-    (tie.spec
-    Inv-loop
-    μ-loop
-    loop-holds
-    in-plane-requires
-    returns
-    add-d
-    loop-less
-    loop-again
-    returns-2)
+    (tie.spec Inv-loop μ-loop loop-holds in-plane-requires returns add-d loop-less loop-again returns-2)

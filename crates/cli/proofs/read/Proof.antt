@@ -52,18 +52,5 @@ returns-2 c = (search needs, sym (length-take-le _ _ (search needs)))
 pub read-spec : {M : Type 1} → statement M
 read-spec =
     tie.close
-    (tie.spec
-    Inv-loop
-    μ-loop
-    loop-holds
-    sub-read-some
-    part-read-some-start
-    part-read-some-end
-    read-some-requires
-    add-at
-    loop-less
-    loop-again
-    same-length
-    returns
-    same-length-2
-    returns-2)
+    (tie.spec Inv-loop μ-loop loop-holds sub-read-some part-read-some-start part-read-some-end read-some-requires add-at loop-less
+    loop-again same-length returns same-length-2 returns-2)

@@ -7,42 +7,6 @@ use borrow.Author.Needs.{needs}
 use Rattle.doubles.proofs.combine.Statement.{statement}
 use Rattle.doubles.proofs.combine.Tie as tie
 
-enum-told : tie.Need-enum-told
-enum-told c = search needs
-
-enum-told-2 : tie.Need-enum-told-2
-enum-told-2 c = search needs
-
-enum-known-a : tie.Need-enum-known-a
-enum-known-a c = search needs
-
-enum-told-3 : tie.Need-enum-told-3
-enum-told-3 c = search needs
-
-enum-told-4 : tie.Need-enum-told-4
-enum-told-4 c = search needs
-
-enum-known-b : tie.Need-enum-known-b
-enum-known-b c = search needs
-
-enum-told-5 : tie.Need-enum-told-5
-enum-told-5 c = search needs
-
-enum-told-6 : tie.Need-enum-told-6
-enum-told-6 c = search needs
-
-enum-known-c : tie.Need-enum-known-c
-enum-known-c c = search needs
-
-enum-told-7 : tie.Need-enum-told-7
-enum-told-7 c = search needs
-
-enum-told-8 : tie.Need-enum-told-8
-enum-told-8 c = search needs
-
-enum-known-d : tie.Need-enum-known-d
-enum-known-d c = search needs
-
 returns : tie.Need-returns
 returns c =
     let s = c .before .before .args in (λ i. takenBy (sym (c .enum-told .given .1) i) (s .b) (s .c) (s .d))
@@ -107,25 +71,6 @@ returns-9 c =
 pub combine-spec : {M : Type 1} → statement M
 combine-spec =
     tie.close
-    (tie.spec
-    enum-told
-    enum-told-2
-    enum-known-a
-    enum-told-3
-    enum-told-4
-    enum-known-b
-    enum-told-5
-    enum-told-6
-    enum-known-c
-    enum-told-7
-    enum-told-8
-    enum-known-d
-    returns
-    returns-2
-    returns-3
-    returns-4
-    returns-5
-    returns-6
-    returns-7
-    returns-8
-    returns-9)
+    (tie.spec (λ c. search needs) (λ c. search needs) (λ c. search needs) (λ c. search needs) (λ c. search needs) (λ c. search needs)
+    (λ c. search needs) (λ c. search needs) (λ c. search needs) (λ c. search needs) (λ c. search needs) (λ c. search needs) returns
+    returns-2 returns-3 returns-4 returns-5 returns-6 returns-7 returns-8 returns-9)

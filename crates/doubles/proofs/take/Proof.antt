@@ -5,21 +5,6 @@ use borrow.Author.Needs.{needs}
 use Rattle.doubles.proofs.take.Statement.{statement}
 use Rattle.doubles.proofs.take.Tie as tie
 
-read-requires : tie.Need-read-requires
-read-requires c κs = search needs
-
-read-requires-2 : tie.Need-read-requires-2
-read-requires-2 c κs = search needs
-
-read-requires-3 : tie.Need-read-requires-3
-read-requires-3 c κs = search needs
-
-weight-requires : tie.Need-weight-requires
-weight-requires c κs = search needs
-
-combine-requires : tie.Need-combine-requires
-combine-requires c κs = search needs
-
 returns : tie.Need-returns
 returns c =
     let a = c .before .before .before .before .read .ensures in
@@ -31,10 +16,4 @@ returns c =
 pub take-spec : {M : Type 1} → statement M
 take-spec =
     tie.close
-    (tie.spec
-    read-requires
-    read-requires-2
-    read-requires-3
-    weight-requires
-    combine-requires
-    returns)
+    (tie.spec (λ c κs. search needs) (λ c κs. search needs) (λ c κs. search needs) (λ c κs. search needs) (λ c κs. search needs) returns)

@@ -49,18 +49,5 @@ returns-2 c = search needs
 pub play-spec : {M : Type 1} → statement M
 play-spec =
     tie.close
-    (tie.spec
-    Inv-loop
-    μ-loop
-    loop-holds
-    operation-at-requires
-    enum-known-o
-    enum-told
-    returns
-    step-requires
-    operation-requires
-    words-of-requires
-    add-i
-    loop-less
-    loop-again
-    returns-2)
+    (tie.spec Inv-loop μ-loop loop-holds operation-at-requires enum-known-o enum-told returns step-requires operation-requires
+    words-of-requires add-i loop-less loop-again returns-2)

@@ -46,17 +46,5 @@ returns-2 c = search needs
 pub words-of-spec : {M : Type 1} → statement M
 words-of-spec =
     tie.close
-    (tie.spec
-    Inv-loop
-    μ-loop
-    loop-holds
-    operation-at-requires
-    enum-known-a
-    words-of-requires
-    add-i
-    loop-less
-    loop-again
-    enum-known-a-2
-    words-at-requires
-    returns
-    returns-2)
+    (tie.spec Inv-loop μ-loop loop-holds operation-at-requires enum-known-a words-of-requires add-i loop-less loop-again enum-known-a-2
+    words-at-requires returns returns-2)

@@ -7,11 +7,8 @@ use Rattle.light.proofs.is_full.Tie as tie
 returns : tie.Need-returns
 returns c = search wrong-length
 
-sum-requires : tie.Need-sum-requires
-sum-requires c κs = search needs
-
 returns-2 : tie.Need-returns-2
 returns-2 c = search by-sum
 
 pub is-full-spec : {M : Type 1} → statement M
-is-full-spec = tie.close (tie.spec returns sum-requires returns-2)
+is-full-spec = tie.close (tie.spec returns (λ c κs. search needs) returns-2)

@@ -5,20 +5,8 @@ use borrow.Author.Needs.{needs}
 use Rattle.light.proofs.light_of.Statement.{statement}
 use Rattle.light.proofs.light_of.Tie as tie
 
-is-full-requires : tie.Need-is-full-requires
-is-full-requires c κs = search needs
-
-same-length : tie.Need-same-length
-same-length c = search needs
-
 returns : tie.Need-returns
 returns c = search uncounted
-
-colour-requires : tie.Need-colour-requires
-colour-requires c κs = search needs
-
-number-requires : tie.Need-number-requires
-number-requires c κs = search needs
 
 count-one-requires : tie.Need-count-one-requires
 count-one-requires c κs =
@@ -27,21 +15,11 @@ count-one-requires c κs =
     (c .before .before .before .before .is-full .ensures) (c .before .before .before .if1 .left) (c .before .before .colour .ensures)
     (c .number .ensures)
 
-same-length-2 : tie.Need-same-length-2
-same-length-2 c = search needs
-
 returns-2 : tie.Need-returns-2
 returns-2 c = search counted
 
 pub light-of-spec : {M : Type 1} → statement M
 light-of-spec =
     tie.close
-    (tie.spec
-    is-full-requires
-    same-length
-    returns
-    colour-requires
-    number-requires
-    count-one-requires
-    same-length-2
-    returns-2)
+    (tie.spec (λ c κs. search needs) (λ c. search needs) returns (λ c κs. search needs) (λ c κs. search needs) count-one-requires
+    (λ c. search needs) returns-2)

@@ -40,15 +40,4 @@ returns-2 c = search needs
 pub wrong-word-spec : {M : Type 1} → statement M
 wrong-word-spec =
     tie.close
-    (tie.spec
-    Inv-loop
-    μ-loop
-    loop-holds
-    number-at-requires
-    enum-told
-    returns
-    enum-told-2
-    add-i
-    loop-less
-    loop-again
-    returns-2)
+    (tie.spec Inv-loop μ-loop loop-holds number-at-requires enum-told returns enum-told-2 add-i loop-less loop-again returns-2)

@@ -46,17 +46,5 @@ returns-3 c = search needs
 pub are-names-spec : {M : Type 1} → statement M
 are-names-spec =
     tie.close
-    (tie.spec
-    Inv-loop
-    μ-loop
-    loop-holds
-    is-option-requires
-    no-file-requires
-    returns
-    is-named-before-requires
-    twice-requires
-    returns-2
-    add-i
-    loop-less
-    loop-again
-    returns-3)
+    (tie.spec Inv-loop μ-loop loop-holds is-option-requires no-file-requires returns is-named-before-requires twice-requires returns-2 add-i
+    loop-less loop-again returns-3)

@@ -57,20 +57,5 @@ returns-2 c = search needs
 pub is-named-before-spec : {M : Type 1} → statement M
 is-named-before-spec =
     tie.close
-    (tie.spec
-    Inv-loop
-    μ-loop
-    buffer-requires
-    buffer-requires-2
-    slice-aggregate-arg
-    arg-requires
-    loop-holds
-    array-share-prefix-name
-    slice-aggregate-is-name
-    slice-aggregate-is-name-2
-    is-name-requires
-    returns
-    add-k
-    loop-less
-    loop-again
-    returns-2)
+    (tie.spec Inv-loop μ-loop buffer-requires buffer-requires-2 slice-aggregate-arg arg-requires loop-holds array-share-prefix-name
+    slice-aggregate-is-name slice-aggregate-is-name-2 is-name-requires returns add-k loop-less loop-again returns-2)

@@ -49,18 +49,5 @@ returns-2 c = search needs
 pub read-inputs-spec : {M : Type 1} → statement M
 read-inputs-spec =
     tie.close
-    (tie.spec
-    Inv-loop
-    μ-loop
-    is-standard-requires
-    add-alone
-    nothing-requires
-    read-input-requires
-    add-i
-    loop-holds
-    read-input-requires-2
-    add-i-2
-    loop-less
-    loop-again
-    returns
-    returns-2)
+    (tie.spec Inv-loop μ-loop is-standard-requires add-alone nothing-requires read-input-requires add-i loop-holds read-input-requires-2
+    add-i-2 loop-less loop-again returns returns-2)

@@ -58,19 +58,5 @@ returns-2 c = search needs
 pub read-text-spec : {M : Type 1} → statement M
 read-text-spec =
     tie.close
-    (tie.spec
-    Inv-loop
-    μ-loop
-    loop-holds
-    slice-aggregate-read
-    read-requires
-    sub-read
-    part-read-start
-    part-read-end
-    read-requires-2
-    add-bytes
-    sub-left
-    loop-less
-    loop-again
-    returns
-    returns-2)
+    (tie.spec Inv-loop μ-loop loop-holds slice-aggregate-read read-requires sub-read part-read-start part-read-end read-requires-2 add-bytes
+    sub-left loop-less loop-again returns returns-2)

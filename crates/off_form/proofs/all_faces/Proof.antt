@@ -5,11 +5,8 @@ use borrow.Author.Needs.{needs}
 use Rattle.off_form.proofs.all_faces.Statement.{statement}
 use Rattle.off_form.proofs.all_faces.Tie as tie
 
-faces-requires : tie.Need-faces-requires
-faces-requires c κs = search needs
-
 returns : tie.Need-returns
 returns c = faces-held _ (omega arith) _ (omega arith) _ (c .before .before .pre .1 .faces) (c .faces .ensures)
 
 pub all-faces-spec : {M : Type 1} → statement M
-all-faces-spec = tie.close (tie.spec faces-requires returns)
+all-faces-spec = tie.close (tie.spec (λ c κs. search needs) returns)

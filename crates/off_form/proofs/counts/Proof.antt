@@ -4,11 +4,8 @@ use borrow.Author.Needs.{needs}
 use Rattle.off_form.proofs.counts.Statement.{statement}
 use Rattle.off_form.proofs.counts.Tie as tie
 
-wholes-requires : tie.Need-wholes-requires
-wholes-requires c κs = search needs
-
 returns : tie.Need-returns
 returns c = search counts-from
 
 pub counts-spec : {M : Type 1} → statement M
-counts-spec = tie.close (tie.spec wholes-requires returns)
+counts-spec = tie.close (tie.spec (λ c κs. search needs) returns)

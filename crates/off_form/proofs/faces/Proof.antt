@@ -51,17 +51,5 @@ returns-3 c = search reads
 pub faces-spec : {M : Type 1} → statement M
 faces-spec =
     tie.close
-    (tie.spec
-    Inv-loop
-    μ-loop
-    loop-holds
-    face-requires
-    enum-known-e
-    enum-known-p
-    returns
-    enum-known-p-2
-    returns-2
-    add-i
-    loop-less
-    loop-again
+    (tie.spec Inv-loop μ-loop loop-holds face-requires enum-known-e enum-known-p returns enum-known-p-2 returns-2 add-i loop-less loop-again
     returns-3)

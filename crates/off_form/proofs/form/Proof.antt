@@ -4,15 +4,6 @@ use borrow.Author.Needs.{needs}
 use Rattle.off_form.proofs.form.Statement.{statement}
 use Rattle.off_form.proofs.form.Tie as tie
 
-next-requires : tie.Need-next-requires
-next-requires c κs = search needs
-
-sub-keyword : tie.Need-sub-keyword
-sub-keyword c = search needs
-
-keyword-requires : tie.Need-keyword-requires
-keyword-requires c κs = search needs
-
 returns : tie.Need-returns
 returns c = search form-outside
 
@@ -25,4 +16,4 @@ returns-2 c = search form-counts
 pub form-spec : {M : Type 1} → statement M
 form-spec =
     tie.close
-    (tie.spec next-requires sub-keyword keyword-requires returns counts-then-requires returns-2)
+    (tie.spec (λ c κs. search needs) (λ c. search needs) (λ c κs. search needs) returns counts-then-requires returns-2)

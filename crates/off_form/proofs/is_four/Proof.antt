@@ -10,18 +10,9 @@ returns : tie.Need-returns
 unfolding isFour
 returns c = equal-stops _ _ refl (c .if1 .taken)
 
-byte-requires : tie.Need-byte-requires
-byte-requires c κs = search needs
-
 returns-2 : tie.Need-returns-2
 unfolding isFour
 returns-2 c = search equals
-
-add-is-off : tie.Need-add-is-off
-add-is-off c = search needs
-
-is-off-requires : tie.Need-is-off-requires
-is-off-requires c κs = search needs
 
 returns-3 : tie.Need-returns-3
 unfolding isFour
@@ -29,4 +20,4 @@ returns-3 c = search equals
 
 pub is-four-spec : {M : Type 1} → statement M
 is-four-spec =
-    tie.close (tie.spec returns byte-requires returns-2 add-is-off is-off-requires returns-3)
+    tie.close (tie.spec returns (λ c κs. search needs) returns-2 (λ c. search needs) (λ c κs. search needs) returns-3)

@@ -10,12 +10,9 @@ returns : tie.Need-returns
 unfolding isThree
 returns c = equal-stops _ _ refl (c .if1 .taken)
 
-is-off-requires : tie.Need-is-off-requires
-is-off-requires c κs = search needs
-
 returns-2 : tie.Need-returns-2
 unfolding isThree
 returns-2 c = search equals
 
 pub is-three-spec : {M : Type 1} → statement M
-is-three-spec = tie.close (tie.spec returns is-off-requires returns-2)
+is-three-spec = tie.close (tie.spec returns (λ c κs. search needs) returns-2)

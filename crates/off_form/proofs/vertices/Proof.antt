@@ -8,16 +8,10 @@ use Rattle.off_form.proofs.vertices.Tie as tie
 times-requires : tie.Need-times-requires
 times-requires c κs = (omega arith, omega arith, numbers-low _ (c .before .before .before .pre .2 .per))
 
-wholes-requires : tie.Need-wholes-requires
-wholes-requires c κs = search needs
-
 returns : tie.Need-returns
 returns c =
     let h = c .before .before .before .before .before .pre .2 in
     numbers-few _ (omega arith) _ (omega arith) _ (h .vertices) (h .per) (omega arith) (c .before .times .ensures) (c .wholes .ensures)
-
-wholes-requires-2 : tie.Need-wholes-requires-2
-wholes-requires-2 c κs = search needs
 
 returns-2 : tie.Need-returns-2
 returns-2 c =
@@ -26,4 +20,4 @@ returns-2 c =
 
 pub vertices-spec : {M : Type 1} → statement M
 vertices-spec =
-    tie.close (tie.spec times-requires wholes-requires returns wholes-requires-2 returns-2)
+    tie.close (tie.spec times-requires (λ c κs. search needs) returns (λ c κs. search needs) returns-2)

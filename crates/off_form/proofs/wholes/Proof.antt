@@ -41,14 +41,4 @@ returns-2 c = search reads
 pub wholes-spec : {M : Type 1} → statement M
 wholes-spec =
     tie.close
-    (tie.spec
-    Inv-loop
-    μ-loop
-    loop-holds
-    next-requires
-    is-whole-requires
-    returns
-    add-i
-    loop-less
-    loop-again
-    returns-2)
+    (tie.spec Inv-loop μ-loop loop-holds next-requires is-whole-requires returns add-i loop-less loop-again returns-2)

@@ -5,12 +5,6 @@ use borrow.Author.Needs.{needs}
 use Rattle.off_items.proofs.next.Statement.{statement}
 use Rattle.off_items.proofs.next.Tie as tie
 
-start-requires : tie.Need-start-requires
-start-requires c κs = search needs
-
-end-requires : tie.Need-end-requires
-end-requires c κs = search needs
-
 returns : tie.Need-returns
 returns c =
     let s = c .before .start .ensures in
@@ -18,4 +12,4 @@ returns c =
     (s .0, e .0 ∙ ap (wordEnd _) (s .0), s .1, e .1, e .2)
 
 pub next-spec : {M : Type 1} → statement M
-next-spec = tie.close (tie.spec start-requires end-requires returns)
+next-spec = tie.close (tie.spec (λ c κs. search needs) (λ c κs. search needs) returns)

@@ -55,18 +55,5 @@ returns-2 c = search scans
 pub start-spec : {M : Type 1} → statement M
 start-spec =
     tie.close
-    (tie.spec
-    Inv-loop
-    μ-loop
-    loop-holds
-    shared-slice-read-c
-    separates-requires
-    returns
-    add-line-end
-    line-end-requires
-    loop-less
-    loop-again
-    add-i
-    loop-less-2
-    loop-again-2
-    returns-2)
+    (tie.spec Inv-loop μ-loop loop-holds shared-slice-read-c separates-requires returns add-line-end line-end-requires loop-less loop-again
+    add-i loop-less-2 loop-again-2 returns-2)

@@ -5,19 +5,13 @@ use borrow.Author.Needs.{needs}
 use Rattle.off_scene.proofs.counts_fit.Statement.{statement}
 use Rattle.off_scene.proofs.counts_fit.Tie as tie
 
-is-within-requires : tie.Need-is-within-requires
-is-within-requires c κs = search needs
-
 returns : tie.Need-returns
 unfolding headFits
 returns c = search ands depth 14
-
-is-within-requires-2 : tie.Need-is-within-requires-2
-is-within-requires-2 c κs = search needs
 
 returns-2 : tie.Need-returns-2
 unfolding headFits
 returns-2 c = search ands depth 14
 
 pub counts-fit-spec : {M : Type 1} → statement M
-counts-fit-spec = tie.close (tie.spec is-within-requires returns is-within-requires-2 returns-2)
+counts-fit-spec = tie.close (tie.spec (λ c κs. search needs) returns (λ c κs. search needs) returns-2)

@@ -11,11 +11,8 @@ returns c = room-lacks _ _ (omega arith)
 copy-requires : tie.Need-copy-requires
 copy-requires c κs = omega arith
 
-same-length : tie.Need-same-length
-same-length c = search needs
-
 returns-2 : tie.Need-returns-2
 returns-2 c = room-serves _ _ (omega arith) (c .before .before .copy .ensures)
 
 pub placed-spec : {M : Type 1} → statement M
-placed-spec = tie.close (tie.spec returns copy-requires same-length returns-2)
+placed-spec = tie.close (tie.spec returns copy-requires (λ c. search needs) returns-2)

@@ -4,24 +4,6 @@ use borrow.Author.Needs.{needs}
 use Rattle.off_scene.proofs.scene_of.Statement.{statement}
 use Rattle.off_scene.proofs.scene_of.Tie as tie
 
-form-requires : tie.Need-form-requires
-form-requires c κs = search needs
-
-enum-told : tie.Need-enum-told
-enum-told c = search needs
-
-second-requires : tie.Need-second-requires
-second-requires c κs = search needs
-
-enum-known-p : tie.Need-enum-known-p
-enum-known-p c = search needs
-
-enum-known-p-2 : tie.Need-enum-known-p-2
-enum-known-p-2 c = search needs
-
-same-length : tie.Need-same-length
-same-length c = search needs
-
 returns : tie.Need-returns
 returns c = search text-goes-on
 
@@ -34,13 +16,5 @@ returns-3 c = search (text-sides, from-start)
 pub scene-of-spec : {M : Type 1} → statement M
 scene-of-spec =
     tie.close
-    (tie.spec
-    form-requires
-    enum-told
-    second-requires
-    enum-known-p
-    enum-known-p-2
-    same-length
-    returns
-    returns-2
-    returns-3)
+    (tie.spec (λ c κs. search needs) (λ c. search needs) (λ c κs. search needs) (λ c. search needs) (λ c. search needs) (λ c. search needs)
+    returns returns-2 returns-3)

@@ -8,35 +8,17 @@ use borrow.Author.Needs.{needs}
 use Rattle.off_scene.proofs.second.Statement.{statement}
 use Rattle.off_scene.proofs.second.Tie as tie
 
-form-requires : tie.Need-form-requires
-form-requires c κs = search needs
-
-enum-told : tie.Need-enum-told
-enum-told c = search needs
-
-counted-requires : tie.Need-counted-requires
-counted-requires c κs = search needs
-
-enum-known-p : tie.Need-enum-known-p
-enum-known-p c = search needs
-
 add-t12 : tie.Need-add-t12
 add-t12 c =
     let b = c .before .before .before .before .before .before .before .args .b in
     let h : c .before .p .given .0 .0 ≤ length (now b) = search outside-within in
     omega arith
 
-enum-known-p-2 : tie.Need-enum-known-p-2
-enum-known-p-2 c = search needs
-
 add-t15 : tie.Need-add-t15
 add-t15 c =
     let b = c .before .before .before .before .before .before .before .args .b in
     let h : c .before .p2 .given .0 .0 ≤ length (now b) = search sides-within in
     omega arith
-
-same-length : tie.Need-same-length
-same-length c = search needs
 
 returns : tie.Need-returns
 returns c = search text-goes-on
@@ -50,15 +32,5 @@ returns-3 c = search text-sides
 pub second-spec : {M : Type 1} → statement M
 second-spec =
     tie.close
-    (tie.spec
-    form-requires
-    enum-told
-    counted-requires
-    enum-known-p
-    add-t12
-    enum-known-p-2
-    add-t15
-    same-length
-    returns
-    returns-2
-    returns-3)
+    (tie.spec (λ c κs. search needs) (λ c. search needs) (λ c κs. search needs) (λ c. search needs) add-t12 (λ c. search needs) add-t15
+    (λ c. search needs) returns returns-2 returns-3)

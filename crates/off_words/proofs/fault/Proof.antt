@@ -4,15 +4,6 @@ use borrow.Author.Needs.{needs}
 use Rattle.off_words.proofs.fault.Statement.{statement}
 use Rattle.off_words.proofs.fault.Tie as tie
 
-refused-requires : tie.Need-refused-requires
-refused-requires c κs = search needs
-
-words-requires : tie.Need-words-requires
-words-requires c κs = search needs
-
-same-length : tie.Need-same-length
-same-length c = search needs
-
 returns : tie.Need-returns
 returns c =
     let r2 = c .before .before in
@@ -20,4 +11,4 @@ returns c =
     end-to-end (r1 .refused .ensures) (r2 .words .ensures)
 
 pub fault-spec : {M : Type 1} → statement M
-fault-spec = tie.close (tie.spec refused-requires words-requires same-length returns)
+fault-spec = tie.close (tie.spec (λ c κs. search needs) (λ c κs. search needs) (λ c. search needs) returns)

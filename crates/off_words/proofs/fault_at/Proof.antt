@@ -13,8 +13,4 @@ returns c =
 pub fault-at-spec : {M : Type 1} → statement M
 fault-at-spec =
     tie.close
-    (tie.spec
-    (search needs)
-    (search needs)
-    (search needs)
-    returns)
+    (tie.spec (search needs) (search needs) (search needs) returns)

@@ -5,27 +5,6 @@ use borrow.Author.Needs.{needs}
 use Rattle.off_words.proofs.spotted.Statement.{statement}
 use Rattle.off_words.proofs.spotted.Tie as tie
 
-spot-of-requires : tie.Need-spot-of-requires
-spot-of-requires c κs = search needs
-
-word-requires : tie.Need-word-requires
-word-requires c κs = search needs
-
-next-number-requires : tie.Need-next-number-requires
-next-number-requires c κs = search needs
-
-slice-aggregate-word : tie.Need-slice-aggregate-word
-slice-aggregate-word c = search needs
-
-word-requires-2 : tie.Need-word-requires-2
-word-requires-2 c κs = search needs
-
-next-number-requires-2 : tie.Need-next-number-requires-2
-next-number-requires-2 c κs = search needs
-
-same-length : tie.Need-same-length
-same-length c = search needs
-
 returns : tie.Need-returns
 returns c =
     let r4 = c .before .before in
@@ -40,12 +19,5 @@ returns c =
 pub spotted-spec : {M : Type 1} → statement M
 spotted-spec =
     tie.close
-    (tie.spec
-    spot-of-requires
-    word-requires
-    next-number-requires
-    slice-aggregate-word
-    word-requires-2
-    next-number-requires-2
-    same-length
-    returns)
+    (tie.spec (λ c κs. search needs) (λ c κs. search needs) (λ c κs. search needs) (λ c. search needs) (λ c κs. search needs)
+    (λ c κs. search needs) (λ c. search needs) returns)

@@ -4,21 +4,6 @@ use borrow.Author.Needs.{needs}
 use Rattle.off_write.proofs.counts.Statement.{statement}
 use Rattle.off_write.proofs.counts.Tie as tie
 
-number-requires : tie.Need-number-requires
-number-requires c κs = search needs
-
-next-number-requires : tie.Need-next-number-requires
-next-number-requires c κs = search needs
-
-slice-aggregate-word : tie.Need-slice-aggregate-word
-slice-aggregate-word c = search needs
-
-word-requires : tie.Need-word-requires
-word-requires c κs = search needs
-
-same-length : tie.Need-same-length
-same-length c = search needs
-
 returns : tie.Need-returns
 returns c =
     let r3 = c .before .before in
@@ -29,10 +14,4 @@ returns c =
 pub counts-spec : {M : Type 1} → statement M
 counts-spec =
     tie.close
-    (tie.spec
-    number-requires
-    next-number-requires
-    slice-aggregate-word
-    word-requires
-    same-length
-    returns)
+    (tie.spec (λ c κs. search needs) (λ c κs. search needs) (λ c. search needs) (λ c κs. search needs) (λ c. search needs) returns)

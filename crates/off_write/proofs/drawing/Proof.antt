@@ -5,36 +5,6 @@ use borrow.Author.Needs.{needs}
 use Rattle.off_write.proofs.drawing.Statement.{statement}
 use Rattle.off_write.proofs.drawing.Tie as tie
 
-solid-requires : tie.Need-solid-requires
-solid-requires c κs = search needs
-
-add-is-weighted : tie.Need-add-is-weighted
-add-is-weighted c = search needs
-
-is-weighted-requires : tie.Need-is-weighted-requires
-is-weighted-requires c κs = search needs
-
-keyword-requires : tie.Need-keyword-requires
-keyword-requires c κs = search needs
-
-counts-requires : tie.Need-counts-requires
-counts-requires c κs = search needs
-
-add-vertices : tie.Need-add-vertices
-add-vertices c = search needs
-
-vertices-requires : tie.Need-vertices-requires
-vertices-requires c κs = search needs
-
-add-faces : tie.Need-add-faces
-add-faces c = search needs
-
-faces-requires : tie.Need-faces-requires
-faces-requires c κs = search needs
-
-same-length : tie.Need-same-length
-same-length c = search needs
-
 returns : tie.Need-returns
 returns c =
     let r4 = c .before .before in
@@ -50,15 +20,5 @@ returns c =
 pub drawing-spec : {M : Type 1} → statement M
 drawing-spec =
     tie.close
-    (tie.spec
-    solid-requires
-    add-is-weighted
-    is-weighted-requires
-    keyword-requires
-    counts-requires
-    add-vertices
-    vertices-requires
-    add-faces
-    faces-requires
-    same-length
-    returns)
+    (tie.spec (λ c κs. search needs) (λ c. search needs) (λ c κs. search needs) (λ c κs. search needs) (λ c κs. search needs)
+    (λ c. search needs) (λ c κs. search needs) (λ c. search needs) (λ c κs. search needs) (λ c. search needs) returns)

@@ -57,16 +57,5 @@ returns-2 c = let l = c .before .loop in lines-all _ _ _ (l .inv .0) (c .loop-te
 pub faces-spec : {M : Type 1} → statement M
 faces-spec =
     tie.close
-    (tie.spec
-    Inv-loop
-    μ-loop
-    returns
-    loop-holds
-    add-corners
-    corners-requires
-    triangle-requires
-    add-i
-    loop-less
-    loop-again
-    same-length
+    (tie.spec Inv-loop μ-loop returns loop-holds add-corners corners-requires triangle-requires add-i loop-less loop-again same-length
     returns-2)

@@ -64,15 +64,4 @@ returns-2 c =
 pub is-weighted-spec : {M : Type 1} → statement M
 is-weighted-spec =
     tie.close
-    (tie.spec
-    Inv-loop
-    μ-loop
-    loop-holds
-    add-row
-    row-requires
-    is-one-requires
-    returns
-    add-i
-    loop-less
-    loop-again
-    returns-2)
+    (tie.spec Inv-loop μ-loop loop-holds add-row row-requires is-one-requires returns add-i loop-less loop-again returns-2)

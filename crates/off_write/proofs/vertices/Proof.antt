@@ -57,16 +57,4 @@ returns-2 c = let l = c .before .loop in lines-all _ _ _ (l .inv .0) (c .loop-te
 pub vertices-spec : {M : Type 1} → statement M
 vertices-spec =
     tie.close
-    (tie.spec
-    Inv-loop
-    μ-loop
-    returns
-    loop-holds
-    add-row
-    row-requires
-    vertex-requires
-    add-i
-    loop-less
-    loop-again
-    same-length
-    returns-2)
+    (tie.spec Inv-loop μ-loop returns loop-holds add-row row-requires vertex-requires add-i loop-less loop-again same-length returns-2)

@@ -8,18 +8,6 @@ use Rattle.orient.specs.Sizes.{part-formed}
 use Rattle.orient.proofs.part.Statement.{statement}
 use Rattle.orient.proofs.part.Tie as tie
 
-shifted-requires : tie.Need-shifted-requires
-shifted-requires c κs = search needs
-
-shifted-requires-2 : tie.Need-shifted-requires-2
-shifted-requires-2 c κs = search needs
-
-shifted-requires-3 : tie.Need-shifted-requires-3
-shifted-requires-3 c κs = search needs
-
-shifted-requires-4 : tie.Need-shifted-requires-4
-shifted-requires-4 c κs = search needs
-
 det-requires : tie.Need-det-requires
 det-requires c κs =
     let s = c .before .before .before .before in
@@ -44,10 +32,4 @@ returns c =
 pub part-spec : {M : Type 1} → statement M
 part-spec =
     tie.close
-    (tie.spec
-    shifted-requires
-    shifted-requires-2
-    shifted-requires-3
-    shifted-requires-4
-    det-requires
-    returns)
+    (tie.spec (λ c κs. search needs) (λ c κs. search needs) (λ c κs. search needs) (λ c κs. search needs) det-requires returns)

@@ -7,18 +7,6 @@ use Rattle.orient.specs.Sizes.{points-within}
 use Rattle.orient.proofs.positive_at.Statement.{statement}
 use Rattle.orient.proofs.positive_at.Tie as tie
 
-point-at-requires : tie.Need-point-at-requires
-point-at-requires c κs = search needs
-
-point-at-requires-2 : tie.Need-point-at-requires-2
-point-at-requires-2 c κs = search needs
-
-point-at-requires-3 : tie.Need-point-at-requires-3
-point-at-requires-3 c κs = search needs
-
-point-at-requires-4 : tie.Need-point-at-requires-4
-point-at-requires-4 c κs = search needs
-
 term0-requires : tie.Need-term0-requires
 term0-requires c κs =
     let d3 = c .before in
@@ -36,17 +24,8 @@ sign-by-requires c κs =
     let e = rw (d1 .point-at .ensures, d2 .point-at2 .ensures, d3 .point-at3 .ensures, d4 .point-at4 .ensures) at (c .term0 .ensures) in
     (d1 .before .pre .0, (d1 .before .pre .1, called (c .term0 .ok) e))
 
-returns : tie.Need-returns
-returns c = search needs
-
 pub positive-at-spec : {M : Type 1} → statement M
 positive-at-spec =
     tie.close
-    (tie.spec
-    point-at-requires
-    point-at-requires-2
-    point-at-requires-3
-    point-at-requires-4
-    term0-requires
-    sign-by-requires
-    returns)
+    (tie.spec (λ c κs. search needs) (λ c κs. search needs) (λ c κs. search needs) (λ c κs. search needs) term0-requires sign-by-requires
+    (λ c. search needs))

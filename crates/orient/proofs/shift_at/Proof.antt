@@ -14,9 +14,6 @@ use Rattle.orient.specs.declared.Point.{Point}
 use Rattle.orient.proofs.shift_at.Statement.{statement}
 use Rattle.orient.proofs.shift_at.Tie as tie
 
-point-at-requires : tie.Need-point-at-requires
-point-at-requires c κs = search needs
-
 shifted-requires : tie.Need-shifted-requires
 shifted-requires c κs =
     let s = c .before in
@@ -37,4 +34,4 @@ returns c =
     }
 
 pub shift-at-spec : {M : Type 1} → statement M
-shift-at-spec = tie.close (tie.spec point-at-requires shifted-requires returns)
+shift-at-spec = tie.close (tie.spec (λ c κs. search needs) shifted-requires returns)

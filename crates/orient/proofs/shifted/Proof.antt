@@ -9,9 +9,6 @@ use Rattle.orient.specs.Bits.{times-ask, number, factor-held, shift1, sh
 use Rattle.orient.proofs.shifted.Statement.{statement}
 use Rattle.orient.proofs.shifted.Tie as tie
 
-factor-requires : tie.Need-factor-requires
-factor-requires c κs = search needs
-
 times-requires : tie.Need-times-requires
 times-requires c κs =
     let f = c .before in
@@ -32,15 +29,6 @@ times-requires-3 c κs =
     let f = t1 .before .before in
     let v = f .before .before .pre in
     times-ask (shift2 v (f .factor .ensures) (t1 .times .ensures) (t2 .times2 .ensures)) (number v) (lit≤ tt)
-
-pick-requires : tie.Need-pick-requires
-pick-requires c κs = search needs
-
-pick-requires-2 : tie.Need-pick-requires-2
-pick-requires-2 c κs = search needs
-
-pick-requires-3 : tie.Need-pick-requires-3
-pick-requires-3 c κs = search needs
 
 returns : tie.Need-returns
 returns c =
@@ -69,12 +57,5 @@ returns c =
 pub shifted-spec : {M : Type 1} → statement M
 shifted-spec =
     tie.close
-    (tie.spec
-    factor-requires
-    times-requires
-    times-requires-2
-    times-requires-3
-    pick-requires
-    pick-requires-2
-    pick-requires-3
-    returns)
+    (tie.spec (λ c κs. search needs) times-requires times-requires-2 times-requires-3 (λ c κs. search needs) (λ c κs. search needs)
+    (λ c κs. search needs) returns)

@@ -18,8 +18,5 @@ tied-at-requires c κs =
     let s = c .before in
     (s .pre .0, (s .pre .1 .0, sym (s .pre .1 .1) ∙ zero-bits (s .fits .t0 .sfits) (c .if1 .left)))
 
-returns-2 : tie.Need-returns-2
-returns-2 c = search needs
-
 pub sign-by-spec : {M : Type 1} → statement M
-sign-by-spec = tie.close (tie.spec returns tied-at-requires returns-2)
+sign-by-spec = tie.close (tie.spec returns tied-at-requires (λ c. search needs))

@@ -9,18 +9,6 @@ use Rattle.orient.specs.Sizes.{part-formed}
 use Rattle.orient.proofs.term0.Statement.{statement}
 use Rattle.orient.proofs.term0.Tie as tie
 
-row-requires : tie.Need-row-requires
-row-requires c κs = search needs
-
-row-requires-2 : tie.Need-row-requires-2
-row-requires-2 c κs = search needs
-
-row-requires-3 : tie.Need-row-requires-3
-row-requires-3 c κs = search needs
-
-row-requires-4 : tie.Need-row-requires-4
-row-requires-4 c κs = search needs
-
 det-requires : tie.Need-det-requires
 det-requires c κs =
     rw (c .before .before .before .row .ensures, c .before .before .row2 .ensures, c .before .row3 .ensures, c .row4 .ensures)
@@ -39,4 +27,4 @@ returns c =
 pub term0-spec : {M : Type 1} → statement M
 term0-spec =
     tie.close
-    (tie.spec row-requires row-requires-2 row-requires-3 row-requires-4 det-requires returns)
+    (tie.spec (λ c κs. search needs) (λ c κs. search needs) (λ c κs. search needs) (λ c κs. search needs) det-requires returns)

@@ -6,11 +6,8 @@ use Rattle.orient.specs.Columns.{c3-parts}
 use Rattle.orient.proofs.term3.Statement.{statement}
 use Rattle.orient.proofs.term3.Tie as tie
 
-part-requires : tie.Need-part-requires
-part-requires c κs = search needs
-
 returns : tie.Need-returns
 returns c = called (c .part .ok) (c .part .ensures ∙ sym (c3-parts _ _ _ _))
 
 pub term3-spec : {M : Type 1} → statement M
-term3-spec = tie.close (tie.spec part-requires returns)
+term3-spec = tie.close (tie.spec (λ c κs. search needs) returns)

@@ -6,18 +6,6 @@ use Rattle.orient.specs.Sizes.{points-within}
 use Rattle.orient.proofs.terms_at.Statement.{statement}
 use Rattle.orient.proofs.terms_at.Tie as tie
 
-point-at-requires : tie.Need-point-at-requires
-point-at-requires c κs = search needs
-
-point-at-requires-2 : tie.Need-point-at-requires-2
-point-at-requires-2 c κs = search needs
-
-point-at-requires-3 : tie.Need-point-at-requires-3
-point-at-requires-3 c κs = search needs
-
-point-at-requires-4 : tie.Need-point-at-requires-4
-point-at-requires-4 c κs = search needs
-
 terms-of-requires : tie.Need-terms-of-requires
 terms-of-requires c κs =
     let d3 = c .before in
@@ -33,10 +21,4 @@ returns c = cc
 pub terms-at-spec : {M : Type 1} → statement M
 terms-at-spec =
     tie.close
-    (tie.spec
-    point-at-requires
-    point-at-requires-2
-    point-at-requires-3
-    point-at-requires-4
-    terms-of-requires
-    returns)
+    (tie.spec (λ c κs. search needs) (λ c κs. search needs) (λ c κs. search needs) (λ c κs. search needs) terms-of-requires returns)

@@ -4,18 +4,6 @@ use Rattle.laws.specs.Size.{called}
 use Rattle.orient.proofs.terms_of.Statement.{statement}
 use Rattle.orient.proofs.terms_of.Tie as tie
 
-term0-requires : tie.Need-term0-requires
-term0-requires c κs = search needs
-
-term1-requires : tie.Need-term1-requires
-term1-requires c κs = search needs
-
-term2-requires : tie.Need-term2-requires
-term2-requires c κs = search needs
-
-term3-requires : tie.Need-term3-requires
-term3-requires c κs = search needs
-
 returns : tie.Need-returns
 returns c =
     let c2 = c .before in
@@ -31,4 +19,4 @@ returns c =
 
 pub terms-of-spec : {M : Type 1} → statement M
 terms-of-spec =
-    tie.close (tie.spec term0-requires term1-requires term2-requires term3-requires returns)
+    tie.close (tie.spec (λ c κs. search needs) (λ c κs. search needs) (λ c κs. search needs) (λ c κs. search needs) returns)

@@ -6,23 +6,14 @@ use Rattle.orient.specs.Bits.{decides, passes-on}
 use Rattle.orient.proofs.tie.Statement.{statement}
 use Rattle.orient.proofs.tie.Tie as tie
 
-term1-requires : tie.Need-term1-requires
-term1-requires c κs = search needs
-
 returns : tie.Need-returns
 returns c = decides _ (c .before .term1 .ok) (c .before .term1 .ensures) (c .if1 .taken)
-
-term2-requires : tie.Need-term2-requires
-term2-requires c κs = search needs
 
 returns-2 : tie.Need-returns-2
 returns-2 c =
     let d = c .before .before in
     decides _ (c .before .term2 .ok) (c .before .term2 .ensures) (c .if2 .taken)
     ∙ sym (ap isPlus (passes-on _ (d .before .term1 .ok) (d .before .term1 .ensures) (d .if1 .left)))
-
-last-positive-requires : tie.Need-last-positive-requires
-last-positive-requires c κs = search needs
 
 returns-3 : tie.Need-returns-3
 returns-3 c =
@@ -37,4 +28,4 @@ returns-3 c =
 
 pub tie-spec : {M : Type 1} → statement M
 tie-spec =
-    tie.close (tie.spec term1-requires returns term2-requires returns-2 last-positive-requires returns-3)
+    tie.close (tie.spec (λ c κs. search needs) returns (λ c κs. search needs) returns-2 (λ c κs. search needs) returns-3)

@@ -9,18 +9,6 @@ use Rattle.orient.specs.Bits.{tie-tells}
 use Rattle.orient.proofs.tied_at.Statement.{statement}
 use Rattle.orient.proofs.tied_at.Tie as tie
 
-point-at-requires : tie.Need-point-at-requires
-point-at-requires c κs = search needs
-
-point-at-requires-2 : tie.Need-point-at-requires-2
-point-at-requires-2 c κs = search needs
-
-point-at-requires-3 : tie.Need-point-at-requires-3
-point-at-requires-3 c κs = search needs
-
-point-at-requires-4 : tie.Need-point-at-requires-4
-point-at-requires-4 c κs = search needs
-
 tie-requires : tie.Need-tie-requires
 tie-requires c κs =
     let d3 = c .before in
@@ -43,10 +31,4 @@ returns c =
 pub tied-at-spec : {M : Type 1} → statement M
 tied-at-spec =
     tie.close
-    (tie.spec
-    point-at-requires
-    point-at-requires-2
-    point-at-requires-3
-    point-at-requires-4
-    tie-requires
-    returns)
+    (tie.spec (λ c κs. search needs) (λ c κs. search needs) (λ c κs. search needs) (λ c κs. search needs) tie-requires returns)

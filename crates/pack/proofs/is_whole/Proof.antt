@@ -7,9 +7,4 @@ use Rattle.pack.proofs.is_whole.Tie as tie
 pub is-whole-spec : {M : Type 1} → statement M
 is-whole-spec =
     tie.close
-    (tie.spec
-    (λ c κs. search needs)
-    (λ c κs. search needs)
-    (λ c κs. search needs)
-    (λ c. search passes-by)
-    (λ c. search passes-by))
+    (tie.spec (λ c κs. search needs) (λ c κs. search needs) (λ c κs. search needs) (λ c. search passes-by) (λ c. search passes-by))

@@ -7,9 +7,4 @@ use Rattle.pack.proofs.passes.Tie as tie
 pub passes-spec : {M : Type 1} → statement M
 passes-spec =
     tie.close
-    (tie.spec
-    (λ c. search needs)
-    (λ c. search needs)
-    (λ c κs. search needs)
-    (λ c. search needs)
-    (λ c. search number-passes))
+    (tie.spec (λ c. search needs) (λ c. search needs) (λ c κs. search needs) (λ c. search needs) (λ c. search number-passes))

@@ -45,13 +45,4 @@ returns-2 c =
 pub helper-spec : {M : Type 1} → statement M
 helper-spec =
     tie.close
-    (tie.spec
-    Inv-loop
-    μ-loop
-    loop-holds
-    can-help-requires
-    returns
-    add-h
-    loop-less
-    loop-again
-    returns-2)
+    (tie.spec Inv-loop μ-loop loop-holds can-help-requires returns add-h loop-less loop-again returns-2)

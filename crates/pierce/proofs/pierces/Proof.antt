@@ -17,9 +17,6 @@ returns : tie.Need-returns
 unfolding pierces
 returns c = ends-alike _ _ _ _ _ _ _ (c .before .before .positive-at .ensures) (c .before .positive-at2 .ensures) (c .if1 .taken)
 
-helper-requires : tie.Need-helper-requires
-helper-requires c κs = search needs
-
 sides-requires : tie.Need-sides-requires
 sides-requires c κs =
     let s = c .before .before .before .before in
@@ -38,10 +35,4 @@ returns-2 c =
 pub pierces-spec : {M : Type 1} → statement M
 pierces-spec =
     tie.close
-    (tie.spec
-    positive-at-requires
-    positive-at-requires-2
-    returns
-    helper-requires
-    sides-requires
-    returns-2)
+    (tie.spec positive-at-requires positive-at-requires-2 returns (λ c κs. search needs) sides-requires returns-2)

@@ -7,11 +7,8 @@ use Rattle.pierce.proofs.side.Tie as tie
 returns : tie.Need-returns
 returns c = side-none _ _ _ (c .if1 .taken)
 
-positive-at-requires : tie.Need-positive-at-requires
-positive-at-requires c κs = search needs
-
 returns-2 : tie.Need-returns-2
 returns-2 c = side-some _ _ _ (c .before .if1 .left) (c .positive-at .ensures)
 
 pub side-spec : {M : Type 1} → statement M
-side-spec = tie.close (tie.spec returns positive-at-requires returns-2)
+side-spec = tie.close (tie.spec returns (λ c κs. search needs) returns-2)

@@ -5,21 +5,6 @@ use borrow.Author.Needs.{needs}
 use Rattle.pierce.proofs.sides.Statement.{statement}
 use Rattle.pierce.proofs.sides.Tie as tie
 
-positive-at-requires : tie.Need-positive-at-requires
-positive-at-requires c κs = search needs
-
-positive-at-requires-2 : tie.Need-positive-at-requires-2
-positive-at-requires-2 c κs = search needs
-
-positive-at-requires-3 : tie.Need-positive-at-requires-3
-positive-at-requires-3 c κs = search needs
-
-side-requires : tie.Need-side-requires
-side-requires c κs = search needs
-
-side-requires-2 : tie.Need-side-requires-2
-side-requires-2 c κs = search needs
-
 side-requires-3 : tie.Need-side-requires-3
 side-requires-3 c κs = (search needs, ask-rp (c .before .before .before .before .before .pre .1))
 
@@ -32,11 +17,5 @@ returns c =
 pub sides-spec : {M : Type 1} → statement M
 sides-spec =
     tie.close
-    (tie.spec
-    positive-at-requires
-    positive-at-requires-2
-    positive-at-requires-3
-    side-requires
-    side-requires-2
-    side-requires-3
-    returns)
+    (tie.spec (λ c κs. search needs) (λ c κs. search needs) (λ c κs. search needs) (λ c κs. search needs) (λ c κs. search needs)
+    side-requires-3 returns)

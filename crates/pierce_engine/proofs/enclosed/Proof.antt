@@ -5,14 +5,8 @@ use borrow.Author.Needs.{needs}
 use Rattle.pierce_engine.proofs.enclosed.Statement.{statement}
 use Rattle.pierce_engine.proofs.enclosed.Tie as tie
 
-mask-requires : tie.Need-mask-requires
-mask-requires c κs = search needs
-
-is-odd-requires : tie.Need-is-odd-requires
-is-odd-requires c κs = search needs
-
 returns : tie.Need-returns
 returns c = c .is-odd .ensures ∙ ap isOdd (c .before .mask .ensures)
 
 pub enclosed-spec : {M : Type 1} → statement M
-enclosed-spec = tie.close (tie.spec mask-requires is-odd-requires returns)
+enclosed-spec = tie.close (tie.spec (λ c κs. search needs) (λ c κs. search needs) returns)

@@ -24,12 +24,6 @@ word-requires-2 c κs =
       (search needs, (search needs, (e .0, beside-low (faceIn (now (s .args .corners))) (s .args .first) 64 (omega arith) (e .1)))),
     )
 
-add-word : tie.Need-add-word
-add-word c = search needs
-
-sub-word : tie.Need-sub-word
-sub-word c = search needs
-
 word-requires-3 : tie.Need-word-requires-3
 word-requires-3 c κs =
     let s = c .before .before in
@@ -47,4 +41,4 @@ returns-2 c =
 pub mask-spec : {M : Type 1} → statement M
 mask-spec =
     tie.close
-    (tie.spec word-requires returns word-requires-2 add-word sub-word word-requires-3 returns-2)
+    (tie.spec word-requires returns word-requires-2 (λ c. search needs) (λ c. search needs) word-requires-3 returns-2)

@@ -7,21 +7,6 @@ use Rattle.pierce_plain.specs.Five.{five-pierce}
 use Rattle.pierce_engine.proofs.pierces.Statement.{statement}
 use Rattle.pierce_engine.proofs.pierces.Tie as tie
 
-enum-told : tie.Need-enum-told
-enum-told c = search needs
-
-pierces-requires : tie.Need-pierces-requires
-pierces-requires c κs = search needs
-
-enum-told-2 : tie.Need-enum-told-2
-enum-told-2 c = search needs
-
-pierces-requires-2 : tie.Need-pierces-requires-2
-pierces-requires-2 c κs = search needs
-
-returns : tie.Need-returns
-returns c = search needs
-
 returns-2 : tie.Need-returns-2
 returns-2 c =
     let s = c .before .before .before in
@@ -30,4 +15,4 @@ returns-2 c =
 
 pub pierces-spec : {M : Type 1} → statement M
 pierces-spec =
-    tie.close (tie.spec enum-told pierces-requires enum-told-2 pierces-requires-2 returns returns-2)
+    tie.close (tie.spec (λ c. search needs) (λ c κs. search needs) (λ c. search needs) (λ c κs. search needs) (λ c. search needs) returns-2)

@@ -62,17 +62,5 @@ returns c = c .before .loop .inv .1 ∙ ap (maskOf _) (omega arith)
 pub word-spec : {M : Type 1} → statement M
 word-spec =
     tie.close
-    (tie.spec
-    Inv-loop
-    μ-loop
-    loop-holds
-    add-face-in
-    add-face-in-2
-    face-in-requires
-    pierces-requires
-    bit-requires
-    shl-word
-    add-k
-    loop-less
-    loop-again
-    returns)
+    (tie.spec Inv-loop μ-loop loop-holds add-face-in add-face-in-2 face-in-requires pierces-requires bit-requires shl-word add-k loop-less
+    loop-again returns)

@@ -4,16 +4,10 @@ use borrow.Author.Needs.{needs}
 use Rattle.pierce_masks.proofs.has.Statement.{statement}
 use Rattle.pierce_masks.proofs.has.Tie as tie
 
-shr-result : tie.Need-shr-result
-shr-result c = search needs
-
 returns : tie.Need-returns
 returns c =
     let s = c .before .before in
     bit-low (s .args .m) (search needs) (s .args .k) (c .before .if1 .taken)
-
-shr-result-2 : tie.Need-shr-result-2
-shr-result-2 c = search needs
 
 returns-2 : tie.Need-returns-2
 returns-2 c =
@@ -21,4 +15,4 @@ returns-2 c =
     bit-high (s .args .m) (search needs) (s .args .k) (c .before .if1 .left)
 
 pub has-spec : {M : Type 1} → statement M
-has-spec = tie.close (tie.spec shr-result returns shr-result-2 returns-2)
+has-spec = tie.close (tie.spec (λ c. search needs) returns (λ c. search needs) returns-2)

@@ -4,12 +4,9 @@ use borrow.Author.Needs.{needs}
 use Rattle.pierce_masks.proofs.is_odd.Statement.{statement}
 use Rattle.pierce_masks.proofs.is_odd.Tie as tie
 
-ones-requires : tie.Need-ones-requires
-ones-requires c κs = search needs
-
 returns : tie.Need-returns
 unfolding isOdd
 returns c = cc
 
 pub is-odd-spec : {M : Type 1} → statement M
-is-odd-spec = tie.close (tie.spec ones-requires returns)
+is-odd-spec = tie.close (tie.spec (λ c κs. search needs) returns)

@@ -20,12 +20,6 @@ returns c =
     ends-alike (rowIn (now (a .rows))) (a .u) (a .v) (a .f) (c .before .before .positive-at .ensures)
     (c .before .positive-at2 .ensures) (c .if1 .taken)
 
-positive-at-requires-3 : tie.Need-positive-at-requires-3
-positive-at-requires-3 c κs = search needs
-
-positive-at-requires-4 : tie.Need-positive-at-requires-4
-positive-at-requires-4 c κs = search needs
-
 returns-2 : tie.Need-returns-2
 returns-2 c =
     let e = c .before .before .before in
@@ -50,12 +44,5 @@ returns-3 c =
 pub pierces-spec : {M : Type 1} → statement M
 pierces-spec =
     tie.close
-    (tie.spec
-    positive-at-requires
-    positive-at-requires-2
-    returns
-    positive-at-requires-3
-    positive-at-requires-4
-    returns-2
-    positive-at-requires-5
-    returns-3)
+    (tie.spec positive-at-requires positive-at-requires-2 returns (λ c κs. search needs) (λ c κs. search needs) returns-2
+    positive-at-requires-5 returns-3)

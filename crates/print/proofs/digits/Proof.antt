@@ -70,17 +70,5 @@ returns c =
 pub digits-spec : {M : Type 1} → statement M
 digits-spec =
     tie.close
-    (tie.spec
-    Inv-loop
-    μ-loop
-    sub-i
-    loop-holds
-    digit-requires
-    store-requires
-    sub-i-2
-    loop-less
-    loop-again
-    digit-requires-2
-    store-requires-2
-    same-length
-    returns)
+    (tie.spec Inv-loop μ-loop sub-i loop-holds digit-requires store-requires sub-i-2 loop-less loop-again digit-requires-2 store-requires-2
+    same-length returns)

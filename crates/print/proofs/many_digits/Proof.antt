@@ -5,18 +5,6 @@ use borrow.Author.Needs.{needs}
 use Rattle.print.proofs.many_digits.Statement.{statement}
 use Rattle.print.proofs.many_digits.Tie as tie
 
-places-requires : tie.Need-places-requires
-places-requires c κs = search needs
-
-digits-requires : tie.Need-digits-requires
-digits-requires c κs = search needs
-
-after-requires : tie.Need-after-requires
-after-requires c κs = search needs
-
-same-length : tie.Need-same-length
-same-length c = search needs
-
 returns : tie.Need-returns
 returns c =
     let d = c .before .before .before in
@@ -24,4 +12,4 @@ returns c =
 
 pub many-digits-spec : {M : Type 1} → statement M
 many-digits-spec =
-    tie.close (tie.spec places-requires digits-requires after-requires same-length returns)
+    tie.close (tie.spec (λ c κs. search needs) (λ c κs. search needs) (λ c κs. search needs) (λ c. search needs) returns)

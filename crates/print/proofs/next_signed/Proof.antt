@@ -5,15 +5,6 @@ use borrow.Author.Needs.{needs}
 use Rattle.print.proofs.next_signed.Statement.{statement}
 use Rattle.print.proofs.next_signed.Tie as tie
 
-space-requires : tie.Need-space-requires
-space-requires c κs = search needs
-
-signed-requires : tie.Need-signed-requires
-signed-requires c κs = search needs
-
-same-length : tie.Need-same-length
-same-length c = search needs
-
 returns : tie.Need-returns
 returns c =
     let n = c .before .before in
@@ -21,4 +12,4 @@ returns c =
     end-to-end (p .space .ensures) (signed-put (p .before .before .before .fits .z) (n .signed .ensures))
 
 pub next-signed-spec : {M : Type 1} → statement M
-next-signed-spec = tie.close (tie.spec space-requires signed-requires same-length returns)
+next-signed-spec = tie.close (tie.spec (λ c κs. search needs) (λ c κs. search needs) (λ c. search needs) returns)

@@ -5,21 +5,6 @@ use borrow.Author.Needs.{needs}
 use Rattle.print.proofs.two_digits.Statement.{statement}
 use Rattle.print.proofs.two_digits.Tie as tie
 
-digit-requires : tie.Need-digit-requires
-digit-requires c κs = search needs
-
-byte-requires : tie.Need-byte-requires
-byte-requires c κs = search needs
-
-digit-requires-2 : tie.Need-digit-requires-2
-digit-requires-2 c κs = search needs
-
-byte-requires-2 : tie.Need-byte-requires-2
-byte-requires-2 c κs = search needs
-
-same-length : tie.Need-same-length
-same-length c = search needs
-
 returns : tie.Need-returns
 returns c =
     let e = c .before .before in
@@ -30,4 +15,4 @@ returns c =
 pub two-digits-spec : {M : Type 1} → statement M
 two-digits-spec =
     tie.close
-    (tie.spec digit-requires byte-requires digit-requires-2 byte-requires-2 same-length returns)
+    (tie.spec (λ c κs. search needs) (λ c κs. search needs) (λ c κs. search needs) (λ c κs. search needs) (λ c. search needs) returns)

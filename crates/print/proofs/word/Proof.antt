@@ -46,15 +46,4 @@ returns-2 c = word-all _ _ (c .before .loop .inv .1) (c .loop-test .left)
 pub word-spec : {M : Type 1} → statement M
 word-spec =
     tie.close
-    (tie.spec
-    Inv-loop
-    μ-loop
-    returns
-    loop-holds
-    shared-slice-read-byte
-    byte-requires
-    add-i
-    loop-less
-    loop-again
-    same-length
-    returns-2)
+    (tie.spec Inv-loop μ-loop returns loop-holds shared-slice-read-byte byte-requires add-i loop-less loop-again same-length returns-2)

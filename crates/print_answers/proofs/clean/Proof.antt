@@ -6,17 +6,8 @@ use borrow.Author.Needs.{needs}
 use Rattle.print_answers.proofs.clean.Statement.{statement}
 use Rattle.print_answers.proofs.clean.Tie as tie
 
-clean-requires : tie.Need-clean-requires
-clean-requires c κs = search needs
-
-clean-requires-2 : tie.Need-clean-requires-2
-clean-requires-2 c κs = search needs
-
-same-length : tie.Need-same-length
-same-length c = search needs
-
 returns : tie.Need-returns
 returns c = by-case cleanLine (sym (c .before .before .before .before .clean .ensures)) (c .before .before .clean2 .ensures)
 
 pub clean-spec : {M : Type 1} → statement M
-clean-spec = tie.close (tie.spec clean-requires clean-requires-2 same-length returns)
+clean-spec = tie.close (tie.spec (λ c κs. search needs) (λ c κs. search needs) (λ c. search needs) returns)

@@ -6,17 +6,8 @@ use borrow.Author.Needs.{needs}
 use Rattle.print_answers.proofs.count.Statement.{statement}
 use Rattle.print_answers.proofs.count.Tie as tie
 
-count-requires : tie.Need-count-requires
-count-requires c κs = search needs
-
-counts-requires : tie.Need-counts-requires
-counts-requires c κs = search needs
-
-same-length : tie.Need-same-length
-same-length c = search needs
-
 returns : tie.Need-returns
 returns c = let r = c .before .before in by-case countsLine (sym (r .before .before .count .ensures)) (r .counts .ensures)
 
 pub count-spec : {M : Type 1} → statement M
-count-spec = tie.close (tie.spec count-requires counts-requires same-length returns)
+count-spec = tie.close (tie.spec (λ c κs. search needs) (λ c κs. search needs) (λ c. search needs) returns)

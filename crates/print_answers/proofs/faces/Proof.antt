@@ -4,14 +4,8 @@ use borrow.Author.Needs.{needs}
 use Rattle.print_answers.proofs.faces.Statement.{statement}
 use Rattle.print_answers.proofs.faces.Tie as tie
 
-mask-requires : tie.Need-mask-requires
-mask-requires c κs = search needs
-
-same-length : tie.Need-same-length
-same-length c = search needs
-
 returns : tie.Need-returns
 returns c = let r = c .before .before in words-are (r .before .before .before .args .m) _ (search needs) (r .mask .ensures)
 
 pub faces-spec : {M : Type 1} → statement M
-faces-spec = tie.close (tie.spec mask-requires same-length returns)
+faces-spec = tie.close (tie.spec (λ c κs. search needs) (λ c. search needs) returns)

@@ -6,17 +6,8 @@ use borrow.Author.Needs.{needs}
 use Rattle.print_answers.proofs.judge.Statement.{statement}
 use Rattle.print_answers.proofs.judge.Tie as tie
 
-judge-requires : tie.Need-judge-requires
-judge-requires c κs = search needs
-
-judged-requires : tie.Need-judged-requires
-judged-requires c κs = search needs
-
-same-length : tie.Need-same-length
-same-length c = search needs
-
 returns : tie.Need-returns
 returns c = let r = c .before .before in by-case judgedLine (sym (r .before .before .judge .ensures)) (r .judged .ensures)
 
 pub judge-spec : {M : Type 1} → statement M
-judge-spec = tie.close (tie.spec judge-requires judged-requires same-length returns)
+judge-spec = tie.close (tie.spec (λ c κs. search needs) (λ c κs. search needs) (λ c. search needs) returns)

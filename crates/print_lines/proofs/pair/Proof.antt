@@ -4,21 +4,6 @@ use borrow.Author.Needs.{needs}
 use Rattle.print_lines.proofs.pair.Statement.{statement}
 use Rattle.print_lines.proofs.pair.Tie as tie
 
-number-requires : tie.Need-number-requires
-number-requires c κs = search needs
-
-next-number-requires : tie.Need-next-number-requires
-next-number-requires c κs = search needs
-
-next-number-requires-2 : tie.Need-next-number-requires-2
-next-number-requires-2 c κs = search needs
-
-newline-requires : tie.Need-newline-requires
-newline-requires c κs = search needs
-
-same-length : tie.Need-same-length
-same-length c = search needs
-
 returns : tie.Need-returns
 returns c =
     let r4 = c .before .before in
@@ -30,10 +15,4 @@ returns c =
 pub pair-spec : {M : Type 1} → statement M
 pair-spec =
     tie.close
-    (tie.spec
-    number-requires
-    next-number-requires
-    next-number-requires-2
-    newline-requires
-    same-length
-    returns)
+    (tie.spec (λ c κs. search needs) (λ c κs. search needs) (λ c κs. search needs) (λ c κs. search needs) (λ c. search needs) returns)

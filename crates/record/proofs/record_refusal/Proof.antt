@@ -8,20 +8,8 @@ use borrow.Author.Needs.{needs}
 use Rattle.record.proofs.record_refusal.Statement.{statement}
 use Rattle.record.proofs.record_refusal.Tie as tie
 
-judge-requires : tie.Need-judge-requires
-judge-requires c κs = search needs
-
-enum-known-r : tie.Need-enum-known-r
-enum-known-r c = search needs
-
 returns : tie.Need-returns
 returns c = search not-judged
-
-enum-told : tie.Need-enum-told
-enum-told c = search needs
-
-last-record-requires : tie.Need-last-record-requires
-last-record-requires c κs = search needs
 
 returns-2 : tie.Need-returns-2
 returns-2 c =
@@ -38,11 +26,4 @@ returns-3 c =
 pub record-refusal-spec : {M : Type 1} → statement M
 record-refusal-spec =
     tie.close
-    (tie.spec
-    judge-requires
-    enum-known-r
-    returns
-    enum-told
-    last-record-requires
-    returns-2
-    returns-3)
+    (tie.spec (λ c κs. search needs) (λ c. search needs) returns (λ c. search needs) (λ c κs. search needs) returns-2 returns-3)

@@ -72,24 +72,6 @@ returns-3 c = search needs
 pub write-rows-spec : {M : Type 1} → statement M
 write-rows-spec =
     tie.close
-    (tie.spec
-    Inv-loop
-    μ-loop
-    loop-holds
-    slice-aggregate-part-read
-    part-read-requires
-    same-length
-    returns
-    slice-reshare-prefix-write
-    slice-aggregate-write
-    write-requires
-    same-length-2
-    returns-2
-    sub-least
-    least-requires
-    add-from
-    loop-less
-    loop-again
-    finish-requires
-    same-length-3
-    returns-3)
+    (tie.spec Inv-loop μ-loop loop-holds slice-aggregate-part-read part-read-requires same-length returns slice-reshare-prefix-write
+    slice-aggregate-write write-requires same-length-2 returns-2 sub-least least-requires add-from loop-less loop-again finish-requires
+    same-length-3 returns-3)

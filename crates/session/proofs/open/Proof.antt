@@ -5,23 +5,8 @@ use borrow.Author.Needs.{needs}
 use Rattle.session.proofs.open.Statement.{statement}
 use Rattle.session.proofs.open.Tie as tie
 
-judge-requires : tie.Need-judge-requires
-judge-requires c κs = search needs
-
-enum-known-r : tie.Need-enum-known-r
-enum-known-r c = search needs
-
-empty-requires : tie.Need-empty-requires
-empty-requires c κs = search needs
-
 returns : tie.Need-returns
 returns c = opened-not _ (c .before .before .before .before .judge .ensures) (c .before .before .r .given .1) (c .empty .ensures)
-
-enum-told : tie.Need-enum-told
-enum-told c = search needs
-
-slice-aggregate-copy : tie.Need-slice-aggregate-copy
-slice-aggregate-copy c = search needs
 
 copy-requires : tie.Need-copy-requires
 copy-requires c κs = accepted-short _ (sym (c .before .before .before .judge .ensures) ∙ c .before .enum-told .given .1)
@@ -39,13 +24,5 @@ returns-2 c =
 pub open-spec : {M : Type 1} → statement M
 open-spec =
     tie.close
-    (tie.spec
-    judge-requires
-    enum-known-r
-    empty-requires
-    returns
-    enum-told
-    slice-aggregate-copy
-    copy-requires
-    fresh-requires
-    returns-2)
+    (tie.spec (λ c κs. search needs) (λ c. search needs) (λ c κs. search needs) returns (λ c. search needs) (λ c. search needs)
+    copy-requires fresh-requires returns-2)

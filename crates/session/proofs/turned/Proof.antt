@@ -6,26 +6,14 @@ use borrow.Author.Needs.{needs}
 use Rattle.session.proofs.turned.Statement.{statement}
 use Rattle.session.proofs.turned.Tie as tie
 
-face-start-requires : tie.Need-face-start-requires
-face-start-requires c κs = search needs
-
 add-byte : tie.Need-add-byte
 add-byte c = omega (arith, c .before .shared-slice-known .given 2, c .before .shared-slice-known .given 4)
-
-byte-requires : tie.Need-byte-requires
-byte-requires c κs = search needs
 
 add-byte-2 : tie.Need-add-byte-2
 add-byte-2 c = omega (arith, c .before .before .shared-slice-known .given 2, c .before .before .shared-slice-known .given 4)
 
-byte-requires-2 : tie.Need-byte-requires-2
-byte-requires-2 c κs = search needs
-
 add-byte-3 : tie.Need-add-byte-3
 add-byte-3 c = omega (arith, c .before .before .before .shared-slice-known .given 2, c .before .before .before .shared-slice-known .given 4)
-
-byte-requires-3 : tie.Need-byte-requires-3
-byte-requires-3 c κs = search needs
 
 returns : tie.Need-returns
 returns c = (
@@ -37,12 +25,5 @@ returns c = (
 pub turned-spec : {M : Type 1} → statement M
 turned-spec =
     tie.close
-    (tie.spec
-    face-start-requires
-    add-byte
-    byte-requires
-    add-byte-2
-    byte-requires-2
-    add-byte-3
-    byte-requires-3
+    (tie.spec (λ c κs. search needs) add-byte (λ c κs. search needs) add-byte-2 (λ c κs. search needs) add-byte-3 (λ c κs. search needs)
     returns)

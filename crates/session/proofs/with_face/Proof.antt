@@ -9,32 +9,11 @@ use borrow.Author.Needs.{needs}
 use Rattle.session.proofs.with_face.Statement.{statement}
 use Rattle.session.proofs.with_face.Tie as tie
 
-array-share-prefix-b : tie.Need-array-share-prefix-b
-array-share-prefix-b c = search needs
-
 slice-aggregate-face-start : tie.Need-slice-aggregate-face-start
 slice-aggregate-face-start c = sym (length-take-le _ _ (omega arith))
 
-face-start-requires : tie.Need-face-start-requires
-face-start-requires c κs = search needs
-
-array-share-prefix-b-2 : tie.Need-array-share-prefix-b-2
-array-share-prefix-b-2 c = search needs
-
 slice-aggregate-turned : tie.Need-slice-aggregate-turned
 slice-aggregate-turned c = sym (length-take-le _ _ (omega arith))
-
-turned-requires : tie.Need-turned-requires
-turned-requires c κs = search needs
-
-slice-aggregate-put-corners : tie.Need-slice-aggregate-put-corners
-slice-aggregate-put-corners c = search needs
-
-put-corners-requires : tie.Need-put-corners-requires
-put-corners-requires c κs = search needs
-
-fresh-requires : tie.Need-fresh-requires
-fresh-requires c κs = search needs
 
 returns : tie.Need-returns
 returns c =
@@ -48,14 +27,5 @@ returns c =
 pub with-face-spec : {M : Type 1} → statement M
 with-face-spec =
     tie.close
-    (tie.spec
-    array-share-prefix-b
-    slice-aggregate-face-start
-    face-start-requires
-    array-share-prefix-b-2
-    slice-aggregate-turned
-    turned-requires
-    slice-aggregate-put-corners
-    put-corners-requires
-    fresh-requires
-    returns)
+    (tie.spec (λ c. search needs) slice-aggregate-face-start (λ c κs. search needs) (λ c. search needs) slice-aggregate-turned
+    (λ c κs. search needs) (λ c. search needs) (λ c κs. search needs) (λ c κs. search needs) returns)

@@ -10,12 +10,6 @@ use borrow.Author.Needs.{needs}
 use Rattle.survey.proofs.survey_part.Statement.{statement}
 use Rattle.survey.proofs.survey_part.Tie as tie
 
-fill-links-requires : tie.Need-fill-links-requires
-fill-links-requires c κs = search needs
-
-fill-solid-requires : tie.Need-fill-solid-requires
-fill-solid-requires c κs = search needs
-
 fill-odds-requires : tie.Need-fill-odds-requires
 fill-odds-requires c κs =
     let f = c .before .before .before in
@@ -59,9 +53,4 @@ returns c =
 pub survey-part-spec : {M : Type 1} → statement M
 survey-part-spec =
     tie.close
-    (tie.spec
-    fill-links-requires
-    fill-solid-requires
-    fill-odds-requires
-    enclosed-word-requires
-    returns)
+    (tie.spec (λ c κs. search needs) (λ c κs. search needs) fill-odds-requires enclosed-word-requires returns)

@@ -6,18 +6,6 @@ use borrow.Author.Needs.{needs}
 use Rattle.survey.proofs.survey_scene.Statement.{statement}
 use Rattle.survey.proofs.survey_scene.Tie as tie
 
-make-planes-requires : tie.Need-make-planes-requires
-make-planes-requires c κs = search needs
-
-tell-sides-requires : tie.Need-tell-sides-requires
-tell-sides-requires c κs = search needs
-
-make-planes-requires-2 : tie.Need-make-planes-requires-2
-make-planes-requires-2 c κs = search needs
-
-tell-sides-requires-2 : tie.Need-tell-sides-requires-2
-tell-sides-requires-2 c κs = search needs
-
 tell-parts-requires : tie.Need-tell-parts-requires
 tell-parts-requires c κs =
     let d = c .before .before .before in
@@ -63,19 +51,8 @@ survey-part-requires-2 c κs =
     let h = parts-told v (s .args .b) (s .args .a) (r .1) (r .0) (t .tell-sides .ensures) (f .0) (f .1) z in
     ((r .1, s .pre .1 .1), ((d .tell-sides2 .ensures, h), o .survey-part .ensures .1))
 
-returns : tie.Need-returns
-returns c = search needs
-
 pub survey-scene-spec : {M : Type 1} → statement M
 survey-scene-spec =
     tie.close
-    (tie.spec
-    make-planes-requires
-    tell-sides-requires
-    make-planes-requires-2
-    tell-sides-requires-2
-    tell-parts-requires
-    survey-part-requires
-    tell-parts-requires-2
-    survey-part-requires-2
-    returns)
+    (tie.spec (λ c κs. search needs) (λ c κs. search needs) (λ c κs. search needs) (λ c κs. search needs) tell-parts-requires
+    survey-part-requires tell-parts-requires-2 survey-part-requires-2 (λ c. search needs))

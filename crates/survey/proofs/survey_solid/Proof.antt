@@ -6,12 +6,6 @@ use borrow.Author.Needs.{needs}
 use Rattle.survey.proofs.survey_solid.Statement.{statement}
 use Rattle.survey.proofs.survey_solid.Tie as tie
 
-make-planes-requires : tie.Need-make-planes-requires
-make-planes-requires c κs = search needs
-
-tell-sides-requires : tie.Need-tell-sides-requires
-tell-sides-requires c κs = search needs
-
 survey-part-requires : tie.Need-survey-part-requires
 survey-part-requires c κs =
     let t = c .before .before .before .before .before .before .before in
@@ -19,8 +13,5 @@ survey-part-requires c κs =
     let v = seenIn (s .args .n) (now (s .args .rows)) (now (s .args .corners)) in
     (s .pre, ((t .tell-sides .ensures, parted-new v (s .args .k)), (search needs, search needs)))
 
-returns : tie.Need-returns
-returns c = search needs
-
 pub survey-solid-spec : {M : Type 1} → statement M
-survey-solid-spec = tie.close (tie.spec make-planes-requires tell-sides-requires survey-part-requires returns)
+survey-solid-spec = tie.close (tie.spec (λ c κs. search needs) (λ c κs. search needs) survey-part-requires (λ c. search needs))

@@ -65,14 +65,4 @@ returns c = λ first ends. count-all _ (c .before .loop .inv .0) (c .loop-test .
 pub count-spec : {M : Type 1} → statement M
 count-spec =
     tie.close
-    (tie.spec
-    Inv-loop
-    μ-loop
-    loop-holds
-    mask-at-requires
-    ones-requires
-    add-c
-    add-j
-    loop-less
-    loop-again
-    returns)
+    (tie.spec Inv-loop μ-loop loop-holds mask-at-requires ones-requires add-c add-j loop-less loop-again returns)

@@ -58,14 +58,4 @@ returns c = reached-all _ _ (c .before .before .loop .inv) (omega arith)
 pub enclosed-word-spec : {M : Type 1} → statement M
 enclosed-word-spec =
     tie.close
-    (tie.spec
-    Inv-loop
-    μ-loop
-    bit-requires
-    sub-t12
-    loop-holds
-    start-requires
-    step-requires
-    loop-less
-    loop-again
-    returns)
+    (tie.spec Inv-loop μ-loop bit-requires sub-t12 loop-holds start-requires step-requires loop-less loop-again returns)

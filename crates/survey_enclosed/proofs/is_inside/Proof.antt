@@ -12,12 +12,9 @@ mask-requires c κs =
     let t = c .pre .1 in
     (search needs, (search needs, (search needs, ((p .0 .weighted, p .0 .outward _ (p .1)), (t .own _ (p .1), t .far)))))
 
-is-odd-requires : tie.Need-is-odd-requires
-is-odd-requires c κs = search needs
-
 returns : tie.Need-returns
 unfolding isInside
 returns c = c .is-odd .ensures ∙ ap isOdd (c .before .mask .ensures)
 
 pub is-inside-spec : {M : Type 1} → statement M
-is-inside-spec = tie.close (tie.spec mask-requires is-odd-requires returns)
+is-inside-spec = tie.close (tie.spec mask-requires (λ c κs. search needs) returns)

@@ -25,9 +25,6 @@ bit-requires c κs =
       s .pre .0 .0 .within .sound .vertices .0,
     )
 
-add-is-inside : tie.Need-add-is-inside
-add-is-inside c = search needs
-
 add-is-inside-2 : tie.Need-add-is-inside-2
 add-is-inside-2 c =
     let s = c .before .before .before in
@@ -57,12 +54,4 @@ returns-3 c =
 pub start-spec : {M : Type 1} → statement M
 start-spec =
     tie.close
-    (tie.spec
-    returns
-    cast-i
-    bit-requires
-    add-is-inside
-    add-is-inside-2
-    is-inside-requires
-    returns-2
-    returns-3)
+    (tie.spec returns cast-i bit-requires (λ c. search needs) add-is-inside-2 is-inside-requires returns-2 returns-3)

@@ -14,33 +14,6 @@ use Rattle.survey_enclosed.proofs.step.Tie as tie
 cast-i : tie.Need-cast-i
 cast-i c = omega (arith, trailing-le 64 (bitAnd (c .args .t .known) (c .args .t .left)))
 
-add-u : tie.Need-add-u
-add-u c = search needs
-
-add-u-2 : tie.Need-add-u-2
-add-u-2 c = search needs
-
-mul-fresh : tie.Need-mul-fresh
-mul-fresh c = search needs
-
-element-copy-out-fresh : tie.Need-element-copy-out-fresh
-element-copy-out-fresh c = search needs
-
-mul-turned : tie.Need-mul-turned
-mul-turned c = search needs
-
-element-copy-out-turned : tie.Need-element-copy-out-turned
-element-copy-out-turned c = search needs
-
-has-requires : tie.Need-has-requires
-has-requires c κs = search needs
-
-turned-requires : tie.Need-turned-requires
-turned-requires c κs = search needs
-
-bit-requires : tie.Need-bit-requires
-bit-requires c κs = search needs
-
 returns : tie.Need-returns
 unfolding stepOf
 returns c =
@@ -60,15 +33,5 @@ returns c =
 pub step-spec : {M : Type 1} → statement M
 step-spec =
     tie.close
-    (tie.spec
-    cast-i
-    add-u
-    add-u-2
-    mul-fresh
-    element-copy-out-fresh
-    mul-turned
-    element-copy-out-turned
-    has-requires
-    turned-requires
-    bit-requires
-    returns)
+    (tie.spec cast-i (λ c. search needs) (λ c. search needs) (λ c. search needs) (λ c. search needs) (λ c. search needs) (λ c. search needs)
+    (λ c κs. search needs) (λ c κs. search needs) (λ c κs. search needs) returns)

@@ -13,8 +13,5 @@ enclosed-word-requires c κs =
     let v = seenIn (s .args .n) (now (s .args .rows)) (now (s .args .corners)) in
     ((s .pre .0 .0, s .pre .0 .1, odds-still v (s .args .k) (s .pre .1 .1) (s .pre .0 .0) words), s .pre .1 .0)
 
-returns : tie.Need-returns
-returns c = search needs
-
 pub inside-still-spec : {M : Type 1} → statement M
-inside-still-spec = tie.close (tie.spec enclosed-word-requires returns)
+inside-still-spec = tie.close (tie.spec enclosed-word-requires (λ c. search needs))

@@ -8,12 +8,6 @@ use borrow.Author.Needs.{needs}
 use Rattle.survey_first.proofs.seek.Statement.{statement}
 use Rattle.survey_first.proofs.seek.Tie as tie
 
-make-planes-requires : tie.Need-make-planes-requires
-make-planes-requires c κs = search needs
-
-fill-links-requires : tie.Need-fill-links-requires
-fill-links-requires c κs = search needs
-
 look-requires : tie.Need-look-requires
 look-requires c κs =
     let l = c .before .before .before in
@@ -21,21 +15,12 @@ look-requires c κs =
     let s = m .before .before in
     ((s .pre .0 .within .sound, m .make-planes .ensures), (l .fill-links .ensures .own, zeros-sloped _ _))
 
-enum-known-found : tie.Need-enum-known-found
-enum-known-found c = search needs
-
-crossed-requires : tie.Need-crossed-requires
-crossed-requires c κs = search needs
-
 returns : tie.Need-returns
 returns c =
     let l = c .before .before .before .before in
     let s = l .before .before .before .before .before .before .before .before in
     let v = seenIn (s .args .n) (now (s .args .rows)) (now (s .args .corners)) in
     sought-early v (s .args .a) (s .args .b) {x = l .look .result} (search needs) (c .crossed .ensures) (l .look .ensures .0)
-
-enum-told : tie.Need-enum-told
-enum-told c = search needs
 
 tell-lent-requires : tie.Need-tell-lent-requires
 tell-lent-requires c κs =
@@ -59,20 +44,8 @@ seek-told-requires c κs =
     } in
     (b, t .tell-lent .ensures .1)
 
-returns-2 : tie.Need-returns-2
-returns-2 c = search needs
-
 pub seek-spec : {M : Type 1} → statement M
 seek-spec =
     tie.close
-    (tie.spec
-    make-planes-requires
-    fill-links-requires
-    look-requires
-    enum-known-found
-    crossed-requires
-    returns
-    enum-told
-    tell-lent-requires
-    seek-told-requires
-    returns-2)
+    (tie.spec (λ c κs. search needs) (λ c κs. search needs) look-requires (λ c. search needs) (λ c κs. search needs) returns
+    (λ c. search needs) tell-lent-requires seek-told-requires (λ c. search needs))

@@ -38,17 +38,8 @@ first-of-requires c κs =
       (b .told, parts-told v (s .args .a) (s .args .b) (b .a-ready) (b .b-ready) (t .tell-lent .ensures .0) (e .0) (e .1) z),
     )
 
-enum-known-of-a : tie.Need-enum-known-of-a
-enum-known-of-a c = search needs
-
-crossed-requires : tie.Need-crossed-requires
-crossed-requires c κs = search needs
-
 returns : tie.Need-returns
 returns c = search sought-in-a
-
-enum-told : tie.Need-enum-told
-enum-told c = search needs
 
 fill-links-requires : tie.Need-fill-links-requires
 fill-links-requires c κs =
@@ -82,17 +73,8 @@ first-of-requires-2 c κs =
       (t .tell-lent .ensures .0, parts-told v (s .args .b) (s .args .a) (b .b-ready) (b .a-ready) (b .told) (f .0) (f .1) z),
     )
 
-enum-known-of-b : tie.Need-enum-known-of-b
-enum-known-of-b c = search needs
-
-crossed-requires-2 : tie.Need-crossed-requires-2
-crossed-requires-2 c κs = search needs
-
 returns-2 : tie.Need-returns-2
 returns-2 c = search sought-in-b
-
-enum-told-2 : tie.Need-enum-told-2
-enum-told-2 c = search needs
 
 inside-still-requires : tie.Need-inside-still-requires
 inside-still-requires c κs =
@@ -132,22 +114,6 @@ returns-3 c =
 pub seek-told-spec : {M : Type 1} → statement M
 seek-told-spec =
     tie.close
-    (tie.spec
-    make-planes-requires
-    tell-lent-requires
-    tell-parts-requires
-    first-of-requires
-    enum-known-of-a
-    crossed-requires
-    returns
-    enum-told
-    fill-links-requires
-    tell-parts-requires-2
-    first-of-requires-2
-    enum-known-of-b
-    crossed-requires-2
-    returns-2
-    enum-told-2
-    inside-still-requires
-    inside-still-requires-2
-    returns-3)
+    (tie.spec make-planes-requires tell-lent-requires tell-parts-requires first-of-requires (λ c. search needs) (λ c κs. search needs)
+    returns (λ c. search needs) fill-links-requires tell-parts-requires-2 first-of-requires-2 (λ c. search needs) (λ c κs. search needs)
+    returns-2 (λ c. search needs) inside-still-requires inside-still-requires-2 returns-3)

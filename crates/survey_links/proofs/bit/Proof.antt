@@ -9,17 +9,8 @@ use borrow.Author.Needs.{needs}
 use Rattle.survey_links.proofs.bit.Statement.{statement}
 use Rattle.survey_links.proofs.bit.Tie as tie
 
-add-result : tie.Need-add-result
-add-result c = search needs
-
-sub-result : tie.Need-sub-result
-sub-result c = search needs
-
-shl-result : tie.Need-shl-result
-shl-result c = search needs
-
 returns : tie.Need-returns
 returns c = shl-exact {a = 1} 1 (c .args .i - (c .args .low + 1)) 64 (lit< tt) (omega arith) ∙ one-mul _
 
 pub bit-spec : {M : Type 1} → statement M
-bit-spec = tie.close (tie.spec add-result sub-result shl-result returns)
+bit-spec = tie.close (tie.spec (λ c. search needs) (λ c. search needs) (λ c. search needs) returns)

@@ -43,15 +43,4 @@ returns c = let e : c .before .loop .i ≡ c .before .before .args .n = omega ar
 pub clear-spec : {M : Type 1} → statement M
 clear-spec =
     tie.close
-    (tie.spec
-    Inv-loop
-    μ-loop
-    loop-holds
-    add-links
-    add-links-2
-    mul-links
-    element-write-links
-    add-i
-    loop-less
-    loop-again
-    returns)
+    (tie.spec Inv-loop μ-loop loop-holds add-links add-links-2 mul-links element-write-links add-i loop-less loop-again returns)

@@ -62,17 +62,5 @@ returns c = linking-all _ _ _ (omega arith) (c .before .before .clear .ensures) 
 pub fill-links-spec : {M : Type 1} → statement M
 fill-links-spec =
     tie.close
-    (tie.spec
-    Inv-loop
-    μ-loop
-    add-e
-    add-e-2
-    clear-requires
-    add-f
-    loop-holds
-    face-in-requires
-    link-face-requires
-    add-f-2
-    loop-less
-    loop-again
+    (tie.spec Inv-loop μ-loop add-e add-e-2 clear-requires add-f loop-holds face-in-requires link-face-requires add-f-2 loop-less loop-again
     returns)

@@ -4,24 +4,6 @@ use borrow.Author.Needs.{needs}
 use Rattle.survey_links.proofs.link_face.Statement.{statement}
 use Rattle.survey_links.proofs.link_face.Tie as tie
 
-bit-requires : tie.Need-bit-requires
-bit-requires c κs = search needs
-
-bit-requires-2 : tie.Need-bit-requires-2
-bit-requires-2 c κs = search needs
-
-bit-requires-3 : tie.Need-bit-requires-3
-bit-requires-3 c κs = search needs
-
-join-requires : tie.Need-join-requires
-join-requires c κs = search needs
-
-join-requires-2 : tie.Need-join-requires-2
-join-requires-2 c κs = search needs
-
-join-requires-3 : tie.Need-join-requires-3
-join-requires-3 c κs = search needs
-
 returns : tie.Need-returns
 returns c =
     let j = c .before .before .before .before in
@@ -33,11 +15,5 @@ returns c =
 pub link-face-spec : {M : Type 1} → statement M
 link-face-spec =
     tie.close
-    (tie.spec
-    bit-requires
-    bit-requires-2
-    bit-requires-3
-    join-requires
-    join-requires-2
-    join-requires-3
-    returns)
+    (tie.spec (λ c κs. search needs) (λ c κs. search needs) (λ c κs. search needs) (λ c κs. search needs) (λ c κs. search needs)
+    (λ c κs. search needs) returns)

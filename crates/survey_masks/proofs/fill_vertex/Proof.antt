@@ -117,25 +117,5 @@ returns c = filling-end _ _ _ (omega arith) (c .before .loop .inv .2)
 pub fill-vertex-spec : {M : Type 1} → statement M
 fill-vertex-spec =
     tie.close
-    (tie.spec
-    Inv-loop
-    μ-loop
-    add-u
-    add-u-2
-    mul-left
-    element-copy-out-left
-    add-left
-    shr-left
-    loop-holds
-    add-v
-    cast-v
-    add-v-2
-    edge-mask-requires
-    narrow-requires
-    narrow-requires-2
-    put-edge-requires
-    add-c
-    sub-left
-    loop-less
-    loop-again
-    returns)
+    (tie.spec Inv-loop μ-loop add-u add-u-2 mul-left element-copy-out-left add-left shr-left loop-holds add-v cast-v add-v-2
+    edge-mask-requires narrow-requires narrow-requires-2 put-edge-requires add-c sub-left loop-less loop-again returns)

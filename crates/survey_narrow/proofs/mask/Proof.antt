@@ -26,21 +26,6 @@ own s = maskIn (now (s .args .own))
 abbrev cut : tie.Start → ℕ → Mask
 cut s = maskIn (now (s .args .cuts))
 
-mask-at-requires : tie.Need-mask-at-requires
-mask-at-requires c κs = search needs
-
-mask-at-requires-2 : tie.Need-mask-at-requires-2
-mask-at-requires-2 c κs = search needs
-
-both-requires : tie.Need-both-requires
-both-requires c κs = search needs
-
-cut-at-requires : tie.Need-cut-at-requires
-cut-at-requires c κs = search needs
-
-has-all-requires : tie.Need-has-all-requires
-has-all-requires c κs = search needs
-
 -- the faces at both ends
 at-is : (c : tie.After-both) → let s = c .before .before .before in c .both .result ≡ bothOf (own s (s .args .u)) (own s (s .args .v))
 at-is c = c .both .ensures ∙ (λ i. bothOf (c .before .before .mask-at .ensures i) (c .before .mask-at2 .ensures i))
@@ -66,18 +51,8 @@ mask-parted-requires c κs =
     (p .1 .0 .1) (p .1 .1 .1) in
     (s .pre .0, (p .0, (p .1 .0, (p .1 .1 .0, h))))
 
-returns-2 : tie.Need-returns-2
-returns-2 c = search needs
-
 pub mask-spec : {M : Type 1} → statement M
 mask-spec =
     tie.close
-    (tie.spec
-    mask-at-requires
-    mask-at-requires-2
-    both-requires
-    cut-at-requires
-    has-all-requires
-    returns
-    mask-parted-requires
-    returns-2)
+    (tie.spec (λ c κs. search needs) (λ c κs. search needs) (λ c κs. search needs) (λ c κs. search needs) (λ c κs. search needs) returns
+    mask-parted-requires (λ c. search needs))

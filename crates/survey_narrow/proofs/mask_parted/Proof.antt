@@ -25,12 +25,6 @@ face s = faceIn (now (s .args .corners))
 abbrev cut : tie.Start → ℕ → Mask
 cut s = maskIn (now (s .args .cuts))
 
-mask-at-requires : tie.Need-mask-at-requires
-mask-at-requires c κs = search needs
-
-mask-at-requires-2 : tie.Need-mask-at-requires-2
-mask-at-requires-2 c κs = search needs
-
 -- the words of the two ends
 a-is : (c : tie.After-mask-at) → let s = c .before in c .mask-at .result ≡ sidesOf (row s) (face s) (s .args .first) (s .args .count)
     (s .args .u)
@@ -140,15 +134,5 @@ returns c =
 pub mask-parted-spec : {M : Type 1} → statement M
 mask-parted-spec =
     tie.close
-    (tie.spec
-    mask-at-requires
-    mask-at-requires-2
-    narrowed-requires
-    narrowed-requires-2
-    row-in-requires
-    row-in-requires-2
-    join-requires
-    crossed-requires
-    add-crossed
-    crossed-requires-2
-    returns)
+    (tie.spec (λ c κs. search needs) (λ c κs. search needs) narrowed-requires narrowed-requires-2 row-in-requires row-in-requires-2
+    join-requires crossed-requires add-crossed crossed-requires-2 returns)

@@ -102,19 +102,5 @@ returns c =
 pub narrowed-spec : {M : Type 1} → statement M
 narrowed-spec =
     tie.close
-    (tie.spec
-    Inv-loop
-    μ-loop
-    loop-holds
-    cast-k
-    add-cut-at
-    add-cut-at-2
-    cut-at-requires
-    has-all-requires
-    bit-requires
-    shl-word
-    add-word
-    sub-left
-    loop-less
-    loop-again
-    returns)
+    (tie.spec Inv-loop μ-loop loop-holds cast-k add-cut-at add-cut-at-2 cut-at-requires has-all-requires bit-requires shl-word add-word
+    sub-left loop-less loop-again returns)

@@ -6,9 +6,6 @@ use borrow.Author.Needs.{needs}
 use Rattle.survey_setup.proofs.make_planes.Statement.{statement}
 use Rattle.survey_setup.proofs.make_planes.Tie as tie
 
-fill-requires : tie.Need-fill-requires
-fill-requires c κs = search needs
-
 returns : tie.Need-returns
 returns c =
     let s = c .before .before in
@@ -16,4 +13,4 @@ returns c =
     made (rowIn (now (a .rows))) (faceIn (now (a .corners))) (a .k) (now (a .planes)) (s .pre .1 .1) (s .pre .1 .0 .1) (c .fill .ensures)
 
 pub make-planes-spec : {M : Type 1} → statement M
-make-planes-spec = tie.close (tie.spec fill-requires returns)
+make-planes-spec = tie.close (tie.spec (λ c κs. search needs) returns)

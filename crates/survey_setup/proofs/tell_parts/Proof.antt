@@ -4,15 +4,6 @@ use borrow.Author.Needs.{needs}
 use Rattle.survey_setup.proofs.tell_parts.Statement.{statement}
 use Rattle.survey_setup.proofs.tell_parts.Tie as tie
 
-mirrors-requires : tie.Need-mirrors-requires
-mirrors-requires c κs = search needs
-
-fill-requires : tie.Need-fill-requires
-fill-requires c κs = search needs
-
-fill-requires-2 : tie.Need-fill-requires-2
-fill-requires-2 c κs = search needs
-
 returns : tie.Need-returns
 returns c =
     let f = c .before .before in
@@ -24,4 +15,4 @@ returns-2 : tie.Need-returns-2
 returns-2 c = let h = sym (c .before .mirrors .ensures) ∙ c .if1 .left in rw h (refl, refl)
 
 pub tell-parts-spec : {M : Type 1} → statement M
-tell-parts-spec = tie.close (tie.spec mirrors-requires fill-requires fill-requires-2 returns returns-2)
+tell-parts-spec = tie.close (tie.spec (λ c κs. search needs) (λ c κs. search needs) (λ c κs. search needs) returns returns-2)

@@ -6,9 +6,6 @@ use borrow.Author.Needs.{needs}
 use Rattle.survey_setup.proofs.tell_sides.Statement.{statement}
 use Rattle.survey_setup.proofs.tell_sides.Tie as tie
 
-far-requires : tie.Need-far-requires
-far-requires c κs = search needs
-
 fill-requires : tie.Need-fill-requires
 fill-requires c κs =
     let s = c .before .before in
@@ -32,4 +29,4 @@ returns c =
 
 pub tell-sides-spec : {M : Type 1} → statement M
 tell-sides-spec =
-    tie.close (tie.spec far-requires fill-requires fill-requires-2 returns)
+    tie.close (tie.spec (λ c κs. search needs) fill-requires fill-requires-2 returns)

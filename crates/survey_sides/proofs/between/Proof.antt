@@ -14,12 +14,6 @@ use Rattle.survey_sides.proofs.between.Tie as tie
 abbrev row : tie.Start → ℕ → Row
 row s = rowIn (now (s .args .rows))
 
-row-in-requires : tie.Need-row-in-requires
-row-in-requires c κs = search needs
-
-row-in-requires-2 : tie.Need-row-in-requires-2
-row-in-requires-2 c κs = search needs
-
 join-requires : tie.Need-join-requires
 join-requires c κs =
     let p = c .before .before .pre in
@@ -46,9 +40,6 @@ crossed-requires c κs =
         ),
       ),
     )
-
-add-crossed : tie.Need-add-crossed
-add-crossed c = search needs
 
 crossed-requires-2 : tie.Need-crossed-requires-2
 crossed-requires-2 c κs =
@@ -81,11 +72,4 @@ returns c =
 pub between-spec : {M : Type 1} → statement M
 between-spec =
     tie.close
-    (tie.spec
-    row-in-requires
-    row-in-requires-2
-    join-requires
-    crossed-requires
-    add-crossed
-    crossed-requires-2
-    returns)
+    (tie.spec (λ c κs. search needs) (λ c κs. search needs) join-requires crossed-requires (λ c. search needs) crossed-requires-2 returns)

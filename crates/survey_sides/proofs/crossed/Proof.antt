@@ -118,19 +118,5 @@ returns c =
 pub crossed-spec : {M : Type 1} → statement M
 crossed-spec =
     tie.close
-    (tie.spec
-    Inv-loop
-    μ-loop
-    loop-holds
-    cast-k
-    add-face-in
-    add-face-in-2
-    face-in-requires
-    crosses-requires
-    bit-requires
-    shl-word
-    add-word
-    sub-left
-    loop-less
-    loop-again
-    returns)
+    (tie.spec Inv-loop μ-loop loop-holds cast-k add-face-in add-face-in-2 face-in-requires crosses-requires bit-requires shl-word add-word
+    sub-left loop-less loop-again returns)

@@ -7,21 +7,6 @@ use Rattle.survey_sides.specs.Crossing.{crosses-pierced}
 use Rattle.survey_sides.proofs.crosses.Statement.{statement}
 use Rattle.survey_sides.proofs.crosses.Tie as tie
 
-enum-told : tie.Need-enum-told
-enum-told c = search needs
-
-pierces-requires : tie.Need-pierces-requires
-pierces-requires c κs = search needs
-
-enum-told-2 : tie.Need-enum-told-2
-enum-told-2 c = search needs
-
-crosses-requires : tie.Need-crosses-requires
-crosses-requires c κs = search needs
-
-returns : tie.Need-returns
-returns c = search needs
-
 returns-2 : tie.Need-returns-2
 returns-2 c =
     let s = c .before .before .before in
@@ -31,4 +16,4 @@ returns-2 c =
     ∙ crosses-pierced (a .n) (rowIn (now (a .rows))) (p .1 .0 .0) (p .0 .1) (a .u) (a .v) (a .f) (p .1 .0 .1) (p .1 .1)
 
 pub crosses-spec : {M : Type 1} → statement M
-crosses-spec = tie.close (tie.spec enum-told pierces-requires enum-told-2 crosses-requires returns returns-2)
+crosses-spec = tie.close (tie.spec (λ c. search needs) (λ c κs. search needs) (λ c. search needs) (λ c κs. search needs) (λ c. search needs) returns-2)

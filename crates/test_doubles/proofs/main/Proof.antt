@@ -46,17 +46,5 @@ returns-3 c = search needs
 pub main-spec : {M : Type 1} → statement M
 main-spec =
     tie.close
-    (tie.spec
-    Inv-loop
-    μ-loop
-    loop-holds
-    slice-aggregate-read-full
-    read-full-requires
-    returns
-    slice-aggregate-write-entry
-    write-entry-requires
-    returns-2
-    add-n
-    loop-less
-    loop-again
-    returns-3)
+    (tie.spec Inv-loop μ-loop loop-holds slice-aggregate-read-full read-full-requires returns slice-aggregate-write-entry
+    write-entry-requires returns-2 add-n loop-less loop-again returns-3)

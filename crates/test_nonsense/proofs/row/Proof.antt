@@ -54,19 +54,5 @@ returns c = search needs
 pub row-spec : {M : Type 1} → statement M
 row-spec =
     tie.close
-    (tie.spec
-    Inv-loop
-    μ-loop
-    word-requires
-    loop-holds
-    mul-next-number
-    add-next-number
-    mul-next-number-2
-    element-copy-out-next-number
-    next-number-requires
-    add-k
-    loop-less
-    loop-again
-    newline-requires
-    same-length
-    returns)
+    (tie.spec Inv-loop μ-loop word-requires loop-holds mul-next-number add-next-number mul-next-number-2 element-copy-out-next-number
+    next-number-requires add-k loop-less loop-again newline-requires same-length returns)

@@ -5,14 +5,8 @@ use borrow.Author.Needs.{needs}
 use Rattle.test_vectors.proofs.rest.Statement.{statement}
 use Rattle.test_vectors.proofs.rest.Tie as tie
 
-rem-result : tie.Need-rem-result
-rem-result c = search needs
-
-returns : tie.Need-returns
-returns c = search needs
-
 returns-2 : tie.Need-returns-2
 returns-2 c = le-of-lt (mod-lt (c .before .args .n) (omega arith))
 
 pub rest-spec : {M : Type 1} → statement M
-rest-spec = tie.close (tie.spec rem-result returns returns-2)
+rest-spec = tie.close (tie.spec (λ c. search needs) (λ c. search needs) returns-2)

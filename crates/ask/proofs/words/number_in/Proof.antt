@@ -47,17 +47,5 @@ returns-4 c = search needs
 pub number-in-spec : {M : Type 1} → statement M
 number-in-spec =
     tie.close
-    (tie.spec
-    Inv-loop
-    μ-loop
-    returns
-    loop-holds
-    shared-slice-read-b
-    returns-2
-    returns-3
-    cast-with-digit
-    with-digit-requires
-    add-i
-    loop-less
-    loop-again
-    returns-4)
+    (tie.spec Inv-loop μ-loop returns loop-holds shared-slice-read-b returns-2 returns-3 cast-with-digit with-digit-requires add-i loop-less
+    loop-again returns-4)

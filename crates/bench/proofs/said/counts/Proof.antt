@@ -4,36 +4,6 @@ use borrow.Author.Needs.{needs}
 use Rattle.bench.proofs.said.counts.Statement.{statement}
 use Rattle.bench.proofs.said.counts.Tie as tie
 
-slice-aggregate-word : tie.Need-slice-aggregate-word
-slice-aggregate-word c = search needs
-
-word-requires : tie.Need-word-requires
-word-requires c κs = search needs
-
-next-number-requires : tie.Need-next-number-requires
-next-number-requires c κs = search needs
-
-next-number-requires-2 : tie.Need-next-number-requires-2
-next-number-requires-2 c κs = search needs
-
-next-number-requires-3 : tie.Need-next-number-requires-3
-next-number-requires-3 c κs = search needs
-
-next-number-requires-4 : tie.Need-next-number-requires-4
-next-number-requires-4 c κs = search needs
-
-next-number-requires-5 : tie.Need-next-number-requires-5
-next-number-requires-5 c κs = search needs
-
-next-number-requires-6 : tie.Need-next-number-requires-6
-next-number-requires-6 c κs = search needs
-
-newline-requires : tie.Need-newline-requires
-newline-requires c κs = search needs
-
-same-length : tie.Need-same-length
-same-length c = search needs
-
 returns : tie.Need-returns
 returns c =
     let r8 = c .before .before in
@@ -52,15 +22,5 @@ returns c =
 pub counts-spec : {M : Type 1} → statement M
 counts-spec =
     tie.close
-    (tie.spec
-    slice-aggregate-word
-    word-requires
-    next-number-requires
-    next-number-requires-2
-    next-number-requires-3
-    next-number-requires-4
-    next-number-requires-5
-    next-number-requires-6
-    newline-requires
-    same-length
-    returns)
+    (tie.spec (λ c. search needs) (λ c κs. search needs) (λ c κs. search needs) (λ c κs. search needs) (λ c κs. search needs)
+    (λ c κs. search needs) (λ c κs. search needs) (λ c κs. search needs) (λ c κs. search needs) (λ c. search needs) returns)

@@ -4,18 +4,6 @@ use borrow.Author.Needs.{needs}
 use Rattle.bench.proofs.said.done.Statement.{statement}
 use Rattle.bench.proofs.said.done.Tie as tie
 
-slice-aggregate-word : tie.Need-slice-aggregate-word
-slice-aggregate-word c = search needs
-
-word-requires : tie.Need-word-requires
-word-requires c κs = search needs
-
-newline-requires : tie.Need-newline-requires
-newline-requires c κs = search needs
-
-same-length : tie.Need-same-length
-same-length c = search needs
-
 returns : tie.Need-returns
 returns c =
     let r2 = c .before .before in
@@ -24,4 +12,4 @@ returns c =
 
 pub done-spec : {M : Type 1} → statement M
 done-spec =
-    tie.close (tie.spec slice-aggregate-word word-requires newline-requires same-length returns)
+    tie.close (tie.spec (λ c. search needs) (λ c κs. search needs) (λ c κs. search needs) (λ c. search needs) returns)

@@ -4,27 +4,6 @@ use borrow.Author.Needs.{needs}
 use Rattle.bench.proofs.said.usage.Statement.{statement}
 use Rattle.bench.proofs.said.usage.Tie as tie
 
-slice-aggregate-word : tie.Need-slice-aggregate-word
-slice-aggregate-word c = search needs
-
-word-requires : tie.Need-word-requires
-word-requires c κs = search needs
-
-next-number-requires : tie.Need-next-number-requires
-next-number-requires c κs = search needs
-
-slice-aggregate-next-word : tie.Need-slice-aggregate-next-word
-slice-aggregate-next-word c = search needs
-
-next-word-requires : tie.Need-next-word-requires
-next-word-requires c κs = search needs
-
-newline-requires : tie.Need-newline-requires
-newline-requires c κs = search needs
-
-same-length : tie.Need-same-length
-same-length c = search needs
-
 returns : tie.Need-returns
 returns c =
     let r4 = c .before .before in
@@ -36,12 +15,5 @@ returns c =
 pub usage-spec : {M : Type 1} → statement M
 usage-spec =
     tie.close
-    (tie.spec
-    slice-aggregate-word
-    word-requires
-    next-number-requires
-    slice-aggregate-next-word
-    next-word-requires
-    newline-requires
-    same-length
-    returns)
+    (tie.spec (λ c. search needs) (λ c κs. search needs) (λ c κs. search needs) (λ c. search needs) (λ c κs. search needs)
+    (λ c κs. search needs) (λ c. search needs) returns)

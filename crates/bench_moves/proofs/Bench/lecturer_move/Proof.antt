@@ -4,24 +4,6 @@ use borrow.Author.Needs.{needs}
 use Rattle.bench_moves.proofs.Bench.lecturer_move.Statement.{statement}
 use Rattle.bench_moves.proofs.Bench.lecturer_move.Tie as tie
 
-session-requires : tie.Need-session-requires
-session-requires c κs = search needs
-
-fixture-move-requires : tie.Need-fixture-move-requires
-fixture-move-requires c κs = search needs
-
-session-requires-2 : tie.Need-session-requires-2
-session-requires-2 c κs = search needs
-
-fixture-move-requires-2 : tie.Need-fixture-move-requires-2
-fixture-move-requires-2 c κs = search needs
-
-enum-known-j : tie.Need-enum-known-j
-enum-known-j c = search needs
-
-enum-told : tie.Need-enum-told
-enum-told c = search needs
-
 returns : tie.Need-returns
 returns c =
     let first = c .before .before .before .before .before .before .before in
@@ -37,12 +19,5 @@ returns-2 c =
 pub lecturer-move-spec : {M : Type 1} → statement M
 lecturer-move-spec =
     tie.close
-    (tie.spec
-    session-requires
-    fixture-move-requires
-    session-requires-2
-    fixture-move-requires-2
-    enum-known-j
-    enum-told
-    returns
-    returns-2)
+    (tie.spec (λ c κs. search needs) (λ c κs. search needs) (λ c κs. search needs) (λ c κs. search needs) (λ c. search needs)
+    (λ c. search needs) returns returns-2)

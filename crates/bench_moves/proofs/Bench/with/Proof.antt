@@ -5,12 +5,6 @@ use borrow.Author.Needs.{needs}
 use Rattle.bench_moves.proofs.Bench.with.Statement.{statement}
 use Rattle.bench_moves.proofs.Bench.with.Tie as tie
 
-enum-told : tie.Need-enum-told
-enum-told c = search needs
-
-enum-told-2 : tie.Need-enum-told-2
-enum-told-2 c = search needs
-
 returns : tie.Need-returns
 returns c =
     let a = c .before .before .before .before .args in
@@ -22,4 +16,4 @@ returns-2 c =
     ap (λ (g : Group). withSession (a .self) g (a .s)) (sym (c .enum-told2 .given .1))
 
 pub with-spec : {M : Type 1} → statement M
-with-spec = tie.close (tie.spec enum-told enum-told-2 returns returns-2)
+with-spec = tie.close (tie.spec (λ c. search needs) (λ c. search needs) returns returns-2)

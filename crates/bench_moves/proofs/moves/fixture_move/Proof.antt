@@ -4,28 +4,10 @@ use borrow.Author.Needs.{needs}
 use Rattle.bench_moves.proofs.moves.fixture_move.Statement.{statement}
 use Rattle.bench_moves.proofs.moves.fixture_move.Tie as tie
 
-solids-of-requires : tie.Need-solids-of-requires
-solids-of-requires c κs = search needs
-
-number-fault-requires : tie.Need-number-fault-requires
-number-fault-requires c κs = search needs
-
-enum-known-r : tie.Need-enum-known-r
-enum-known-r c = search needs
-
 returns : tie.Need-returns
 returns c =
     let asked = c .before .before .before in
     fixture-refused _ _ _ (asked .before .solids-of .ensures .0) (asked .number-fault .ensures) (c .before .r .given .1)
-
-enum-told : tie.Need-enum-told
-enum-told c = search needs
-
-scene-move-requires : tie.Need-scene-move-requires
-scene-move-requires c κs = search needs
-
-placed-in-requires : tie.Need-placed-in-requires
-placed-in-requires c κs = search needs
 
 returns-2 : tie.Need-returns-2
 returns-2 c =
@@ -37,12 +19,5 @@ returns-2 c =
 pub fixture-move-spec : {M : Type 1} → statement M
 fixture-move-spec =
     tie.close
-    (tie.spec
-    solids-of-requires
-    number-fault-requires
-    enum-known-r
-    returns
-    enum-told
-    scene-move-requires
-    placed-in-requires
-    returns-2)
+    (tie.spec (λ c κs. search needs) (λ c κs. search needs) (λ c. search needs) returns (λ c. search needs) (λ c κs. search needs)
+    (λ c κs. search needs) returns-2)

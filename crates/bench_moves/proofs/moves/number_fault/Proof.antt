@@ -9,12 +9,6 @@ returns : tie.Need-returns
 unfolding numberFault
 returns c = search rules depth 16
 
-add-is-within : tie.Need-add-is-within
-add-is-within c = search needs
-
-is-within-requires : tie.Need-is-within-requires
-is-within-requires c κs = search needs
-
 returns-2 : tie.Need-returns-2
 unfolding numberFault
 returns-2 c = search rules depth 16
@@ -25,4 +19,4 @@ returns-3 c = search rules depth 16
 
 pub number-fault-spec : {M : Type 1} → statement M
 number-fault-spec =
-    tie.close (tie.spec returns add-is-within is-within-requires returns-2 returns-3)
+    tie.close (tie.spec returns (λ c. search needs) (λ c κs. search needs) returns-2 returns-3)

@@ -9,21 +9,9 @@ returns : tie.Need-returns
 unfolding ownFault
 returns c = search faults depth 16
 
-add-is-within : tie.Need-add-is-within
-add-is-within c = search needs
-
-add-is-within-2 : tie.Need-add-is-within-2
-add-is-within-2 c = search needs
-
-is-within-requires : tie.Need-is-within-requires
-is-within-requires c κs = search needs
-
 returns-2 : tie.Need-returns-2
 unfolding ownFault
 returns-2 c = search faults depth 16
-
-is-within-requires-2 : tie.Need-is-within-requires-2
-is-within-requires-2 c κs = search needs
 
 returns-3 : tie.Need-returns-3
 unfolding ownFault
@@ -36,12 +24,4 @@ returns-4 c = search faults depth 16
 pub own-fault-spec : {M : Type 1} → statement M
 own-fault-spec =
     tie.close
-    (tie.spec
-    returns
-    add-is-within
-    add-is-within-2
-    is-within-requires
-    returns-2
-    is-within-requires-2
-    returns-3
-    returns-4)
+    (tie.spec returns (λ c. search needs) (λ c. search needs) (λ c κs. search needs) returns-2 (λ c κs. search needs) returns-3 returns-4)

@@ -4,28 +4,10 @@ use borrow.Author.Needs.{needs}
 use Rattle.bench_moves.proofs.moves.own_move.Statement.{statement}
 use Rattle.bench_moves.proofs.moves.own_move.Tie as tie
 
-solids-of-requires : tie.Need-solids-of-requires
-solids-of-requires c κs = search needs
-
-own-fault-requires : tie.Need-own-fault-requires
-own-fault-requires c κs = search needs
-
-enum-known-f : tie.Need-enum-known-f
-enum-known-f c = search needs
-
 returns : tie.Need-returns
 returns c =
     let asked = c .before .before .before in
     own-refused _ _ _ (asked .before .solids-of .ensures .0) (asked .own-fault .ensures) (c .before .f .given .1)
-
-enum-told : tie.Need-enum-told
-enum-told c = search needs
-
-move-vertex-requires : tie.Need-move-vertex-requires
-move-vertex-requires c κs = search needs
-
-said-requires : tie.Need-said-requires
-said-requires c κs = search needs
 
 returns-2 : tie.Need-returns-2
 returns-2 c =
@@ -37,12 +19,5 @@ returns-2 c =
 pub own-move-spec : {M : Type 1} → statement M
 own-move-spec =
     tie.close
-    (tie.spec
-    solids-of-requires
-    own-fault-requires
-    enum-known-f
-    returns
-    enum-told
-    move-vertex-requires
-    said-requires
-    returns-2)
+    (tie.spec (λ c κs. search needs) (λ c κs. search needs) (λ c. search needs) returns (λ c. search needs) (λ c κs. search needs)
+    (λ c κs. search needs) returns-2)

@@ -4,9 +4,6 @@ use borrow.Author.Needs.{needs}
 use Rattle.bench_moves.proofs.moves.placed.Statement.{statement}
 use Rattle.bench_moves.proofs.moves.placed.Tie as tie
 
-number-requires : tie.Need-number-requires
-number-requires c κs = search needs
-
 returns : tie.Need-returns
 returns c = search placed-5
 
@@ -20,4 +17,4 @@ returns-4 : tie.Need-returns-4
 returns-4 c = search placed-not depth 6
 
 pub placed-spec : {M : Type 1} → statement M
-placed-spec = tie.close (tie.spec number-requires returns returns-2 returns-3 returns-4)
+placed-spec = tie.close (tie.spec (λ c κs. search needs) returns returns-2 returns-3 returns-4)

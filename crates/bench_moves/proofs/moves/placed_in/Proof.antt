@@ -5,15 +5,6 @@ use borrow.Author.Needs.{needs}
 use Rattle.bench_moves.proofs.moves.placed_in.Statement.{statement}
 use Rattle.bench_moves.proofs.moves.placed_in.Tie as tie
 
-enum-told : tie.Need-enum-told
-enum-told c = search needs
-
-enum-known-j : tie.Need-enum-known-j
-enum-known-j c = search needs
-
-placed-requires : tie.Need-placed-requires
-placed-requires c κs = search needs
-
 returns : tie.Need-returns
 unfolding placedIn
 returns c = sym (ap (placedIn _) (c .enum-told .given .1))
@@ -23,4 +14,4 @@ unfolding placedIn
 returns-2 c = ap judge.Refused (c .placed .ensures) ∙ sym (ap (placedIn _) (c .before .before .j .given .1))
 
 pub placed-in-spec : {M : Type 1} → statement M
-placed-in-spec = tie.close (tie.spec enum-told enum-known-j placed-requires returns returns-2)
+placed-in-spec = tie.close (tie.spec (λ c. search needs) (λ c. search needs) (λ c κs. search needs) returns returns-2)

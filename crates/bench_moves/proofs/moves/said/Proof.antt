@@ -4,12 +4,6 @@ use borrow.Author.Needs.{needs}
 use Rattle.bench_moves.proofs.moves.said.Statement.{statement}
 use Rattle.bench_moves.proofs.moves.said.Tie as tie
 
-enum-told : tie.Need-enum-told
-enum-told c = search needs
-
-enum-known-j : tie.Need-enum-known-j
-enum-known-j c = search needs
-
 returns : tie.Need-returns
 unfolding said thenScene
 returns c = sym (ap said (c .enum-told .given .1))
@@ -19,4 +13,4 @@ unfolding said thenScene
 returns-2 c = sym (ap said (c .before .j .given .1))
 
 pub said-spec : {M : Type 1} → statement M
-said-spec = tie.close (tie.spec enum-told enum-known-j returns returns-2)
+said-spec = tie.close (tie.spec (λ c. search needs) (λ c. search needs) returns returns-2)

@@ -4,21 +4,12 @@ use borrow.Author.Needs.{needs}
 use Rattle.bench_moves.proofs.moves.scene_move.Statement.{statement}
 use Rattle.bench_moves.proofs.moves.scene_move.Tie as tie
 
-add-move-vertex : tie.Need-add-move-vertex
-add-move-vertex c = search needs
-
-move-vertex-requires : tie.Need-move-vertex-requires
-move-vertex-requires c κs = search needs
-
 returns : tie.Need-returns
 returns c = scene-vertex _ _ _ _ (omega arith) (c .move-vertex .ensures)
-
-move-far-requires : tie.Need-move-far-requires
-move-far-requires c κs = search needs
 
 returns-2 : tie.Need-returns-2
 returns-2 c = scene-far _ _ _ _ (omega arith) (c .move-far .ensures)
 
 pub scene-move-spec : {M : Type 1} → statement M
 scene-move-spec =
-    tie.close (tie.spec add-move-vertex move-vertex-requires returns move-far-requires returns-2)
+    tie.close (tie.spec (λ c. search needs) (λ c κs. search needs) returns (λ c κs. search needs) returns-2)

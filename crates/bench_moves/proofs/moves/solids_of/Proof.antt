@@ -8,30 +8,6 @@ use borrow.Author.Needs.{needs}
 use Rattle.bench_moves.proofs.moves.solids_of.Statement.{statement}
 use Rattle.bench_moves.proofs.moves.solids_of.Tie as tie
 
-slice-aggregate-save : tie.Need-slice-aggregate-save
-slice-aggregate-save c = search needs
-
-save-requires : tie.Need-save-requires
-save-requires c κs = search needs
-
-enum-told : tie.Need-enum-told
-enum-told c = search needs
-
-enum-told-2 : tie.Need-enum-told-2
-enum-told-2 c = search needs
-
-slice-aggregate-byte : tie.Need-slice-aggregate-byte
-slice-aggregate-byte c = search needs
-
-byte-requires : tie.Need-byte-requires
-byte-requires c κs = search needs
-
-slice-aggregate-byte-2 : tie.Need-slice-aggregate-byte-2
-slice-aggregate-byte-2 c = search needs
-
-byte-requires-2 : tie.Need-byte-requires-2
-byte-requires-2 c κs = search needs
-
 returns : tie.Need-returns
 returns c =
     let s = c .before .before .before .before .before .args .s in
@@ -51,14 +27,5 @@ returns-2 c =
 pub solids-of-spec : {M : Type 1} → statement M
 solids-of-spec =
     tie.close
-    (tie.spec
-    slice-aggregate-save
-    save-requires
-    enum-told
-    enum-told-2
-    slice-aggregate-byte
-    byte-requires
-    slice-aggregate-byte-2
-    byte-requires-2
-    returns
-    returns-2)
+    (tie.spec (λ c. search needs) (λ c κs. search needs) (λ c. search needs) (λ c. search needs) (λ c. search needs) (λ c κs. search needs)
+    (λ c. search needs) (λ c κs. search needs) returns returns-2)

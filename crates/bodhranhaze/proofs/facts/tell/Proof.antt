@@ -6,14 +6,8 @@ use borrow.Author.Needs.{needs}
 use Rattle.bodhranhaze.proofs.facts.tell.Statement.{statement}
 use Rattle.bodhranhaze.proofs.facts.tell.Tie as tie
 
-slice-write-facts : tie.Need-slice-write-facts
-slice-write-facts c = search needs
-
 slice-write-facts-2 : tie.Need-slice-write-facts-2
 slice-write-facts-2 c = simp length-set (omega arith)
-
-verdict-number-requires : tie.Need-verdict-number-requires
-verdict-number-requires c κs = search needs
 
 slice-write-facts-3 : tie.Need-slice-write-facts-3
 slice-write-facts-3 c = simp length-set (omega arith)
@@ -33,24 +27,11 @@ slice-write-facts-7 c = simp length-set (omega arith)
 slice-write-facts-8 : tie.Need-slice-write-facts-8
 slice-write-facts-8 c = simp length-set (omega arith)
 
-same-length : tie.Need-same-length
-same-length c = search needs
-
 returns : tie.Need-returns
 returns c = search eight-told
 
 pub tell-spec : {M : Type 1} → statement M
 tell-spec =
     tie.close
-    (tie.spec
-    slice-write-facts
-    slice-write-facts-2
-    verdict-number-requires
-    slice-write-facts-3
-    slice-write-facts-4
-    slice-write-facts-5
-    slice-write-facts-6
-    slice-write-facts-7
-    slice-write-facts-8
-    same-length
-    returns)
+    (tie.spec (λ c. search needs) slice-write-facts-2 (λ c κs. search needs) slice-write-facts-3 slice-write-facts-4 slice-write-facts-5
+    slice-write-facts-6 slice-write-facts-7 slice-write-facts-8 (λ c. search needs) returns)

@@ -5,18 +5,6 @@ use borrow.Author.Needs.{needs}
 use Rattle.bodhranhaze.proofs.vertices.bodhranhaze_take_place.Statement.{statement}
 use Rattle.bodhranhaze.proofs.vertices.bodhranhaze_take_place.Tie as tie
 
-take-requires : tie.Need-take-requires
-take-requires c κs = search needs
-
-enum-told : tie.Need-enum-told
-enum-told c = search needs
-
-enum-known-t : tie.Need-enum-known-t
-enum-known-t c = search needs
-
-place-requires : tie.Need-place-requires
-place-requires c κs = search needs
-
 returns : tie.Need-returns
 returns c = search (by-case takenPlace)
 
@@ -25,4 +13,4 @@ returns-2 c = search (by-case takenPlace)
 
 pub bodhranhaze-take-place-spec : {M : Type 1} → statement M
 bodhranhaze-take-place-spec =
-    tie.close (tie.spec take-requires enum-told enum-known-t place-requires returns returns-2)
+    tie.close (tie.spec (λ c κs. search needs) (λ c. search needs) (λ c. search needs) (λ c κs. search needs) returns returns-2)

@@ -8,9 +8,6 @@ use Rattle.class_read.proofs.held.product.Tie as tie
 returns : tie.Need-returns
 returns c = search product-none
 
-div-if2 : tie.Need-div-if2
-div-if2 c = search needs
-
 returns-2 : tie.Need-returns-2
 returns-2 c = search product-over
 
@@ -21,4 +18,4 @@ returns-3 : tie.Need-returns-3
 returns-3 c = search product-is
 
 pub product-spec : {M : Type 1} → statement M
-product-spec = tie.close (tie.spec returns div-if2 returns-2 mul-result returns-3)
+product-spec = tie.close (tie.spec returns (λ c. search needs) returns-2 mul-result returns-3)

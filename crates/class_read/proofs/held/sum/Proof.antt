@@ -6,17 +6,11 @@ use borrow.Author.Needs.{needs}
 use Rattle.class_read.proofs.held.sum.Statement.{statement}
 use Rattle.class_read.proofs.held.sum.Tie as tie
 
-sub-if1 : tie.Need-sub-if1
-sub-if1 c = search needs
-
 returns : tie.Need-returns
 returns c = sym (at-most-high _ _ (omega arith))
-
-add-result : tie.Need-add-result
-add-result c = search needs
 
 returns-2 : tie.Need-returns-2
 returns-2 c = sym (at-most-low _ _ (omega arith))
 
 pub sum-spec : {M : Type 1} → statement M
-sum-spec = tie.close (tie.spec sub-if1 returns add-result returns-2)
+sum-spec = tie.close (tie.spec (λ c. search needs) returns (λ c. search needs) returns-2)

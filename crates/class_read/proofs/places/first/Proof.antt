@@ -5,12 +5,6 @@ use borrow.Author.Needs.{needs}
 use Rattle.class_read.proofs.places.first.Statement.{statement}
 use Rattle.class_read.proofs.places.first.Tie as tie
 
-is-digit-requires : tie.Need-is-digit-requires
-is-digit-requires c κs = search needs
-
-add-result : tie.Need-add-result
-add-result c = search needs
-
 returns : tie.Need-returns
 unfolding firstAt
 returns c = search picks
@@ -20,4 +14,4 @@ unfolding firstAt
 returns-2 c = search picks
 
 pub first-spec : {M : Type 1} → statement M
-first-spec = tie.close (tie.spec is-digit-requires add-result returns returns-2)
+first-spec = tie.close (tie.spec (λ c κs. search needs) (λ c. search needs) returns returns-2)

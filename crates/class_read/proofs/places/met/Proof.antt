@@ -5,15 +5,6 @@ use borrow.Author.Needs.{needs}
 use Rattle.class_read.proofs.places.met.Statement.{statement}
 use Rattle.class_read.proofs.places.met.Tie as tie
 
-shared-slice-read-if2 : tie.Need-shared-slice-read-if2
-shared-slice-read-if2 c = search needs
-
-add-turn : tie.Need-add-turn
-add-turn c = search needs
-
-turn-requires : tie.Need-turn-requires
-turn-requires c κs = search needs
-
 returns : tie.Need-returns
 unfolding metAt
 returns c = search picks
@@ -28,4 +19,4 @@ returns-3 c = search picks
 
 pub met-spec : {M : Type 1} → statement M
 met-spec =
-    tie.close (tie.spec shared-slice-read-if2 add-turn turn-requires returns returns-2 returns-3)
+    tie.close (tie.spec (λ c. search needs) (λ c. search needs) (λ c κs. search needs) returns returns-2 returns-3)

@@ -5,15 +5,6 @@ use borrow.Author.Needs.{needs}
 use Rattle.class_read.proofs.places.more.Statement.{statement}
 use Rattle.class_read.proofs.places.more.Tie as tie
 
-is-digit-requires : tie.Need-is-digit-requires
-is-digit-requires c κs = search needs
-
-add-met : tie.Need-add-met
-add-met c = search needs
-
-met-requires : tie.Need-met-requires
-met-requires c κs = search needs
-
 returns : tie.Need-returns
 unfolding moreAt
 returns c = search picks
@@ -23,4 +14,4 @@ unfolding moreAt
 returns-2 c = search picks
 
 pub more-spec : {M : Type 1} → statement M
-more-spec = tie.close (tie.spec is-digit-requires add-met met-requires returns returns-2)
+more-spec = tie.close (tie.spec (λ c κs. search needs) (λ c. search needs) (λ c κs. search needs) returns returns-2)

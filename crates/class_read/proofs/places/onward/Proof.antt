@@ -9,28 +9,13 @@ returns : tie.Need-returns
 unfolding onward
 returns c = search picks
 
-byte-requires : tie.Need-byte-requires
-byte-requires c κs = search needs
-
-first-requires : tie.Need-first-requires
-first-requires c κs = search needs
-
 returns-2 : tie.Need-returns-2
 unfolding onward
 returns-2 c = search picks
 
-is-letter-requires : tie.Need-is-letter-requires
-is-letter-requires c κs = search needs
-
-more-requires : tie.Need-more-requires
-more-requires c κs = search needs
-
 returns-3 : tie.Need-returns-3
 unfolding onward
 returns-3 c = search picks
-
-met-requires : tie.Need-met-requires
-met-requires c κs = search needs
 
 returns-4 : tie.Need-returns-4
 unfolding onward
@@ -39,13 +24,5 @@ returns-4 c = search picks
 pub onward-spec : {M : Type 1} → statement M
 onward-spec =
     tie.close
-    (tie.spec
-    returns
-    byte-requires
-    first-requires
-    returns-2
-    is-letter-requires
-    more-requires
-    returns-3
-    met-requires
-    returns-4)
+    (tie.spec returns (λ c κs. search needs) (λ c κs. search needs) returns-2 (λ c κs. search needs) (λ c κs. search needs) returns-3
+    (λ c κs. search needs) returns-4)

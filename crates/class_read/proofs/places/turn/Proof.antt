@@ -4,9 +4,6 @@ use borrow.Author.Needs.{needs}
 use Rattle.class_read.proofs.places.turn.Statement.{statement}
 use Rattle.class_read.proofs.places.turn.Tie as tie
 
-byte-requires : tie.Need-byte-requires
-byte-requires c κs = search needs
-
 returns : tie.Need-returns
 returns c = search picks
 
@@ -14,4 +11,4 @@ returns-2 : tie.Need-returns-2
 returns-2 c = search picks
 
 pub turn-spec : {M : Type 1} → statement M
-turn-spec = tie.close (tie.spec byte-requires returns returns-2)
+turn-spec = tie.close (tie.spec (λ c κs. search needs) returns returns-2)

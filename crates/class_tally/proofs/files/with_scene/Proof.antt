@@ -5,17 +5,8 @@ use borrow.Author.Needs.{needs}
 use Rattle.class_tally.proofs.files.with_scene.Statement.{statement}
 use Rattle.class_tally.proofs.files.with_scene.Tie as tie
 
-mark-of-requires : tie.Need-mark-of-requires
-mark-of-requires c κs = search needs
-
-raise-requires : tie.Need-raise-requires
-raise-requires c κs = search needs
-
 raise-requires-2 : tie.Need-raise-requires-2
 raise-requires-2 c κs = line-to _ (c .before .before .before .before .mark-of .ensures)
-
-sum-requires : tie.Need-sum-requires
-sum-requires c κs = search needs
 
 returns : tie.Need-returns
 returns c =
@@ -25,4 +16,4 @@ returns c =
     scene-next (a .f) (now (a .s)) (m .mark-of .ensures) (r .raise .ensures) (c .before .raise2 .ensures) (c .sum .ensures)
 
 pub with-scene-spec : {M : Type 1} → statement M
-with-scene-spec = tie.close (tie.spec mark-of-requires raise-requires raise-requires-2 sum-requires returns)
+with-scene-spec = tie.close (tie.spec (λ c κs. search needs) (λ c κs. search needs) raise-requires-2 (λ c κs. search needs) returns)

@@ -4,11 +4,8 @@ use borrow.Author.Needs.{needs}
 use Rattle.class_tally.proofs.marks.mark_by.Statement.{statement}
 use Rattle.class_tally.proofs.marks.mark_by.Tie as tie
 
-line-of-requires : tie.Need-line-of-requires
-line-of-requires c κs = search needs
-
 returns : tie.Need-returns
 returns c = search mark-by
 
 pub mark-by-spec : {M : Type 1} → statement M
-mark-by-spec = tie.close (tie.spec line-of-requires returns)
+mark-by-spec = tie.close (tie.spec (λ c κs. search needs) returns)

@@ -96,18 +96,5 @@ returns c =
 pub tally-spec : {M : Type 1} → statement M
 tally-spec =
     tie.close
-    (tie.spec
-    Inv-loop
-    μ-loop
-    loop-holds
-    part-at-requires
-    sub-mark-of
-    part-mark-of-start
-    part-mark-of-end
-    mark-of-requires
-    count-in-requires
-    add-pairs
-    loop-less
-    loop-again
-    told-requires
-    returns)
+    (tie.spec Inv-loop μ-loop loop-holds part-at-requires sub-mark-of part-mark-of-start part-mark-of-end mark-of-requires count-in-requires
+    add-pairs loop-less loop-again told-requires returns)

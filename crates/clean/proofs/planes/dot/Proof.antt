@@ -31,12 +31,4 @@ returns c = let h = c .before .before .before .before .before .before .before .b
 pub dot-spec : {M : Type 1} → statement M
 dot-spec =
     tie.close
-    (tie.spec
-    mul-result
-    mul-result-2
-    add-result
-    mul-result-3
-    add-result-2
-    mul-result-4
-    add-result-3
-    returns)
+    (tie.spec mul-result mul-result-2 add-result mul-result-3 add-result-2 mul-result-4 add-result-3 returns)

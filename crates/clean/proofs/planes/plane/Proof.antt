@@ -87,21 +87,6 @@ returns c =
 pub plane-spec : {M : Type 1} → statement M
 plane-spec =
     tie.close
-    (tie.spec
-    but-x-requires
-    but-x-requires-2
-    but-x-requires-3
-    volume-requires
-    but-y-requires
-    but-y-requires-2
-    but-y-requires-3
-    volume-requires-2
-    but-z-requires
-    but-z-requires-2
-    but-z-requires-3
-    volume-requires-3
-    but-w-requires
-    but-w-requires-2
-    but-w-requires-3
-    volume-requires-4
-    returns)
+    (tie.spec but-x-requires but-x-requires-2 but-x-requires-3 volume-requires but-y-requires but-y-requires-2 but-y-requires-3
+    volume-requires-2 but-z-requires but-z-requires-2 but-z-requires-3 volume-requires-3 but-w-requires but-w-requires-2 but-w-requires-3
+    volume-requires-4 returns)

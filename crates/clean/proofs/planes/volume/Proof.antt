@@ -82,19 +82,5 @@ returns c =
 pub volume-spec : {M : Type 1} → statement M
 volume-spec =
     tie.close
-    (tie.spec
-    mul-result
-    mul-result-2
-    sub-result
-    mul-result-3
-    mul-result-4
-    mul-result-5
-    sub-result-2
-    mul-result-6
-    sub-result-3
-    mul-result-7
-    mul-result-8
-    sub-result-4
-    mul-result-9
-    add-result
-    returns)
+    (tie.spec mul-result mul-result-2 sub-result mul-result-3 mul-result-4 mul-result-5 sub-result-2 mul-result-6 sub-result-3 mul-result-7
+    mul-result-8 sub-result-4 mul-result-9 add-result returns)

@@ -60,20 +60,5 @@ returns-2 c = (search needs, sym (length-take-le _ _ (search needs)))
 pub read-line-spec : {M : Type 1} → statement M
 read-line-spec =
     tie.close
-    (tie.spec
-    Inv-loop
-    μ-loop
-    loop-holds
-    next-byte-requires
-    is-newline-requires
-    is-end-requires
-    slice-write-name
-    add-n
-    loop-less
-    loop-again
-    same-length
-    same-length-2
-    returns
-    same-length-3
-    same-length-4
-    returns-2)
+    (tie.spec Inv-loop μ-loop loop-holds next-byte-requires is-newline-requires is-end-requires slice-write-name add-n loop-less loop-again
+    same-length same-length-2 returns same-length-3 same-length-4 returns-2)

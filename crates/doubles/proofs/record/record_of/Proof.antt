@@ -4,15 +4,6 @@ use borrow.Author.Needs.{needs}
 use Rattle.doubles.proofs.record.record_of.Statement.{statement}
 use Rattle.doubles.proofs.record.record_of.Tie as tie
 
-take-requires : tie.Need-take-requires
-take-requires c κs = search needs
-
-enum-known-t : tie.Need-enum-known-t
-enum-known-t c = search needs
-
-enum-known-t-2 : tie.Need-enum-known-t-2
-enum-known-t-2 c = search needs
-
 returns : tie.Need-returns
 returns c = search no-room
 
@@ -22,21 +13,10 @@ put-requires c κs = (search needs, search row-within)
 returns-2 : tie.Need-returns-2
 returns-2 c = search refuses
 
-same-length : tie.Need-same-length
-same-length c = search needs
-
 returns-3 : tie.Need-returns-3
 returns-3 c = search writes
 
 pub record-of-spec : {M : Type 1} → statement M
 record-of-spec =
     tie.close
-    (tie.spec
-    take-requires
-    enum-known-t
-    enum-known-t-2
-    returns
-    put-requires
-    returns-2
-    same-length
-    returns-3)
+    (tie.spec (λ c κs. search needs) (λ c. search needs) (λ c. search needs) returns put-requires returns-2 (λ c. search needs) returns-3)

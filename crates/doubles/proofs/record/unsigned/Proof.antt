@@ -4,9 +4,6 @@ use borrow.Author.Needs.{needs}
 use Rattle.doubles.proofs.record.unsigned.Statement.{statement}
 use Rattle.doubles.proofs.record.unsigned.Tie as tie
 
-add-result : tie.Need-add-result
-add-result c = search needs
-
 sub-result : tie.Need-sub-result
 sub-result c = turns _ (c .before .fits .z) (c .before .pre .0) (c .before .pre .1) (c .if1 .taken) .negated
 
@@ -28,4 +25,4 @@ returns-2 c = stays _ (c .before .fits .z) (c .before .pre .0) (c .if1 .left)
 pub unsigned-spec : {M : Type 1} → statement M
 unsigned-spec =
     tie.close
-    (tie.spec add-result sub-result cast-result sub-result-2 cast-result-2 returns returns-2)
+    (tie.spec (λ c. search needs) sub-result cast-result sub-result-2 cast-result-2 returns returns-2)

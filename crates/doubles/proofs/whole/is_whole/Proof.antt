@@ -12,25 +12,16 @@ unfolding ofBits neg
 truncating-f64-to-i64-requires c κs =
     let x = c .before .before .args .x in (from x (c .before .if1 .taken) (c .if2 .taken), upto x (c .before .if1 .taken) (c .if2 .taken))
 
-nearest-i64-to-f64-requires : tie.Need-nearest-i64-to-f64-requires
-nearest-i64-to-f64-requires c κs = search needs
-
 returns : tie.Need-returns
 unfolding ofBits neg
 returns c =
     by-cut (c .before .before .before .before .args .x) (c .before .before .before .if1 .taken) (c .before .before .if2 .taken)
     (c .before .truncating-f64-to-i64 .ensures) (c .nearest-i64-to-f64 .ensures)
 
-is-finite-requires : tie.Need-is-finite-requires
-is-finite-requires c κs = search needs
-
 returns-2 : tie.Need-returns-2
 unfolding ofBits neg
 returns-2 c =
     let s = c .before .before .before in c .is-finite .ensures ∙ low (s .args .x) (subst T (sym (s .good .0 .1)) tt) (c .before .if2 .left)
-
-is-finite-requires-2 : tie.Need-is-finite-requires-2
-is-finite-requires-2 c κs = search needs
 
 returns-3 : tie.Need-returns-3
 unfolding ofBits neg
@@ -40,11 +31,5 @@ returns-3 c =
 pub is-whole-spec : {M : Type 1} → statement M
 is-whole-spec =
     tie.close
-    (tie.spec
-    truncating-f64-to-i64-requires
-    nearest-i64-to-f64-requires
-    returns
-    is-finite-requires
-    returns-2
-    is-finite-requires-2
+    (tie.spec truncating-f64-to-i64-requires (λ c κs. search needs) returns (λ c κs. search needs) returns-2 (λ c κs. search needs)
     returns-3)

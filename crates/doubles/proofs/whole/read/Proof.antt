@@ -8,9 +8,6 @@ use borrow.Author.Needs.{needs}
 use Rattle.doubles.proofs.whole.read.Statement.{statement}
 use Rattle.doubles.proofs.whole.read.Tie as tie
 
-is-whole-requires : tie.Need-is-whole-requires
-is-whole-requires c κs = search needs
-
 int-to-float-m : tie.Need-int-to-float-m
 unfolding inFloat
 int-to-float-m c = le→leb (c .before .before .before .args .most) (2 ^ 53) (le-of-lt (c .before .before .before .pre))
@@ -43,17 +40,7 @@ returns-3 c =
     as-cast (s .args .x) (s .args .most) (s .pre) (c .before .before .before .before .before .is-whole .ensures)
     (c .before .before .before .before .if1 .taken) (c .before .before .if2 .left) (c .before .if3 .left)
 
-returns-4 : tie.Need-returns-4
-returns-4 c = search needs
-
 pub read-spec : {M : Type 1} → statement M
 read-spec =
     tie.close
-    (tie.spec
-    is-whole-requires
-    int-to-float-m
-    returns
-    returns-2
-    float-to-int-t8
-    returns-3
-    returns-4)
+    (tie.spec (λ c κs. search needs) int-to-float-m returns returns-2 float-to-int-t8 returns-3 (λ c. search needs))

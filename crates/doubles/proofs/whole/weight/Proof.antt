@@ -6,18 +6,6 @@ use borrow.Author.Needs.{needs}
 use Rattle.doubles.proofs.whole.weight.Statement.{statement}
 use Rattle.doubles.proofs.whole.weight.Tie as tie
 
-read-requires : tie.Need-read-requires
-read-requires c κs = search needs
-
-enum-told : tie.Need-enum-told
-enum-told c = search needs
-
-enum-told-2 : tie.Need-enum-told-2
-enum-told-2 c = search needs
-
-enum-known-w : tie.Need-enum-known-w
-enum-known-w c = search needs
-
 returns : tie.Need-returns
 returns c = ap weighed (sym (c .enum-told .given .1) ∙ c .before .before .read .ensures)
 
@@ -37,12 +25,4 @@ returns-4 c =
 pub weight-spec : {M : Type 1} → statement M
 weight-spec =
     tie.close
-    (tie.spec
-    read-requires
-    enum-told
-    enum-told-2
-    enum-known-w
-    returns
-    returns-2
-    returns-3
-    returns-4)
+    (tie.spec (λ c κs. search needs) (λ c. search needs) (λ c. search needs) (λ c. search needs) returns returns-2 returns-3 returns-4)

@@ -4,11 +4,8 @@ use borrow.Author.Needs.{needs}
 use Rattle.edit.proofs.operations.is_same.Statement.{statement}
 use Rattle.edit.proofs.operations.is_same.Tie as tie
 
-same-requires : tie.Need-same-requires
-same-requires c κs = search needs
-
 returns : tie.Need-returns
 returns c = search is-same
 
 pub is-same-spec : {M : Type 1} → statement M
-is-same-spec = tie.close (tie.spec same-requires returns)
+is-same-spec = tie.close (tie.spec (λ c κs. search needs) returns)

@@ -4,24 +4,6 @@ use borrow.Author.Needs.{needs}
 use Rattle.edit.proofs.steps.step.Statement.{statement}
 use Rattle.edit.proofs.steps.step.Tie as tie
 
-enum-known-o : tie.Need-enum-known-o
-enum-known-o c = search needs
-
-move-vertex-requires : tie.Need-move-vertex-requires
-move-vertex-requires c κs = search needs
-
-enum-known-o-2 : tie.Need-enum-known-o-2
-enum-known-o-2 c = search needs
-
-move-far-requires : tie.Need-move-far-requires
-move-far-requires c κs = search needs
-
-enum-known-o-3 : tie.Need-enum-known-o-3
-enum-known-o-3 c = search needs
-
-reverse-requires : tie.Need-reverse-requires
-reverse-requires c κs = search needs
-
 returns : tie.Need-returns
 returns c = search (step-move, step-far, step-reverse)
 
@@ -34,13 +16,5 @@ returns-3 c = search (step-move, step-far, step-reverse)
 pub step-spec : {M : Type 1} → statement M
 step-spec =
     tie.close
-    (tie.spec
-    enum-known-o
-    move-vertex-requires
-    enum-known-o-2
-    move-far-requires
-    enum-known-o-3
-    reverse-requires
-    returns
-    returns-2
-    returns-3)
+    (tie.spec (λ c. search needs) (λ c κs. search needs) (λ c. search needs) (λ c κs. search needs) (λ c. search needs)
+    (λ c κs. search needs) returns returns-2 returns-3)

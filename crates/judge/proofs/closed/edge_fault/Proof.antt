@@ -6,12 +6,6 @@ use borrow.Author.Needs.{needs}
 use Rattle.judge.proofs.closed.edge_fault.Statement.{statement}
 use Rattle.judge.proofs.closed.edge_fault.Tie as tie
 
-is-closed-at-requires : tie.Need-is-closed-at-requires
-is-closed-at-requires c κs = search needs
-
-face-record-requires : tie.Need-face-record-requires
-face-record-requires c κs = search needs
-
 returns : tie.Need-returns
 unfolding edgeFault
 returns c = rule-refused-at Edge _ (c .face-record .ensures) (c .before .before .is-closed-at .ensures) (c .before .if1 .taken)
@@ -21,4 +15,4 @@ unfolding edgeFault
 returns-2 c = search rules depth 12
 
 pub edge-fault-spec : {M : Type 1} → statement M
-edge-fault-spec = tie.close (tie.spec is-closed-at-requires face-record-requires returns returns-2)
+edge-fault-spec = tie.close (tie.spec (λ c κs. search needs) (λ c κs. search needs) returns returns-2)

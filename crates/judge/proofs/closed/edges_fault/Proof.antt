@@ -56,18 +56,5 @@ returns-3 c = search loops
 pub edges-fault-spec : {M : Type 1} → statement M
 edges-fault-spec =
     tie.close
-    (tie.spec
-    Inv-loop
-    μ-loop
-    none-odd-requires
-    returns
-    faces-requires
-    loop-holds
-    edge-fault-requires
-    enum-known-r
-    returns-2
-    enum-told
-    add-i
-    loop-less
-    loop-again
-    returns-3)
+    (tie.spec Inv-loop μ-loop none-odd-requires returns faces-requires loop-holds edge-fault-requires enum-known-r returns-2 enum-told add-i
+    loop-less loop-again returns-3)

@@ -10,12 +10,6 @@ use borrow.Author.Needs.{needs}
 use Rattle.judge.proofs.closed.is_closed_at.Statement.{statement}
 use Rattle.judge.proofs.closed.is_closed_at.Tie as tie
 
-byte-requires : tie.Need-byte-requires
-byte-requires c κs = search needs
-
-sides-ok-requires : tie.Need-sides-ok-requires
-sides-ok-requires c κs = search needs
-
 returns : tie.Need-returns
 returns c =
     let a = c .before .before .before .before .args in
@@ -24,9 +18,6 @@ returns c =
     let w = c .before .before .before .before .pre in
     c .sides-ok .ensures 0 (facesA s) (w .1 .0)
     ∙ ap (λ (n : ℕ). sidesOk s 0 n (a .i)) e ∙ sym (closed-of-a s (a .i) (omega arith))
-
-sides-ok-requires-2 : tie.Need-sides-ok-requires-2
-sides-ok-requires-2 c κs = search needs
 
 returns-2 : tie.Need-returns-2
 returns-2 c =
@@ -37,4 +28,4 @@ returns-2 c =
 
 pub is-closed-at-spec : {M : Type 1} → statement M
 is-closed-at-spec =
-    tie.close (tie.spec byte-requires sides-ok-requires returns sides-ok-requires-2 returns-2)
+    tie.close (tie.spec (λ c κs. search needs) (λ c κs. search needs) returns (λ c κs. search needs) returns-2)

@@ -12,12 +12,6 @@ use borrow.Author.Needs.{needs}
 use Rattle.judge.proofs.closed.is_used.Statement.{statement}
 use Rattle.judge.proofs.closed.is_used.Tie as tie
 
-byte-requires : tie.Need-byte-requires
-byte-requires c κs = search needs
-
-in-used-requires : tie.Need-in-used-requires
-in-used-requires c κs = search needs
-
 returns : tie.Need-returns
 returns c =
     let d = c .before .before .before .before in
@@ -25,12 +19,6 @@ returns c =
     let e : 0 + facesA s ≡ facesA s = omega arith in
     c .in-used .ensures ∙ in-used s 0 (facesA s) (d .args .p) (d .pre .0 .0) (omega arith) ∙ ap (anyOf (isCornerOf s (d .args .p)) 0) e
     ∙ sym (used-of-a s (d .args .p) (omega arith))
-
-sub-in-used : tie.Need-sub-in-used
-sub-in-used c = search needs
-
-in-used-requires-2 : tie.Need-in-used-requires-2
-in-used-requires-2 c κs = search needs
 
 returns-2 : tie.Need-returns-2
 returns-2 c =
@@ -43,4 +31,4 @@ returns-2 c =
 pub is-used-spec : {M : Type 1} → statement M
 is-used-spec =
     tie.close
-    (tie.spec byte-requires in-used-requires returns sub-in-used in-used-requires-2 returns-2)
+    (tie.spec (λ c κs. search needs) (λ c κs. search needs) returns (λ c. search needs) (λ c κs. search needs) returns-2)

@@ -6,20 +6,8 @@ use borrow.Author.Needs.{needs}
 use Rattle.judge.proofs.closed.none_odd.Statement.{statement}
 use Rattle.judge.proofs.closed.none_odd.Tie as tie
 
-byte-requires : tie.Need-byte-requires
-byte-requires c κs = search needs
-
-are-alone-requires : tie.Need-are-alone-requires
-are-alone-requires c κs = search needs
-
 returns : tie.Need-returns
 returns c = λ e. absurd (false≢true e)
-
-byte-requires-2 : tie.Need-byte-requires-2
-byte-requires-2 c κs = search needs
-
-are-alone-requires-2 : tie.Need-are-alone-requires-2
-are-alone-requires-2 c κs = search needs
 
 returns-2 : tie.Need-returns-2
 returns-2 c =
@@ -33,4 +21,4 @@ returns-2 c =
 
 pub none-odd-spec : {M : Type 1} → statement M
 none-odd-spec =
-    tie.close (tie.spec byte-requires are-alone-requires returns byte-requires-2 are-alone-requires-2 returns-2)
+    tie.close (tie.spec (λ c κs. search needs) (λ c κs. search needs) returns (λ c κs. search needs) (λ c κs. search needs) returns-2)

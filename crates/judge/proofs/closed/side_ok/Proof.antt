@@ -9,15 +9,6 @@ use borrow.Author.Needs.{needs}
 use Rattle.judge.proofs.closed.side_ok.Statement.{statement}
 use Rattle.judge.proofs.closed.side_ok.Tie as tie
 
-corner-requires : tie.Need-corner-requires
-corner-requires c κs = search needs
-
-corner-requires-2 : tie.Need-corner-requires-2
-corner-requires-2 c κs = search needs
-
-in-even-requires : tie.Need-in-even-requires
-in-even-requires c κs = search needs
-
 returns : tie.Need-returns
 returns c = λ a k are.
     let d = c .before in
@@ -26,4 +17,4 @@ returns c = λ a k are.
     ∙ (λ j. edgeOk (now (d .before .before .before .args .s)) a (a + k) (d .before .corner .ensures .0 j) (d .corner2 .ensures .0 j))
 
 pub side-ok-spec : {M : Type 1} → statement M
-side-ok-spec = tie.close (tie.spec corner-requires corner-requires-2 in-even-requires returns)
+side-ok-spec = tie.close (tie.spec (λ c κs. search needs) (λ c κs. search needs) (λ c κs. search needs) returns)

@@ -5,15 +5,9 @@ use borrow.Author.Needs.{needs}
 use Rattle.judge.proofs.closed.sides_ok.Statement.{statement}
 use Rattle.judge.proofs.closed.sides_ok.Tie as tie
 
-side-ok-requires : tie.Need-side-ok-requires
-side-ok-requires c κs = search needs
-
 returns : tie.Need-returns
 unfolding sidesOk
 returns c = λ a k are. let e = c .before .side-ok .ensures a k are in search ands depth 14
-
-side-ok-requires-2 : tie.Need-side-ok-requires-2
-side-ok-requires-2 c κs = search needs
 
 returns-2 : tie.Need-returns-2
 unfolding sidesOk
@@ -21,9 +15,6 @@ returns-2 c = λ a k are.
     let e = c .before .before .before .side-ok .ensures a k are in
     let f = c .before .side-ok2 .ensures a k are in
     search ands depth 14
-
-side-ok-requires-3 : tie.Need-side-ok-requires-3
-side-ok-requires-3 c κs = search needs
 
 returns-3 : tie.Need-returns-3
 unfolding sidesOk
@@ -36,4 +27,4 @@ returns-3 c = λ a k are.
 pub sides-ok-spec : {M : Type 1} → statement M
 sides-ok-spec =
     tie.close
-    (tie.spec side-ok-requires returns side-ok-requires-2 returns-2 side-ok-requires-3 returns-3)
+    (tie.spec (λ c κs. search needs) returns (λ c κs. search needs) returns-2 (λ c κs. search needs) returns-3)

@@ -6,12 +6,6 @@ use borrow.Author.Needs.{needs}
 use Rattle.judge.proofs.closed.solids_fault.Statement.{statement}
 use Rattle.judge.proofs.closed.solids_fault.Tie as tie
 
-byte-requires : tie.Need-byte-requires
-byte-requires c κs = search needs
-
-byte-requires-2 : tie.Need-byte-requires-2
-byte-requires-2 c κs = search needs
-
 words-of-requires : tie.Need-words-of-requires
 words-of-requires c κs =
     let p = c .before .before .before .before .pre in
@@ -34,14 +28,8 @@ unuseds-fault-requires c κs =
       (p .1, p .2),
     )
 
-enum-known-r : tie.Need-enum-known-r
-enum-known-r c = search needs
-
 returns : tie.Need-returns
 returns c = search chain depth 12
-
-enum-told : tie.Need-enum-told
-enum-told c = search needs
 
 edges-fault-requires : tie.Need-edges-fault-requires
 edges-fault-requires c κs =
@@ -61,14 +49,5 @@ returns-2 c = search chain depth 12
 pub solids-fault-spec : {M : Type 1} → statement M
 solids-fault-spec =
     tie.close
-    (tie.spec
-    byte-requires
-    byte-requires-2
-    words-of-requires
-    words-of-requires-2
-    unuseds-fault-requires
-    enum-known-r
-    returns
-    enum-told
-    edges-fault-requires
-    returns-2)
+    (tie.spec (λ c κs. search needs) (λ c κs. search needs) words-of-requires words-of-requires-2 unuseds-fault-requires (λ c. search needs)
+    returns (λ c. search needs) edges-fault-requires returns-2)

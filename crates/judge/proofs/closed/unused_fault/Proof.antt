@@ -5,9 +5,6 @@ use borrow.Author.Needs.{needs}
 use Rattle.judge.proofs.closed.unused_fault.Statement.{statement}
 use Rattle.judge.proofs.closed.unused_fault.Tie as tie
 
-is-used-requires : tie.Need-is-used-requires
-is-used-requires c κs = search needs
-
 returns : tie.Need-returns
 unfolding unusedFault
 returns c = search rules depth 12
@@ -17,4 +14,4 @@ unfolding unusedFault
 returns-2 c = search rules depth 12
 
 pub unused-fault-spec : {M : Type 1} → statement M
-unused-fault-spec = tie.close (tie.spec is-used-requires returns returns-2)
+unused-fault-spec = tie.close (tie.spec (λ c κs. search needs) returns returns-2)

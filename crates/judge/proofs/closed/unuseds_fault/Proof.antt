@@ -53,17 +53,5 @@ returns-2 c = search loops
 pub unuseds-fault-spec : {M : Type 1} → statement M
 unuseds-fault-spec =
     tie.close
-    (tie.spec
-    Inv-loop
-    μ-loop
-    vertices-requires
-    loop-holds
-    add-loop
-    unused-fault-requires
-    enum-known-r
-    returns
-    enum-told
-    add-p
-    loop-less
-    loop-again
-    returns-2)
+    (tie.spec Inv-loop μ-loop vertices-requires loop-holds add-loop unused-fault-requires enum-known-r returns enum-told add-p loop-less
+    loop-again returns-2)

@@ -5,29 +5,17 @@ use borrow.Author.Needs.{needs}
 use Rattle.judge.proofs.header.counts_ok.Statement.{statement}
 use Rattle.judge.proofs.header.counts_ok.Tie as tie
 
-vertices-ok-requires : tie.Need-vertices-ok-requires
-vertices-ok-requires c κs = search needs
-
 returns : tie.Need-returns
 unfolding countsOk
 returns c = search ands depth 14
-
-faces-ok-requires : tie.Need-faces-ok-requires
-faces-ok-requires c κs = search needs
 
 returns-2 : tie.Need-returns-2
 unfolding countsOk
 returns-2 c = search ands depth 14
 
-vertices-ok-requires-2 : tie.Need-vertices-ok-requires-2
-vertices-ok-requires-2 c κs = search needs
-
 returns-3 : tie.Need-returns-3
 unfolding countsOk
 returns-3 c = search ands depth 14
-
-faces-ok-requires-2 : tie.Need-faces-ok-requires-2
-faces-ok-requires-2 c κs = search needs
 
 returns-4 : tie.Need-returns-4
 unfolding countsOk
@@ -36,12 +24,5 @@ returns-4 c = search ands depth 14
 pub counts-ok-spec : {M : Type 1} → statement M
 counts-ok-spec =
     tie.close
-    (tie.spec
-    vertices-ok-requires
-    returns
-    faces-ok-requires
-    returns-2
-    vertices-ok-requires-2
-    returns-3
-    faces-ok-requires-2
+    (tie.spec (λ c κs. search needs) returns (λ c κs. search needs) returns-2 (λ c κs. search needs) returns-3 (λ c κs. search needs)
     returns-4)

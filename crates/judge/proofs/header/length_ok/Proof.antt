@@ -3,11 +3,8 @@ use borrow.Author.Needs.{needs}
 use Rattle.judge.proofs.header.length_ok.Statement.{statement}
 use Rattle.judge.proofs.header.length_ok.Tie as tie
 
-length-of-requires : tie.Need-length-of-requires
-length-of-requires c κs = search needs
-
 returns : tie.Need-returns
 returns c = cc
 
 pub length-ok-spec : {M : Type 1} → statement M
-length-ok-spec = tie.close (tie.spec length-of-requires returns)
+length-ok-spec = tie.close (tie.spec (λ c κs. search needs) returns)

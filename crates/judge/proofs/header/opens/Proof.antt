@@ -9,12 +9,9 @@ returns : tie.Need-returns
 unfolding opens
 returns c = and-less-stops _ (c .if1 .taken)
 
-two-requires : tie.Need-two-requires
-two-requires c κs = search needs
-
 returns-2 : tie.Need-returns-2
 unfolding opens
 returns-2 c = and-less-goes-on (c .before .if1 .left) (cc)
 
 pub opens-spec : {M : Type 1} → statement M
-opens-spec = tie.close (tie.spec returns two-requires returns-2)
+opens-spec = tie.close (tie.spec returns (λ c κs. search needs) returns-2)

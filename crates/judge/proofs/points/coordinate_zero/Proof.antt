@@ -4,15 +4,9 @@ use borrow.Author.Needs.{needs}
 use Rattle.judge.proofs.points.coordinate_zero.Statement.{statement}
 use Rattle.judge.proofs.points.coordinate_zero.Tie as tie
 
-two-requires : tie.Need-two-requires
-two-requires c κs = search needs
-
-size-requires : tie.Need-size-requires
-size-requires c κs = search needs
-
 returns : tie.Need-returns
 unfolding coordinateAt
 returns c = cc
 
 pub coordinate-zero-spec : {M : Type 1} → statement M
-coordinate-zero-spec = tie.close (tie.spec two-requires size-requires returns)
+coordinate-zero-spec = tie.close (tie.spec (λ c κs. search needs) (λ c κs. search needs) returns)

@@ -5,29 +5,17 @@ use borrow.Author.Needs.{needs}
 use Rattle.judge.proofs.points.is_nowhere.Statement.{statement}
 use Rattle.judge.proofs.points.is_nowhere.Tie as tie
 
-coordinate-zero-requires : tie.Need-coordinate-zero-requires
-coordinate-zero-requires c κs = search needs
-
 returns : tie.Need-returns
 unfolding nowhere
 returns c = search ands depth 14
-
-coordinate-zero-requires-2 : tie.Need-coordinate-zero-requires-2
-coordinate-zero-requires-2 c κs = search needs
 
 returns-2 : tie.Need-returns-2
 unfolding nowhere
 returns-2 c = search ands depth 14
 
-coordinate-zero-requires-3 : tie.Need-coordinate-zero-requires-3
-coordinate-zero-requires-3 c κs = search needs
-
 returns-3 : tie.Need-returns-3
 unfolding nowhere
 returns-3 c = search ands depth 14
-
-weight-zero-requires : tie.Need-weight-zero-requires
-weight-zero-requires c κs = search needs
 
 returns-4 : tie.Need-returns-4
 unfolding nowhere
@@ -36,12 +24,5 @@ returns-4 c = search ands depth 14
 pub is-nowhere-spec : {M : Type 1} → statement M
 is-nowhere-spec =
     tie.close
-    (tie.spec
-    coordinate-zero-requires
-    returns
-    coordinate-zero-requires-2
-    returns-2
-    coordinate-zero-requires-3
-    returns-3
-    weight-zero-requires
+    (tie.spec (λ c κs. search needs) returns (λ c κs. search needs) returns-2 (λ c κs. search needs) returns-3 (λ c κs. search needs)
     returns-4)

@@ -4,24 +4,12 @@ use borrow.Author.Needs.{needs}
 use Rattle.judge.proofs.points.point_marked.Statement.{statement}
 use Rattle.judge.proofs.points.point_marked.Tie as tie
 
-two-requires : tie.Need-two-requires
-two-requires c κs = search needs
-
 returns : tie.Need-returns
 returns c = far-marked _ _ (c .before .if1 .taken) (c .two .ensures .0)
-
-mul-two : tie.Need-mul-two
-mul-two c = search needs
-
-add-two : tie.Need-add-two
-add-two c = search needs
-
-two-requires-2 : tie.Need-two-requires-2
-two-requires-2 c κs = search needs
 
 returns-2 : tie.Need-returns-2
 returns-2 c = vertex-marked _ _ (c .before .if1 .left) (c .two2 .ensures .0)
 
 pub point-marked-spec : {M : Type 1} → statement M
 point-marked-spec =
-    tie.close (tie.spec two-requires returns mul-two add-two two-requires-2 returns-2)
+    tie.close (tie.spec (λ c κs. search needs) returns (λ c. search needs) (λ c. search needs) (λ c κs. search needs) returns-2)

@@ -5,12 +5,6 @@ use borrow.Author.Needs.{needs}
 use Rattle.judge.proofs.points.size.Statement.{statement}
 use Rattle.judge.proofs.points.size.Tie as tie
 
-add-result : tie.Need-add-result
-add-result c = search needs
-
-sub-result : tie.Need-sub-result
-sub-result c = search needs
-
 returns : tie.Need-returns
 returns c = simp (lt-ltb _ _ (c .if1 .taken))
 
@@ -18,4 +12,4 @@ returns-2 : tie.Need-returns-2
 returns-2 c = simp (le-ltb _ _ (c .if1 .left)) (omega arith)
 
 pub size-spec : {M : Type 1} → statement M
-size-spec = tie.close (tie.spec add-result sub-result returns returns-2)
+size-spec = tie.close (tie.spec (λ c. search needs) (λ c. search needs) returns returns-2)

@@ -4,9 +4,6 @@ use borrow.Author.Needs.{needs}
 use Rattle.judge.proofs.points.somewhere_ok.Statement.{statement}
 use Rattle.judge.proofs.points.somewhere_ok.Tie as tie
 
-is-nowhere-requires : tie.Need-is-nowhere-requires
-is-nowhere-requires c κs = search needs
-
 returns : tie.Need-returns
 returns c = far-somewhere _ _ (c .before .if1 .taken) (c .is-nowhere .ensures)
 
@@ -14,4 +11,4 @@ returns-2 : tie.Need-returns-2
 returns-2 c = vertex-somewhere _ _ (c .if1 .left)
 
 pub somewhere-ok-spec : {M : Type 1} → statement M
-somewhere-ok-spec = tie.close (tie.spec is-nowhere-requires returns returns-2)
+somewhere-ok-spec = tie.close (tie.spec (λ c κs. search needs) returns returns-2)

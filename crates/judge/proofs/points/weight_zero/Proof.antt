@@ -4,15 +4,9 @@ use borrow.Author.Needs.{needs}
 use Rattle.judge.proofs.points.weight_zero.Statement.{statement}
 use Rattle.judge.proofs.points.weight_zero.Tie as tie
 
-byte-requires : tie.Need-byte-requires
-byte-requires c κs = search needs
-
-size-requires : tie.Need-size-requires
-size-requires c κs = search needs
-
 returns : tie.Need-returns
 unfolding weightAt
 returns c = cc
 
 pub weight-zero-spec : {M : Type 1} → statement M
-weight-zero-spec = tie.close (tie.spec byte-requires size-requires returns)
+weight-zero-spec = tie.close (tie.spec (λ c κs. search needs) (λ c κs. search needs) returns)

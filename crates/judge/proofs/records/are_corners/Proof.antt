@@ -5,22 +5,13 @@ use borrow.Author.Needs.{needs}
 use Rattle.judge.proofs.records.are_corners.Statement.{statement}
 use Rattle.judge.proofs.records.are_corners.Tie as tie
 
-is-within-requires : tie.Need-is-within-requires
-is-within-requires c κs = search needs
-
 returns : tie.Need-returns
 unfolding areCorners
 returns c = search ands depth 14
 
-is-within-requires-2 : tie.Need-is-within-requires-2
-is-within-requires-2 c κs = search needs
-
 returns-2 : tie.Need-returns-2
 unfolding areCorners
 returns-2 c = search ands depth 14
-
-is-within-requires-3 : tie.Need-is-within-requires-3
-is-within-requires-3 c κs = search needs
 
 returns-3 : tie.Need-returns-3
 unfolding areCorners
@@ -41,13 +32,5 @@ returns-6 c = search ands depth 14
 pub are-corners-spec : {M : Type 1} → statement M
 are-corners-spec =
     tie.close
-    (tie.spec
-    is-within-requires
-    returns
-    is-within-requires-2
-    returns-2
-    is-within-requires-3
-    returns-3
-    returns-4
-    returns-5
+    (tie.spec (λ c κs. search needs) returns (λ c κs. search needs) returns-2 (λ c κs. search needs) returns-3 returns-4 returns-5
     returns-6)

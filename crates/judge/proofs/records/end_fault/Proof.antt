@@ -6,12 +6,6 @@ use borrow.Author.Needs.{needs}
 use Rattle.judge.proofs.records.end_fault.Statement.{statement}
 use Rattle.judge.proofs.records.end_fault.Tie as tie
 
-end-marked-requires : tie.Need-end-marked-requires
-end-marked-requires c κs = search needs
-
-last-record-requires : tie.Need-last-record-requires
-last-record-requires c κs = search needs
-
 returns : tie.Need-returns
 unfolding endFault
 returns c = rule-refused-at Mark _ (c .last-record .ensures .0) (c .before .before .end-marked .ensures) (c .before .if1 .taken)
@@ -21,4 +15,4 @@ unfolding endFault
 returns-2 c = search rules depth 12
 
 pub end-fault-spec : {M : Type 1} → statement M
-end-fault-spec = tie.close (tie.spec end-marked-requires last-record-requires returns returns-2)
+end-fault-spec = tie.close (tie.spec (λ c κs. search needs) (λ c κs. search needs) returns returns-2)

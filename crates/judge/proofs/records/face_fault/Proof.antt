@@ -6,21 +6,9 @@ use borrow.Author.Needs.{needs}
 use Rattle.judge.proofs.records.face_fault.Statement.{statement}
 use Rattle.judge.proofs.records.face_fault.Tie as tie
 
-face-marked-requires : tie.Need-face-marked-requires
-face-marked-requires c κs = search needs
-
-face-record-requires : tie.Need-face-record-requires
-face-record-requires c κs = search needs
-
 returns : tie.Need-returns
 unfolding faceFault
 returns c = rule-refused-at Mark _ (c .face-record .ensures) (c .before .before .face-marked .ensures) (c .before .if1 .taken)
-
-corners-ok-requires : tie.Need-corners-ok-requires
-corners-ok-requires c κs = search needs
-
-face-record-requires-2 : tie.Need-face-record-requires-2
-face-record-requires-2 c κs = search needs
 
 returns-2 : tie.Need-returns-2
 unfolding faceFault
@@ -36,11 +24,4 @@ returns-3 c = search rules depth 12
 pub face-fault-spec : {M : Type 1} → statement M
 face-fault-spec =
     tie.close
-    (tie.spec
-    face-marked-requires
-    face-record-requires
-    returns
-    corners-ok-requires
-    face-record-requires-2
-    returns-2
-    returns-3)
+    (tie.spec (λ c κs. search needs) (λ c κs. search needs) returns (λ c κs. search needs) (λ c κs. search needs) returns-2 returns-3)

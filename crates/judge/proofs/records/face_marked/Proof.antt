@@ -3,14 +3,8 @@ use borrow.Author.Needs.{needs}
 use Rattle.judge.proofs.records.face_marked.Statement.{statement}
 use Rattle.judge.proofs.records.face_marked.Tie as tie
 
-face-start-requires : tie.Need-face-start-requires
-face-start-requires c κs = search needs
-
-two-requires : tie.Need-two-requires
-two-requires c κs = search needs
-
 returns : tie.Need-returns
 returns c = cc
 
 pub face-marked-spec : {M : Type 1} → statement M
-face-marked-spec = tie.close (tie.spec face-start-requires two-requires returns)
+face-marked-spec = tie.close (tie.spec (λ c κs. search needs) (λ c κs. search needs) returns)

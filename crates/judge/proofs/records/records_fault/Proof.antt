@@ -52,17 +52,5 @@ returns-2 c = search loops
 pub records-fault-spec : {M : Type 1} → statement M
 records-fault-spec =
     tie.close
-    (tie.spec
-    Inv-loop
-    μ-loop
-    last-record-requires
-    add-e
-    loop-holds
-    record-fault-requires
-    enum-known-r
-    returns
-    enum-told
-    add-k
-    loop-less
-    loop-again
-    returns-2)
+    (tie.spec Inv-loop μ-loop last-record-requires add-e loop-holds record-fault-requires enum-known-r returns enum-told add-k loop-less
+    loop-again returns-2)

@@ -6,15 +6,6 @@ use borrow.Author.Needs.{needs}
 use Rattle.judge.proofs.records.verts_at.Statement.{statement}
 use Rattle.judge.proofs.records.verts_at.Tie as tie
 
-byte-requires : tie.Need-byte-requires
-byte-requires c κs = search needs
-
-byte-requires-2 : tie.Need-byte-requires-2
-byte-requires-2 c κs = search needs
-
-byte-requires-3 : tie.Need-byte-requires-3
-byte-requires-3 c κs = search needs
-
 returns : tie.Need-returns
 returns c = c .byte2 .ensures .0 ∙ sym (verts-of-a _ _ (omega arith))
 
@@ -23,4 +14,4 @@ returns-2 c = c .byte3 .ensures .0 ∙ sym (verts-of-b _ _ (omega arith))
 
 pub verts-at-spec : {M : Type 1} → statement M
 verts-at-spec =
-    tie.close (tie.spec byte-requires byte-requires-2 byte-requires-3 returns returns-2)
+    tie.close (tie.spec (λ c κs. search needs) (λ c κs. search needs) (λ c κs. search needs) returns returns-2)

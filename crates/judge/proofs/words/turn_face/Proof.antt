@@ -7,27 +7,6 @@ use borrow.Author.Needs.{needs}
 use Rattle.judge.proofs.words.turn_face.Statement.{statement}
 use Rattle.judge.proofs.words.turn_face.Tie as tie
 
-corner-requires : tie.Need-corner-requires
-corner-requires c κs = search needs
-
-corner-requires-2 : tie.Need-corner-requires-2
-corner-requires-2 c κs = search needs
-
-corner-requires-3 : tie.Need-corner-requires-3
-corner-requires-3 c κs = search needs
-
-bit-requires : tie.Need-bit-requires
-bit-requires c κs = search needs
-
-bit-requires-2 : tie.Need-bit-requires-2
-bit-requires-2 c κs = search needs
-
-bit-requires-3 : tie.Need-bit-requires-3
-bit-requires-3 c κs = search needs
-
-turn-requires : tie.Need-turn-requires
-turn-requires c κs = search needs
-
 turn-requires-2 : tie.Need-turn-requires-2
 turn-requires-2 c κs =
     let c1 = c .before in
@@ -64,14 +43,5 @@ returns c =
 pub turn-face-spec : {M : Type 1} → statement M
 turn-face-spec =
     tie.close
-    (tie.spec
-    corner-requires
-    corner-requires-2
-    corner-requires-3
-    bit-requires
-    bit-requires-2
-    bit-requires-3
-    turn-requires
-    turn-requires-2
-    turn-requires-3
-    returns)
+    (tie.spec (λ c κs. search needs) (λ c κs. search needs) (λ c κs. search needs) (λ c κs. search needs) (λ c κs. search needs)
+    (λ c κs. search needs) (λ c κs. search needs) turn-requires-2 turn-requires-3 returns)

@@ -4,15 +4,6 @@ use Rattle.map_image.specs.Filling.{filled-image}
 use Rattle.map_image.proofs.image.fill.Statement.{statement}
 use Rattle.map_image.proofs.image.fill.Tie as tie
 
-copy-requires : tie.Need-copy-requires
-copy-requires c κs = search needs
-
-put-rows-requires : tie.Need-put-rows-requires
-put-rows-requires c κs = search needs
-
-same-length : tie.Need-same-length
-same-length c = search needs
-
 returns : tie.Need-returns
 returns c =
     let p = c .before .before in
@@ -21,4 +12,4 @@ returns c =
     filled-image _ _ _ (s .pre .0 .accepted) (q .copy .ensures) (p .put-rows .ensures)
 
 pub fill-spec : {M : Type 1} → statement M
-fill-spec = tie.close (tie.spec copy-requires put-rows-requires same-length returns)
+fill-spec = tie.close (tie.spec (λ c κs. search needs) (λ c κs. search needs) (λ c. search needs) returns)

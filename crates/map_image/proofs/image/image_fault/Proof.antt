@@ -4,20 +4,8 @@ use Rattle.map_image.specs.Faults.{fault-scene, fault-entry, fault-singu
 use Rattle.map_image.proofs.image.image_fault.Statement.{statement}
 use Rattle.map_image.proofs.image.image_fault.Tie as tie
 
-judge-requires : tie.Need-judge-requires
-judge-requires c κs = search needs
-
-enum-known-r : tie.Need-enum-known-r
-enum-known-r c = search needs
-
 returns : tie.Need-returns
 returns c = search fault-scene
-
-enum-told : tie.Need-enum-told
-enum-told c = search needs
-
-entries-ok-requires : tie.Need-entries-ok-requires
-entries-ok-requires c κs = search needs
 
 returns-2 : tie.Need-returns-2
 returns-2 c = search fault-entry
@@ -31,14 +19,8 @@ returns-3 c = search fault-singular depth 8
 rows-fault-requires : tie.Need-rows-fault-requires
 rows-fault-requires c κs = search mappable
 
-enum-known-r-2 : tie.Need-enum-known-r-2
-enum-known-r-2 c = search needs
-
 returns-4 : tie.Need-returns-4
 returns-4 c = search fault-row depth 10
-
-enum-told-2 : tie.Need-enum-told-2
-enum-told-2 c = search needs
 
 returns-5 : tie.Need-returns-5
 returns-5 c = search fault-room depth 12
@@ -49,18 +31,5 @@ returns-6 c = search fault-none depth 12
 pub image-fault-spec : {M : Type 1} → statement M
 image-fault-spec =
     tie.close
-    (tie.spec
-    judge-requires
-    enum-known-r
-    returns
-    enum-told
-    entries-ok-requires
-    returns-2
-    is-singular-requires
-    returns-3
-    rows-fault-requires
-    enum-known-r-2
-    returns-4
-    enum-told-2
-    returns-5
-    returns-6)
+    (tie.spec (λ c κs. search needs) (λ c. search needs) returns (λ c. search needs) (λ c κs. search needs) returns-2 is-singular-requires
+    returns-3 rows-fault-requires (λ c. search needs) returns-4 (λ c. search needs) returns-5 returns-6)

@@ -6,12 +6,6 @@ use borrow.Author.Needs.{needs}
 use Rattle.map_image.proofs.image.image_row.Statement.{statement}
 use Rattle.map_image.proofs.image.image_row.Tie as tie
 
-columns-requires : tie.Need-columns-requires
-columns-requires c κs = search needs
-
-file-row-requires : tie.Need-file-row-requires
-file-row-requires c κs = search needs
-
 times-columns-requires : tie.Need-times-columns-requires
 times-columns-requires c κs =
     let s = c .before .before .before in (
@@ -26,4 +20,4 @@ returns c =
 
 pub image-row-spec : {M : Type 1} → statement M
 image-row-spec =
-    tie.close (tie.spec columns-requires file-row-requires times-columns-requires returns)
+    tie.close (tie.spec (λ c κs. search needs) (λ c κs. search needs) times-columns-requires returns)

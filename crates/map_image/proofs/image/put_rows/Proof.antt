@@ -73,18 +73,5 @@ returns c = all-stored _ _ (c .before .loop .inv .2) (omega arith)
 pub put-rows-spec : {M : Type 1} → statement M
 put-rows-spec =
     tie.close
-    (tie.spec
-    Inv-loop
-    μ-loop
-    byte-requires
-    byte-requires-2
-    add-e
-    add-e-2
-    loop-holds
-    image-row-requires
-    put-row-requires
-    add-j
-    loop-less
-    loop-again
-    same-length
-    returns)
+    (tie.spec Inv-loop μ-loop byte-requires byte-requires-2 add-e add-e-2 loop-holds image-row-requires put-row-requires add-j loop-less
+    loop-again same-length returns)

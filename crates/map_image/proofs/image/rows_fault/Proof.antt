@@ -59,19 +59,5 @@ returns-2 c = search loops
 pub rows-fault-spec : {M : Type 1} → statement M
 rows-fault-spec =
     tie.close
-    (tie.spec
-    Inv-loop
-    μ-loop
-    byte-requires
-    byte-requires-2
-    add-e
-    add-e-2
-    loop-holds
-    point-fault-requires
-    enum-known-r
-    returns
-    enum-told
-    add-j
-    loop-less
-    loop-again
-    returns-2)
+    (tie.spec Inv-loop μ-loop byte-requires byte-requires-2 add-e add-e-2 loop-holds point-fault-requires enum-known-r returns enum-told
+    add-j loop-less loop-again returns-2)

@@ -3,18 +3,6 @@ use borrow.Author.Needs.{needs}
 use Rattle.map_image.proofs.rows.columns.Statement.{statement}
 use Rattle.map_image.proofs.rows.columns.Tie as tie
 
-column-x-requires : tie.Need-column-x-requires
-column-x-requires c κs = search needs
-
-column-y-requires : tie.Need-column-y-requires
-column-y-requires c κs = search needs
-
-column-z-requires : tie.Need-column-z-requires
-column-z-requires c κs = search needs
-
-column-w-requires : tie.Need-column-w-requires
-column-w-requires c κs = search needs
-
 returns : tie.Need-returns
 returns c =
     let z = c .before in
@@ -25,4 +13,4 @@ returns c =
 pub columns-spec : {M : Type 1} → statement M
 columns-spec =
     tie.close
-    (tie.spec column-x-requires column-y-requires column-z-requires column-w-requires returns)
+    (tie.spec (λ c κs. search needs) (λ c κs. search needs) (λ c κs. search needs) (λ c κs. search needs) returns)

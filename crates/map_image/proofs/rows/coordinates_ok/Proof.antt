@@ -5,22 +5,13 @@ use borrow.Author.Needs.{needs}
 use Rattle.map_image.proofs.rows.coordinates_ok.Statement.{statement}
 use Rattle.map_image.proofs.rows.coordinates_ok.Tie as tie
 
-size-requires : tie.Need-size-requires
-size-requires c κs = search needs
-
 returns : tie.Need-returns
 unfolding coordinatesOk
 returns c = search (sized, needs) depth 16
 
-size-requires-2 : tie.Need-size-requires-2
-size-requires-2 c κs = search needs
-
 returns-2 : tie.Need-returns-2
 unfolding coordinatesOk
 returns-2 c = search (sized, needs) depth 16
-
-size-requires-3 : tie.Need-size-requires-3
-size-requires-3 c κs = search needs
 
 returns-3 : tie.Need-returns-3
 unfolding coordinatesOk
@@ -28,4 +19,4 @@ returns-3 c = search (sized, needs) depth 16
 
 pub coordinates-ok-spec : {M : Type 1} → statement M
 coordinates-ok-spec =
-    tie.close (tie.spec size-requires returns size-requires-2 returns-2 size-requires-3 returns-3)
+    tie.close (tie.spec (λ c κs. search needs) returns (λ c κs. search needs) returns-2 (λ c κs. search needs) returns-3)

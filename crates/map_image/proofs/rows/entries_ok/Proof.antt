@@ -5,29 +5,17 @@ use borrow.Author.Needs.{needs}
 use Rattle.map_image.proofs.rows.entries_ok.Statement.{statement}
 use Rattle.map_image.proofs.rows.entries_ok.Tie as tie
 
-row-upto-requires : tie.Need-row-upto-requires
-row-upto-requires c κs = search needs
-
 returns : tie.Need-returns
 unfolding entriesOk
 returns c = search ands depth 16
-
-row-upto-requires-2 : tie.Need-row-upto-requires-2
-row-upto-requires-2 c κs = search needs
 
 returns-2 : tie.Need-returns-2
 unfolding entriesOk
 returns-2 c = search ands depth 16
 
-row-upto-requires-3 : tie.Need-row-upto-requires-3
-row-upto-requires-3 c κs = search needs
-
 returns-3 : tie.Need-returns-3
 unfolding entriesOk
 returns-3 c = search ands depth 16
-
-row-upto-requires-4 : tie.Need-row-upto-requires-4
-row-upto-requires-4 c κs = search needs
 
 returns-4 : tie.Need-returns-4
 unfolding entriesOk
@@ -36,12 +24,5 @@ returns-4 c = search ands depth 16
 pub entries-ok-spec : {M : Type 1} → statement M
 entries-ok-spec =
     tie.close
-    (tie.spec
-    row-upto-requires
-    returns
-    row-upto-requires-2
-    returns-2
-    row-upto-requires-3
-    returns-3
-    row-upto-requires-4
+    (tie.spec (λ c κs. search needs) returns (λ c κs. search needs) returns-2 (λ c κs. search needs) returns-3 (λ c κs. search needs)
     returns-4)

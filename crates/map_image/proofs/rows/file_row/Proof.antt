@@ -12,26 +12,8 @@ use Rattle.map_image.proofs.rows.file_row.Tie as tie
 same-row : (s : List ℕ) {j : ℕ} → j ≡ 0 → rowAt s 0 ≡ rowAt s j
 same-row s e = sym (ap (rowAt s) e)
 
-byte-requires : tie.Need-byte-requires
-byte-requires c κs = search needs
-
-byte-requires-2 : tie.Need-byte-requires-2
-byte-requires-2 c κs = search needs
-
-add-row : tie.Need-add-row
-add-row c = search needs
-
-add-row-2 : tie.Need-add-row-2
-add-row-2 c = search needs
-
-row-requires : tie.Need-row-requires
-row-requires c κs = search needs
-
 returns : tie.Need-returns
 returns c = c .row .ensures ∙ far-is _ (omega arith) ∙ same-row _ (omega arith)
-
-row-requires-2 : tie.Need-row-requires-2
-row-requires-2 c κs = search needs
 
 returns-2 : tie.Need-returns-2
 returns-2 c = c .row2 .ensures ∙ row-is _ _ (omega arith) (omega arith)
@@ -39,12 +21,5 @@ returns-2 c = c .row2 .ensures ∙ row-is _ _ (omega arith) (omega arith)
 pub file-row-spec : {M : Type 1} → statement M
 file-row-spec =
     tie.close
-    (tie.spec
-    byte-requires
-    byte-requires-2
-    add-row
-    add-row-2
-    row-requires
-    returns
-    row-requires-2
-    returns-2)
+    (tie.spec (λ c κs. search needs) (λ c κs. search needs) (λ c. search needs) (λ c. search needs) (λ c κs. search needs) returns
+    (λ c κs. search needs) returns-2)

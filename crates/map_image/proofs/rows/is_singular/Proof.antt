@@ -8,9 +8,6 @@ use borrow.Author.Needs.{needs}
 use Rattle.map_image.proofs.rows.is_singular.Statement.{statement}
 use Rattle.map_image.proofs.rows.is_singular.Tie as tie
 
-plane-requires : tie.Need-plane-requires
-plane-requires c κs = search needs
-
 dot-requires : tie.Need-dot-requires
 dot-requires c κs =
     let s = c .before .before .before .before .before .pre in (rw (c .plane .ensures) (plane-size (s .x) (s .y) (s .z)), s .w)
@@ -22,4 +19,4 @@ returns c =
     ∙ plane-det _ _ _ _)
 
 pub is-singular-spec : {M : Type 1} → statement M
-is-singular-spec = tie.close (tie.spec plane-requires dot-requires returns)
+is-singular-spec = tie.close (tie.spec (λ c κs. search needs) dot-requires returns)

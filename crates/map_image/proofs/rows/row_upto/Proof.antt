@@ -5,29 +5,17 @@ use borrow.Author.Needs.{needs}
 use Rattle.map_image.proofs.rows.row_upto.Statement.{statement}
 use Rattle.map_image.proofs.rows.row_upto.Tie as tie
 
-size-requires : tie.Need-size-requires
-size-requires c κs = search needs
-
 returns : tie.Need-returns
 unfolding rowUpto
 returns c = search (sized, needs) depth 16
-
-size-requires-2 : tie.Need-size-requires-2
-size-requires-2 c κs = search needs
 
 returns-2 : tie.Need-returns-2
 unfolding rowUpto
 returns-2 c = search (sized, needs) depth 16
 
-size-requires-3 : tie.Need-size-requires-3
-size-requires-3 c κs = search needs
-
 returns-3 : tie.Need-returns-3
 unfolding rowUpto
 returns-3 c = search (sized, needs) depth 16
-
-size-requires-4 : tie.Need-size-requires-4
-size-requires-4 c κs = search needs
 
 returns-4 : tie.Need-returns-4
 unfolding rowUpto
@@ -36,12 +24,5 @@ returns-4 c = search (sized, needs) depth 16
 pub row-upto-spec : {M : Type 1} → statement M
 row-upto-spec =
     tie.close
-    (tie.spec
-    size-requires
-    returns
-    size-requires-2
-    returns-2
-    size-requires-3
-    returns-3
-    size-requires-4
+    (tie.spec (λ c κs. search needs) returns (λ c κs. search needs) returns-2 (λ c κs. search needs) returns-3 (λ c κs. search needs)
     returns-4)

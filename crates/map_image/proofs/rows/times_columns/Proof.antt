@@ -5,18 +5,6 @@ use borrow.Author.Needs.{needs}
 use Rattle.map_image.proofs.rows.times_columns.Statement.{statement}
 use Rattle.map_image.proofs.rows.times_columns.Tie as tie
 
-dot-requires : tie.Need-dot-requires
-dot-requires c κs = search needs
-
-dot-requires-2 : tie.Need-dot-requires-2
-dot-requires-2 c κs = search needs
-
-dot-requires-3 : tie.Need-dot-requires-3
-dot-requires-3 c κs = search needs
-
-dot-requires-4 : tie.Need-dot-requires-4
-dot-requires-4 c κs = search needs
-
 returns : tie.Need-returns
 unfolding timesColumns
 returns c =
@@ -33,4 +21,4 @@ returns c =
 
 pub times-columns-spec : {M : Type 1} → statement M
 times-columns-spec =
-    tie.close (tie.spec dot-requires dot-requires-2 dot-requires-3 dot-requires-4 returns)
+    tie.close (tie.spec (λ c κs. search needs) (λ c κs. search needs) (λ c κs. search needs) (λ c κs. search needs) returns)

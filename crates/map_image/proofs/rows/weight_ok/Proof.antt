@@ -13,15 +13,6 @@ use Rattle.map_image.proofs.rows.weight_ok.Tie as tie
 w-fits : (c : tie.Start) → SFits w64 (c .args .r .w)
 w-fits c = search needs
 
-least-weight-requires : tie.Need-least-weight-requires
-least-weight-requires c κs = search needs
-
-size-requires : tie.Need-size-requires
-size-requires c κs = search needs
-
-is-within-requires : tie.Need-is-within-requires
-is-within-requires c κs = search needs
-
 returns : tie.Need-returns
 unfolding weightOk
 returns c =
@@ -31,4 +22,4 @@ returns c =
 
 pub weight-ok-spec : {M : Type 1} → statement M
 weight-ok-spec =
-    tie.close (tie.spec least-weight-requires size-requires is-within-requires returns)
+    tie.close (tie.spec (λ c κs. search needs) (λ c κs. search needs) (λ c κs. search needs) returns)

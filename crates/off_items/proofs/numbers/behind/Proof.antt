@@ -6,29 +6,14 @@ use borrow.Author.Needs.{needs}
 use Rattle.off_items.proofs.numbers.behind.Statement.{statement}
 use Rattle.off_items.proofs.numbers.behind.Tie as tie
 
-mul-result : tie.Need-mul-result
-mul-result c = search needs
-
-add-result : tie.Need-add-result
-add-result c = search needs
-
 returns : tie.Need-returns
 returns c = sym (at-most-low _ _ (omega arith))
 
-sub-if2 : tie.Need-sub-if2
-sub-if2 c = search needs
-
 returns-2 : tie.Need-returns-2
 returns-2 c = sym (at-most-high _ _ (omega arith))
-
-mul-result-2 : tie.Need-mul-result-2
-mul-result-2 c = search needs
-
-add-result-2 : tie.Need-add-result-2
-add-result-2 c = search needs
 
 returns-3 : tie.Need-returns-3
 returns-3 c = sym (at-most-low _ _ (omega arith))
 
 pub behind-spec : {M : Type 1} → statement M
-behind-spec = tie.close (tie.spec mul-result add-result returns sub-if2 returns-2 mul-result-2 add-result-2 returns-3)
+behind-spec = tie.close (tie.spec (λ c. search needs) (λ c. search needs) returns (λ c. search needs) returns-2 (λ c. search needs) (λ c. search needs) returns-3)

@@ -4,12 +4,6 @@ use borrow.Author.Needs.{needs}
 use Rattle.off_items.proofs.numbers.body.Statement.{statement}
 use Rattle.off_items.proofs.numbers.body.Tie as tie
 
-minus-at-requires : tie.Need-minus-at-requires
-minus-at-requires c κs = search needs
-
-add-result : tie.Need-add-result
-add-result c = search needs
-
 returns : tie.Need-returns
 returns c = search body-behind
 
@@ -17,4 +11,4 @@ returns-2 : tie.Need-returns-2
 returns-2 c = search body-there
 
 pub body-spec : {M : Type 1} → statement M
-body-spec = tie.close (tie.spec minus-at-requires add-result returns returns-2)
+body-spec = tie.close (tie.spec (λ c κs. search needs) (λ c. search needs) returns returns-2)

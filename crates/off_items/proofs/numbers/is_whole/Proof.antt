@@ -4,12 +4,6 @@ use borrow.Author.Needs.{needs}
 use Rattle.off_items.proofs.numbers.is_whole.Statement.{statement}
 use Rattle.off_items.proofs.numbers.is_whole.Tie as tie
 
-body-requires : tie.Need-body-requires
-body-requires c κs = search needs
-
-digits-requires : tie.Need-digits-requires
-digits-requires c κs = search needs
-
 returns : tie.Need-returns
 returns c = search whole-digits
 
@@ -17,4 +11,4 @@ returns-2 : tie.Need-returns-2
 returns-2 c = search whole-empty
 
 pub is-whole-spec : {M : Type 1} → statement M
-is-whole-spec = tie.close (tie.spec body-requires digits-requires returns returns-2)
+is-whole-spec = tie.close (tie.spec (λ c κs. search needs) (λ c κs. search needs) returns returns-2)

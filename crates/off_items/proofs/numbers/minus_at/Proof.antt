@@ -9,12 +9,9 @@ returns : tie.Need-returns
 unfolding minusAt
 returns c = search ands
 
-byte-requires : tie.Need-byte-requires
-byte-requires c κs = search needs
-
 returns-2 : tie.Need-returns-2
 unfolding minusAt
 returns-2 c = search (ands, same)
 
 pub minus-at-spec : {M : Type 1} → statement M
-minus-at-spec = tie.close (tie.spec returns byte-requires returns-2)
+minus-at-spec = tie.close (tie.spec returns (λ c κs. search needs) returns-2)

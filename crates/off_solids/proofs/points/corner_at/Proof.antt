@@ -5,15 +5,6 @@ use borrow.Author.Needs.{needs}
 use Rattle.off_solids.proofs.points.corner_at.Statement.{statement}
 use Rattle.off_solids.proofs.points.corner_at.Tie as tie
 
-next-requires : tie.Need-next-requires
-next-requires c κs = search needs
-
-size-requires : tie.Need-size-requires
-size-requires c κs = search needs
-
-add-result : tie.Need-add-result
-add-result c = search needs
-
 returns : tie.Need-returns
 returns c =
     let n = c .before .before .next .ensures in
@@ -25,4 +16,4 @@ returns-2 c =
     (corner-told-high _ _ (n .0) (n .1) (c .before .size .ensures) (omega arith), omega arith)
 
 pub corner-at-spec : {M : Type 1} → statement M
-corner-at-spec = tie.close (tie.spec next-requires size-requires add-result returns returns-2)
+corner-at-spec = tie.close (tie.spec (λ c κs. search needs) (λ c κs. search needs) (λ c. search needs) returns returns-2)

@@ -5,24 +5,6 @@ use borrow.Author.Needs.{needs}
 use Rattle.off_solids.proofs.points.face_at.Statement.{statement}
 use Rattle.off_solids.proofs.points.face_at.Tie as tie
 
-pass-requires : tie.Need-pass-requires
-pass-requires c κs = search needs
-
-pass-requires-2 : tie.Need-pass-requires-2
-pass-requires-2 c κs = search needs
-
-pass-requires-3 : tie.Need-pass-requires-3
-pass-requires-3 c κs = search needs
-
-corner-at-requires : tie.Need-corner-at-requires
-corner-at-requires c κs = search needs
-
-corner-at-requires-2 : tie.Need-corner-at-requires-2
-corner-at-requires-2 c κs = search needs
-
-corner-at-requires-3 : tie.Need-corner-at-requires-3
-corner-at-requires-3 c κs = search needs
-
 returns : tie.Need-returns
 returns c =
     let p = c .before .before in
@@ -37,11 +19,5 @@ returns c =
 pub face-at-spec : {M : Type 1} → statement M
 face-at-spec =
     tie.close
-    (tie.spec
-    pass-requires
-    pass-requires-2
-    pass-requires-3
-    corner-at-requires
-    corner-at-requires-2
-    corner-at-requires-3
-    returns)
+    (tie.spec (λ c κs. search needs) (λ c κs. search needs) (λ c κs. search needs) (λ c κs. search needs) (λ c κs. search needs)
+    (λ c κs. search needs) returns)

@@ -5,27 +5,6 @@ use borrow.Author.Needs.{needs}
 use Rattle.off_solids.proofs.points.vertex_at.Statement.{statement}
 use Rattle.off_solids.proofs.points.vertex_at.Tie as tie
 
-next-requires : tie.Need-next-requires
-next-requires c κs = search needs
-
-next-requires-2 : tie.Need-next-requires-2
-next-requires-2 c κs = search needs
-
-next-requires-3 : tie.Need-next-requires-3
-next-requires-3 c κs = search needs
-
-told-requires : tie.Need-told-requires
-told-requires c κs = search needs
-
-told-requires-2 : tie.Need-told-requires-2
-told-requires-2 c κs = search needs
-
-told-requires-3 : tie.Need-told-requires-3
-told-requires-3 c κs = search needs
-
-weight-at-requires : tie.Need-weight-at-requires
-weight-at-requires c κs = search needs
-
 returns : tie.Need-returns
 returns c =
     let tz = c .before in
@@ -44,12 +23,5 @@ returns c =
 pub vertex-at-spec : {M : Type 1} → statement M
 vertex-at-spec =
     tie.close
-    (tie.spec
-    next-requires
-    next-requires-2
-    next-requires-3
-    told-requires
-    told-requires-2
-    told-requires-3
-    weight-at-requires
-    returns)
+    (tie.spec (λ c κs. search needs) (λ c κs. search needs) (λ c κs. search needs) (λ c κs. search needs) (λ c κs. search needs)
+    (λ c κs. search needs) (λ c κs. search needs) returns)

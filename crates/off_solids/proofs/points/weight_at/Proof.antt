@@ -5,12 +5,6 @@ use borrow.Author.Needs.{needs}
 use Rattle.off_solids.proofs.points.weight_at.Statement.{statement}
 use Rattle.off_solids.proofs.points.weight_at.Tie as tie
 
-next-requires : tie.Need-next-requires
-next-requires c κs = search needs
-
-told-requires : tie.Need-told-requires
-told-requires c κs = search needs
-
 returns : tie.Need-returns
 returns c =
     let n = c .before .next .ensures in
@@ -21,4 +15,4 @@ returns-2 : tie.Need-returns-2
 returns-2 c = weight-one _ _ _ (c .if1 .left)
 
 pub weight-at-spec : {M : Type 1} → statement M
-weight-at-spec = tie.close (tie.spec next-requires told-requires returns returns-2)
+weight-at-spec = tie.close (tie.spec (λ c κs. search needs) (λ c κs. search needs) returns returns-2)

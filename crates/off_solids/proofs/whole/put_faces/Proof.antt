@@ -64,19 +64,5 @@ returns c = search faces-all
 pub put-faces-spec : {M : Type 1} → statement M
 put-faces-spec =
     tie.close
-    (tie.spec
-    Inv-loop
-    μ-loop
-    mul-past
-    past-requires
-    loop-holds
-    mul-put-face
-    add-put-face
-    face-at-requires
-    put-face-requires
-    past-requires-2
-    add-i
-    loop-less
-    loop-again
-    same-length
-    returns)
+    (tie.spec Inv-loop μ-loop mul-past past-requires loop-holds mul-put-face add-put-face face-at-requires put-face-requires past-requires-2
+    add-i loop-less loop-again same-length returns)

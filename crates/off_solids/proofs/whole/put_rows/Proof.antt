@@ -57,17 +57,5 @@ returns c = search rows-all
 pub put-rows-spec : {M : Type 1} → statement M
 put-rows-spec =
     tie.close
-    (tie.spec
-    Inv-loop
-    μ-loop
-    loop-holds
-    mul-put-point
-    add-put-point
-    vertex-at-requires
-    put-point-requires
-    past-requires
-    add-i
-    loop-less
-    loop-again
-    same-length
-    returns)
+    (tie.spec Inv-loop μ-loop loop-holds mul-put-point add-put-point vertex-at-requires put-point-requires past-requires add-i loop-less
+    loop-again same-length returns)

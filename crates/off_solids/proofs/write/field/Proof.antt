@@ -7,12 +7,6 @@ use borrow.Author.Needs.{needs}
 use Rattle.off_solids.proofs.write.field.Statement.{statement}
 use Rattle.off_solids.proofs.write.field.Tie as tie
 
-sub-at-most : tie.Need-sub-at-most
-sub-at-most c = search needs
-
-at-most-requires : tie.Need-at-most-requires
-at-most-requires c κs = search needs
-
 unsigned-requires : tie.Need-unsigned-requires
 unsigned-requires c κs =
     (let h = told-le (c .before .args .half - 1) (c .before .args .n .size) (c .at-most .ensures) in omega arith, omega arith)
@@ -23,4 +17,4 @@ returns c =
     (field-of (a .half) (a .n .minus) (a .n .size) (c .before .at-most .ensures) (c .unsigned .ensures .0), c .unsigned .ensures .1)
 
 pub field-spec : {M : Type 1} → statement M
-field-spec = tie.close (tie.spec sub-at-most at-most-requires unsigned-requires returns)
+field-spec = tie.close (tie.spec (λ c. search needs) (λ c κs. search needs) unsigned-requires returns)

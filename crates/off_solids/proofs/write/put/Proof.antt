@@ -4,17 +4,8 @@ use borrow.Author.Needs.{needs}
 use Rattle.off_solids.proofs.write.put.Statement.{statement}
 use Rattle.off_solids.proofs.write.put.Tie as tie
 
-cast-out : tie.Need-cast-out
-cast-out c = search needs
-
-slice-write-out : tie.Need-slice-write-out
-slice-write-out c = search needs
-
-same-length : tie.Need-same-length
-same-length c = search needs
-
 returns : tie.Need-returns
 returns c = grown-one (c .args .out .now) (c .args .k) (c .args .v) (c .pre .0)
 
 pub put-spec : {M : Type 1} → statement M
-put-spec = tie.close (tie.spec cast-out slice-write-out same-length returns)
+put-spec = tie.close (tie.spec (λ c. search needs) (λ c. search needs) (λ c. search needs) returns)

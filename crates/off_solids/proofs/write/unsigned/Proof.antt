@@ -8,12 +8,6 @@ use Rattle.off_solids.proofs.write.unsigned.Tie as tie
 returns : tie.Need-returns
 returns c = (unsigned-zero (c .before .args .half) (c .before .args .minus) _ (omega arith), omega arith)
 
-add-result : tie.Need-add-result
-add-result c = search needs
-
-sub-result : tie.Need-sub-result
-sub-result c = search needs
-
 returns-2 : tie.Need-returns-2
 returns-2 c = (unsigned-under (c .before .before .args .half) _ (c .if2 .taken) (c .before .if1 .left), omega arith)
 
@@ -21,4 +15,4 @@ returns-3 : tie.Need-returns-3
 returns-3 c = (unsigned-above (c .before .before .args .half) _ (c .if2 .left), omega arith)
 
 pub unsigned-spec : {M : Type 1} → statement M
-unsigned-spec = tie.close (tie.spec returns add-result sub-result returns-2 returns-3)
+unsigned-spec = tie.close (tie.spec returns (λ c. search needs) (λ c. search needs) returns-2 returns-3)

@@ -4,21 +4,6 @@ use borrow.Author.Needs.{needs}
 use Rattle.off_words.proofs.records.of_first.Statement.{statement}
 use Rattle.off_words.proofs.records.of_first.Tie as tie
 
-word-requires : tie.Need-word-requires
-word-requires c κs = search needs
-
-next-number-requires : tie.Need-next-number-requires
-next-number-requires c κs = search needs
-
-slice-aggregate-word : tie.Need-slice-aggregate-word
-slice-aggregate-word c = search needs
-
-word-requires-2 : tie.Need-word-requires-2
-word-requires-2 c κs = search needs
-
-same-length : tie.Need-same-length
-same-length c = search needs
-
 returns : tie.Need-returns
 returns c =
     let r3 = c .before .before in
@@ -29,10 +14,4 @@ returns c =
 pub of-first-spec : {M : Type 1} → statement M
 of-first-spec =
     tie.close
-    (tie.spec
-    word-requires
-    next-number-requires
-    slice-aggregate-word
-    word-requires-2
-    same-length
-    returns)
+    (tie.spec (λ c κs. search needs) (λ c κs. search needs) (λ c. search needs) (λ c κs. search needs) (λ c. search needs) returns)

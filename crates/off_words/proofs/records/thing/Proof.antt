@@ -4,26 +4,11 @@ use borrow.Author.Needs.{needs}
 use Rattle.off_words.proofs.records.thing.Statement.{statement}
 use Rattle.off_words.proofs.records.thing.Tie as tie
 
-minus-requires : tie.Need-minus-requires
-minus-requires c κs = search needs
-
-piece-requires : tie.Need-piece-requires
-piece-requires c κs = search needs
-
-same-length : tie.Need-same-length
-same-length c = search needs
-
 returns : tie.Need-returns
 returns c =
     let r = c .before .before in
     let t = r .before .before .before in
     picked _ _ _ _ (t .if1 .taken) (point-put _ _ _ (r .before .minus .ensures) (r .piece .ensures))
-
-place-requires : tie.Need-place-requires
-place-requires c κs = search needs
-
-same-length-2 : tie.Need-same-length-2
-same-length-2 c = search needs
 
 returns-2 : tie.Need-returns-2
 returns-2 c =
@@ -33,11 +18,5 @@ returns-2 c =
 pub thing-spec : {M : Type 1} → statement M
 thing-spec =
     tie.close
-    (tie.spec
-    minus-requires
-    piece-requires
-    same-length
-    returns
-    place-requires
-    same-length-2
+    (tie.spec (λ c κs. search needs) (λ c κs. search needs) (λ c. search needs) returns (λ c κs. search needs) (λ c. search needs)
     returns-2)

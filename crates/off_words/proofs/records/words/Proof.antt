@@ -5,21 +5,6 @@ use borrow.Author.Needs.{needs}
 use Rattle.off_words.proofs.records.words.Statement.{statement}
 use Rattle.off_words.proofs.records.words.Tie as tie
 
-number-requires : tie.Need-number-requires
-number-requires c κs = search needs
-
-place-requires : tie.Need-place-requires
-place-requires c κs = search needs
-
-thing-requires : tie.Need-thing-requires
-thing-requires c κs = search needs
-
-rule-requires : tie.Need-rule-requires
-rule-requires c κs = search needs
-
-same-length : tie.Need-same-length
-same-length c = search needs
-
 returns : tie.Need-returns
 returns c =
     let r2 = c .before .before in
@@ -31,4 +16,4 @@ returns c =
 pub words-spec : {M : Type 1} → statement M
 words-spec =
     tie.close
-    (tie.spec number-requires place-requires thing-requires rule-requires same-length returns)
+    (tie.spec (λ c κs. search needs) (λ c κs. search needs) (λ c κs. search needs) (λ c κs. search needs) (λ c. search needs) returns)

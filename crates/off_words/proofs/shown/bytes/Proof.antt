@@ -33,16 +33,5 @@ returns-2 c =
 pub bytes-spec : {M : Type 1} → statement M
 bytes-spec =
     tie.close
-    (tie.spec
-    Inv-loop
-    μ-loop
-    (λ c. put-full _ _ _ (c .if1 .taken))
-    loop-holds
-    (search needs)
-    (search needs)
-    (search needs)
-    (search needs)
-    (search needs)
-    loop-again
-    (search needs)
-    returns-2)
+    (tie.spec Inv-loop μ-loop (λ c. put-full _ _ _ (c .if1 .taken)) loop-holds (search needs) (search needs) (search needs) (search needs)
+    (search needs) loop-again (search needs) returns-2)

@@ -27,13 +27,5 @@ returns-2 c =
 pub shown-spec : {M : Type 1} → statement M
 shown-spec =
     tie.close
-    (tie.spec
-    (search needs)
-    (search needs)
-    returns
-    slice-aggregate-bytes
-    (search needs)
-    (search needs)
-    (search needs)
-    (search needs)
+    (tie.spec (search needs) (search needs) returns slice-aggregate-bytes (search needs) (search needs) (search needs) (search needs)
     returns-2)

@@ -42,14 +42,4 @@ returns c = search turns
 pub last-spec : {M : Type 1} → statement M
 last-spec =
     tie.close
-    (tie.spec
-    Inv-loop
-    μ-loop
-    loop-holds
-    shared-slice-read-c
-    line-behind-requires
-    column-behind-requires
-    add-i
-    loop-less
-    loop-again
-    returns)
+    (tie.spec Inv-loop μ-loop loop-holds shared-slice-read-c line-behind-requires column-behind-requires add-i loop-less loop-again returns)

@@ -6,14 +6,8 @@ use borrow.Author.Needs.{needs}
 use Rattle.off_words.proofs.spots.spot_of.Statement.{statement}
 use Rattle.off_words.proofs.spots.spot_of.Tie as tie
 
-least-requires : tie.Need-least-requires
-least-requires c κs = search needs
-
 slice-aggregate-last : tie.Need-slice-aggregate-last
 slice-aggregate-last c = sym (length-take-le _ _ (c .before .least .ensures .1))
-
-last-requires : tie.Need-last-requires
-last-requires c κs = search needs
 
 returns : tie.Need-returns
 returns c =
@@ -22,4 +16,4 @@ returns c =
     (c .last .ensures .0 ∙ ap (lineAfter 1) e, c .last .ensures .1 ∙ ap (columnAfter 1) e)
 
 pub spot-of-spec : {M : Type 1} → statement M
-spot-of-spec = tie.close (tie.spec least-requires slice-aggregate-last last-requires returns)
+spot-of-spec = tie.close (tie.spec (λ c κs. search needs) slice-aggregate-last (λ c κs. search needs) returns)

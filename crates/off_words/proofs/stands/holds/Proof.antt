@@ -15,13 +15,5 @@ abbrev μ-loop : tie.MeasureT-loop
 pub holds-spec : {M : Type 1} → statement M
 holds-spec =
     tie.close
-    (tie.spec
-    Inv-loop
-    μ-loop
-    (λ c. refl)
-    (λ c. search finds)
-    (λ c. search finds)
-    (λ c. search finds)
-    (λ c. search finds)
-    (λ c. search finds)
-    (λ c. search finds))
+    (tie.spec Inv-loop μ-loop (λ c. refl) (λ c. search finds) (λ c. search finds) (λ c. search finds) (λ c. search finds)
+    (λ c. search finds) (λ c. search finds))

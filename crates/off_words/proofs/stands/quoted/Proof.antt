@@ -14,10 +14,4 @@ returns c =
 pub quoted-spec : {M : Type 1} → statement M
 quoted-spec =
     tie.close
-    (tie.spec
-    (search needs)
-    (search needs)
-    (search needs)
-    (search needs)
-    (search needs)
-    returns)
+    (tie.spec (search needs) (search needs) (search needs) (search needs) (search needs) returns)

@@ -35,16 +35,5 @@ returns-7 c = search (is-so, is-not-so) depth 16
 pub stand-of-spec : {M : Type 1} → statement M
 stand-of-spec =
     tie.close
-    (tie.spec
-    (search needs)
-    returns
-    (search needs)
-    returns-2
-    (search needs)
-    returns-3
-    returns-4
-    (search needs)
-    returns-5
-    (search needs)
-    returns-6
-    returns-7)
+    (tie.spec (search needs) returns (search needs) returns-2 (search needs) returns-3 returns-4 (search needs) returns-5 (search needs)
+    returns-6 returns-7)

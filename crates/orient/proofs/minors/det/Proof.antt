@@ -6,12 +6,6 @@ use Rattle.orient.specs.Minors.{meetOf, minors-are}
 use Rattle.orient.proofs.minors.det.Statement.{statement}
 use Rattle.orient.proofs.minors.det.Tie as tie
 
-join-requires : tie.Need-join-requires
-join-requires c κs = search needs
-
-join-requires-2 : tie.Need-join-requires-2
-join-requires-2 c κs = search needs
-
 meet-requires : tie.Need-meet-requires
 meet-requires c κs = rw (c .before .join .ensures, c .join2 .ensures) (c .before .before .pre .whole)
 
@@ -21,4 +15,4 @@ returns c =
     (c .meet .ensures ∙ (λ i. meetOf (c .before .before .join .ensures i) (c .before .join2 .ensures i)) ∙ minors-are _ _ _ _)
 
 pub det-spec : {M : Type 1} → statement M
-det-spec = tie.close (tie.spec join-requires join-requires-2 meet-requires returns)
+det-spec = tie.close (tie.spec (λ c κs. search needs) (λ c κs. search needs) meet-requires returns)

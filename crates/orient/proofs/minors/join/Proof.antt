@@ -10,21 +10,6 @@ a-fits c = search needs
 b-fits : (c : tie.Start) → RowFits (c .args .b)
 b-fits c = search needs
 
-cross-requires : tie.Need-cross-requires
-cross-requires c κs = search needs
-
-cross-requires-2 : tie.Need-cross-requires-2
-cross-requires-2 c κs = search needs
-
-cross-requires-3 : tie.Need-cross-requires-3
-cross-requires-3 c κs = search needs
-
-cross-requires-4 : tie.Need-cross-requires-4
-cross-requires-4 c κs = search needs
-
-cross-requires-5 : tie.Need-cross-requires-5
-cross-requires-5 c κs = search needs
-
 cross-requires-6 : tie.Need-cross-requires-6
 cross-requires-6 c κs =
     let s = c .before .before .before .before .before .before .before .before .before .before .before .before .before in
@@ -53,11 +38,5 @@ returns c =
 pub join-spec : {M : Type 1} → statement M
 join-spec =
     tie.close
-    (tie.spec
-    cross-requires
-    cross-requires-2
-    cross-requires-3
-    cross-requires-4
-    cross-requires-5
-    cross-requires-6
-    returns)
+    (tie.spec (λ c κs. search needs) (λ c κs. search needs) (λ c κs. search needs) (λ c κs. search needs) (λ c κs. search needs)
+    cross-requires-6 returns)

@@ -8,15 +8,6 @@ use Rattle.orient.specs.OnesSizes.{seen-formed}
 use Rattle.orient.proofs.ones.part.Statement.{statement}
 use Rattle.orient.proofs.ones.part.Tie as tie
 
-seen-requires : tie.Need-seen-requires
-seen-requires c κs = search needs
-
-seen-requires-2 : tie.Need-seen-requires-2
-seen-requires-2 c κs = search needs
-
-seen-requires-3 : tie.Need-seen-requires-3
-seen-requires-3 c κs = search needs
-
 triple-requires : tie.Need-triple-requires
 triple-requires c κs =
     let s = c .before .before .before in
@@ -32,4 +23,4 @@ returns c =
     (c .triple .ensures ∙ (λ i. tripleOf (d2 .before .seen .ensures i) (d2 .seen2 .ensures i) (d3 .seen3 .ensures i)))
 
 pub part-spec : {M : Type 1} → statement M
-part-spec = tie.close (tie.spec seen-requires seen-requires-2 seen-requires-3 triple-requires returns)
+part-spec = tie.close (tie.spec (λ c κs. search needs) (λ c κs. search needs) (λ c κs. search needs) triple-requires returns)

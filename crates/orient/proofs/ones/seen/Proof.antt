@@ -6,12 +6,6 @@ use Rattle.orient.specs.OnesSizes.{seen-less}
 use Rattle.orient.proofs.ones.seen.Statement.{statement}
 use Rattle.orient.proofs.ones.seen.Tie as tie
 
-shifted-requires : tie.Need-shifted-requires
-shifted-requires c κs = search needs
-
-shifted-requires-2 : tie.Need-shifted-requires-2
-shifted-requires-2 c κs = search needs
-
 less-requires : tie.Need-less-requires
 less-requires c κs =
     let s = c .before .before in
@@ -21,4 +15,4 @@ returns : tie.Need-returns
 returns c = c .less .ensures ∙ (λ i. lessOf (c .before .before .shifted .ensures i) (c .before .shifted2 .ensures i))
 
 pub seen-spec : {M : Type 1} → statement M
-seen-spec = tie.close (tie.spec shifted-requires shifted-requires-2 less-requires returns)
+seen-spec = tie.close (tie.spec (λ c κs. search needs) (λ c κs. search needs) less-requires returns)

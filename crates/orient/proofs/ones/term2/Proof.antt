@@ -9,15 +9,6 @@ use Rattle.orient.specs.OnesSizes.{seen-held}
 use Rattle.orient.proofs.ones.term2.Statement.{statement}
 use Rattle.orient.proofs.ones.term2.Tie as tie
 
-part-requires : tie.Need-part-requires
-part-requires c κs = search needs
-
-part-requires-2 : tie.Need-part-requires-2
-part-requires-2 c κs = search needs
-
-part-requires-3 : tie.Need-part-requires-3
-part-requires-3 c κs = search needs
-
 sum-requires : tie.Need-sum-requires
 sum-requires c κs =
     let v = c .before .before .before .pre .0 in
@@ -34,4 +25,4 @@ returns c =
     ∙ c2-seen (s .pre .1)
 
 pub term2-spec : {M : Type 1} → statement M
-term2-spec = tie.close (tie.spec part-requires part-requires-2 part-requires-3 sum-requires returns)
+term2-spec = tie.close (tie.spec (λ c κs. search needs) (λ c κs. search needs) (λ c κs. search needs) sum-requires returns)

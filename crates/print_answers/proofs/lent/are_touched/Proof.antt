@@ -38,13 +38,4 @@ returns-2 c = search loops
 pub are-touched-spec : {M : Type 1} → statement M
 are-touched-spec =
     tie.close
-    (tie.spec
-    Inv-loop
-    μ-loop
-    loop-holds
-    is-touched-requires
-    returns
-    add-i
-    loop-less
-    loop-again
-    returns-2)
+    (tie.spec Inv-loop μ-loop loop-holds is-touched-requires returns add-i loop-less loop-again returns-2)

@@ -46,15 +46,4 @@ returns c = search (needs, fill-all)
 pub fill-spec : {M : Type 1} → statement M
 fill-spec =
     tie.close
-    (tie.spec
-    Inv-loop
-    μ-loop
-    loop-holds
-    pattern-requires
-    mul-l
-    slice-write-l
-    add-i
-    loop-less
-    loop-again
-    same-length
-    returns)
+    (tie.spec Inv-loop μ-loop loop-holds pattern-requires mul-l slice-write-l add-i loop-less loop-again same-length returns)

@@ -6,23 +6,8 @@ use borrow.Author.Needs.{needs}
 use Rattle.print_answers.proofs.lent.lend.Statement.{statement}
 use Rattle.print_answers.proofs.lent.lend.Tie as tie
 
-fill-requires : tie.Need-fill-requires
-fill-requires c κs = search needs
-
-least-requires : tie.Need-least-requires
-least-requires c κs = search needs
-
-slice-relend-prefix-listing : tie.Need-slice-relend-prefix-listing
-slice-relend-prefix-listing c = search needs
-
 slice-aggregate-listing : tie.Need-slice-aggregate-listing
 slice-aggregate-listing c = simp length-take (omega arith)
-
-listing-requires : tie.Need-listing-requires
-listing-requires c κs = search needs
-
-same-length : tie.Need-same-length
-same-length c = search needs
 
 returns : tie.Need-returns
 returns c = search (needs, lent-is)
@@ -30,11 +15,5 @@ returns c = search (needs, lent-is)
 pub lend-spec : {M : Type 1} → statement M
 lend-spec =
     tie.close
-    (tie.spec
-    fill-requires
-    least-requires
-    slice-relend-prefix-listing
-    slice-aggregate-listing
-    listing-requires
-    same-length
-    returns)
+    (tie.spec (λ c κs. search needs) (λ c κs. search needs) (λ c. search needs) slice-aggregate-listing (λ c κs. search needs)
+    (λ c. search needs) returns)

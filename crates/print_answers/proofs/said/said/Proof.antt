@@ -4,18 +4,6 @@ use borrow.Author.Needs.{needs}
 use Rattle.print_answers.proofs.said.said.Statement.{statement}
 use Rattle.print_answers.proofs.said.said.Tie as tie
 
-word-requires : tie.Need-word-requires
-word-requires c κs = search needs
-
-next-word-requires : tie.Need-next-word-requires
-next-word-requires c κs = search needs
-
-newline-requires : tie.Need-newline-requires
-newline-requires c κs = search needs
-
-same-length : tie.Need-same-length
-same-length c = search needs
-
 returns : tie.Need-returns
 returns c =
     let r3 = c .before .before in
@@ -25,4 +13,4 @@ returns c =
 
 pub said-spec : {M : Type 1} → statement M
 said-spec =
-    tie.close (tie.spec word-requires next-word-requires newline-requires same-length returns)
+    tie.close (tie.spec (λ c κs. search needs) (λ c κs. search needs) (λ c κs. search needs) (λ c. search needs) returns)

@@ -5,24 +5,6 @@ use borrow.Author.Needs.{needs}
 use Rattle.print_answers.proofs.said.terms.Statement.{statement}
 use Rattle.print_answers.proofs.said.terms.Tie as tie
 
-next-signed-requires : tie.Need-next-signed-requires
-next-signed-requires c κs = search needs
-
-next-signed-requires-2 : tie.Need-next-signed-requires-2
-next-signed-requires-2 c κs = search needs
-
-next-signed-requires-3 : tie.Need-next-signed-requires-3
-next-signed-requires-3 c κs = search needs
-
-next-signed-requires-4 : tie.Need-next-signed-requires-4
-next-signed-requires-4 c κs = search needs
-
-newline-requires : tie.Need-newline-requires
-newline-requires c κs = search needs
-
-same-length : tie.Need-same-length
-same-length c = search needs
-
 returns : tie.Need-returns
 returns c =
     let r5 = c .before .before in
@@ -41,11 +23,5 @@ returns c =
 pub terms-spec : {M : Type 1} → statement M
 terms-spec =
     tie.close
-    (tie.spec
-    next-signed-requires
-    next-signed-requires-2
-    next-signed-requires-3
-    next-signed-requires-4
-    newline-requires
-    same-length
-    returns)
+    (tie.spec (λ c κs. search needs) (λ c κs. search needs) (λ c κs. search needs) (λ c κs. search needs) (λ c κs. search needs)
+    (λ c. search needs) returns)

@@ -5,21 +5,6 @@ use borrow.Author.Needs.{needs}
 use Rattle.print_lines.proofs.head.four_lines.Statement.{statement}
 use Rattle.print_lines.proofs.head.four_lines.Tie as tie
 
-header-requires : tie.Need-header-requires
-header-requires c κs = search needs
-
-verdict-line-requires : tie.Need-verdict-line-requires
-verdict-line-requires c κs = search needs
-
-inside-requires : tie.Need-inside-requires
-inside-requires c κs = search needs
-
-pairs-requires : tie.Need-pairs-requires
-pairs-requires c κs = search needs
-
-same-length : tie.Need-same-length
-same-length c = search needs
-
 returns : tie.Need-returns
 returns c =
     let r4 = c .before .before in
@@ -32,10 +17,4 @@ returns c =
 pub four-lines-spec : {M : Type 1} → statement M
 four-lines-spec =
     tie.close
-    (tie.spec
-    header-requires
-    verdict-line-requires
-    inside-requires
-    pairs-requires
-    same-length
-    returns)
+    (tie.spec (λ c κs. search needs) (λ c κs. search needs) (λ c κs. search needs) (λ c κs. search needs) (λ c. search needs) returns)

@@ -49,16 +49,5 @@ returns-2 c = spaced-all _ _ (c .before .loop .inv .1) (c .loop-test .left)
 pub bytes-spec : {M : Type 1} → statement M
 bytes-spec =
     tie.close
-    (tie.spec
-    Inv-loop
-    μ-loop
-    returns
-    loop-holds
-    shared-slice-read-next-number
-    cast-next-number
-    next-number-requires
-    add-i
-    loop-less
-    loop-again
-    same-length
-    returns-2)
+    (tie.spec Inv-loop μ-loop returns loop-holds shared-slice-read-next-number cast-next-number next-number-requires add-i loop-less
+    loop-again same-length returns-2)

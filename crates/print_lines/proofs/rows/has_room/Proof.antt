@@ -10,8 +10,5 @@ use Rattle.print_lines.proofs.rows.has_room.Tie as tie
 returns : tie.Need-returns
 returns c = sym (lt-leb 18 (c .before .args .bytes - c .before .args .at) (omega arith))
 
-returns-2 : tie.Need-returns-2
-returns-2 c = search needs
-
 pub has-room-spec : {M : Type 1} → statement M
-has-room-spec = tie.close (tie.spec returns returns-2)
+has-room-spec = tie.close (tie.spec returns (λ c. search needs))

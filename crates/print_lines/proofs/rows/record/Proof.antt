@@ -5,21 +5,6 @@ use borrow.Author.Needs.{needs}
 use Rattle.print_lines.proofs.rows.record.Statement.{statement}
 use Rattle.print_lines.proofs.rows.record.Tie as tie
 
-slice-aggregate-word : tie.Need-slice-aggregate-word
-slice-aggregate-word c = search needs
-
-word-requires : tie.Need-word-requires
-word-requires c κs = search needs
-
-bytes-requires : tie.Need-bytes-requires
-bytes-requires c κs = search needs
-
-newline-requires : tie.Need-newline-requires
-newline-requires c κs = search needs
-
-same-length : tie.Need-same-length
-same-length c = search needs
-
 returns : tie.Need-returns
 returns c =
     let r3 = c .before .before in
@@ -30,10 +15,4 @@ returns c =
 pub record-spec : {M : Type 1} → statement M
 record-spec =
     tie.close
-    (tie.spec
-    slice-aggregate-word
-    word-requires
-    bytes-requires
-    newline-requires
-    same-length
-    returns)
+    (tie.spec (λ c. search needs) (λ c κs. search needs) (λ c κs. search needs) (λ c κs. search needs) (λ c. search needs) returns)

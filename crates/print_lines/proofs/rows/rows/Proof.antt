@@ -102,29 +102,6 @@ returns-3 c =
 pub rows-spec : {M : Type 1} → statement M
 rows-spec =
     tie.close
-    (tie.spec
-    Inv-loop
-    μ-loop
-    returns
-    least-requires
-    loop-holds
-    has-room-requires
-    same-length
-    returns-2
-    mul-row
-    mul-row-2
-    shared-slice-read-row
-    mul-row-3
-    add-row
-    mul-row-4
-    shared-slice-read-row-2
-    mul-row-5
-    add-row-2
-    mul-row-6
-    shared-slice-read-row-3
-    row-requires
-    add-i
-    loop-less
-    loop-again
-    same-length-2
-    returns-3)
+    (tie.spec Inv-loop μ-loop returns least-requires loop-holds has-room-requires same-length returns-2 mul-row mul-row-2
+    shared-slice-read-row mul-row-3 add-row mul-row-4 shared-slice-read-row-2 mul-row-5 add-row-2 mul-row-6 shared-slice-read-row-3
+    row-requires add-i loop-less loop-again same-length-2 returns-3)

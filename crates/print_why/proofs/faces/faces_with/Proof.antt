@@ -53,19 +53,5 @@ returns c = search needs
 pub faces-with-spec : {M : Type 1} → statement M
 faces-with-spec =
     tie.close
-    (tie.spec
-    Inv-loop
-    μ-loop
-    solid-in-requires
-    add-end
-    loop-holds
-    add-f
-    add-is-edge
-    add-is-edge-2
-    is-edge-requires
-    add-n
-    loop-less
-    loop-again
-    loop-less-2
-    loop-again-2
-    returns)
+    (tie.spec Inv-loop μ-loop solid-in-requires add-end loop-holds add-f add-is-edge add-is-edge-2 is-edge-requires add-n loop-less
+    loop-again loop-less-2 loop-again-2 returns)

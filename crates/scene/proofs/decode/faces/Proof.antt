@@ -62,17 +62,5 @@ returns c =
 pub faces-spec : {M : Type 1} → statement M
 faces-spec =
     tie.close
-    (tie.spec
-    Inv-loop
-    μ-loop
-    byte-requires
-    byte-requires-2
-    add-n
-    add-n-2
-    loop-holds
-    corners-requires
-    put-face-requires
-    add-k
-    loop-less
-    loop-again
-    returns)
+    (tie.spec Inv-loop μ-loop byte-requires byte-requires-2 add-n add-n-2 loop-holds corners-requires put-face-requires add-k loop-less
+    loop-again returns)

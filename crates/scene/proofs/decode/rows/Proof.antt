@@ -62,17 +62,5 @@ returns c =
 pub rows-spec : {M : Type 1} → statement M
 rows-spec =
     tie.close
-    (tie.spec
-    Inv-loop
-    μ-loop
-    byte-requires
-    byte-requires-2
-    add-n
-    add-n-2
-    loop-holds
-    row-requires
-    put-row-requires
-    add-i
-    loop-less
-    loop-again
-    returns)
+    (tie.spec Inv-loop μ-loop byte-requires byte-requires-2 add-n add-n-2 loop-holds row-requires put-row-requires add-i loop-less
+    loop-again returns)

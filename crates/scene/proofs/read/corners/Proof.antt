@@ -7,43 +7,16 @@ use borrow.Author.Needs.{needs}
 use Rattle.scene.proofs.read.corners.Statement.{statement}
 use Rattle.scene.proofs.read.corners.Tie as tie
 
-byte-requires : tie.Need-byte-requires
-byte-requires c κs = search needs
-
 returns : tie.Need-returns
 returns c =
     let a = c .before .before .before .args in sym (face-zero (now (a .s)) {k = a .k} (omega arith))
-
-byte-requires-2 : tie.Need-byte-requires-2
-byte-requires-2 c κs = search needs
-
-add-if2 : tie.Need-add-if2
-add-if2 c = search needs
 
 returns-2 : tie.Need-returns-2
 returns-2 c =
     let a = c .before .before .before .before .before .args in sym (face-none (now (a .s)) (a .k) (omega arith))
 
-sub-face-at : tie.Need-sub-face-at
-sub-face-at c = search needs
-
-face-at-requires : tie.Need-face-at-requires
-face-at-requires c κs = search needs
-
 returns-3 : tie.Need-returns-3
 returns-3 c = c .before .face-at .ensures .0 ∙ sym (face-a _ _ (omega arith) (omega arith))
-
-byte-requires-3 : tie.Need-byte-requires-3
-byte-requires-3 c κs = search needs
-
-add-t7 : tie.Need-add-t7
-add-t7 c = search needs
-
-add-t8 : tie.Need-add-t8
-add-t8 c = search needs
-
-add-t9 : tie.Need-add-t9
-add-t9 c = search needs
 
 returns-4 : tie.Need-returns-4
 returns-4 c =
@@ -56,17 +29,5 @@ returns-4 c =
 pub corners-spec : {M : Type 1} → statement M
 corners-spec =
     tie.close
-    (tie.spec
-    byte-requires
-    returns
-    byte-requires-2
-    add-if2
-    returns-2
-    sub-face-at
-    face-at-requires
-    returns-3
-    byte-requires-3
-    add-t7
-    add-t8
-    add-t9
-    returns-4)
+    (tie.spec (λ c κs. search needs) returns (λ c κs. search needs) (λ c. search needs) returns-2 (λ c. search needs) (λ c κs. search needs)
+    returns-3 (λ c κs. search needs) (λ c. search needs) (λ c. search needs) (λ c. search needs) returns-4)

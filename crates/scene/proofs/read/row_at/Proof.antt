@@ -3,36 +3,6 @@ use borrow.Author.Needs.{needs}
 use Rattle.scene.proofs.read.row_at.Statement.{statement}
 use Rattle.scene.proofs.read.row_at.Tie as tie
 
-mul-at : tie.Need-mul-at
-mul-at c = search needs
-
-add-at : tie.Need-add-at
-add-at c = search needs
-
-add-coordinate : tie.Need-add-coordinate
-add-coordinate c = search needs
-
-coordinate-requires : tie.Need-coordinate-requires
-coordinate-requires c κs = search needs
-
-add-coordinate-2 : tie.Need-add-coordinate-2
-add-coordinate-2 c = search needs
-
-coordinate-requires-2 : tie.Need-coordinate-requires-2
-coordinate-requires-2 c κs = search needs
-
-add-coordinate-3 : tie.Need-add-coordinate-3
-add-coordinate-3 c = search needs
-
-coordinate-requires-3 : tie.Need-coordinate-requires-3
-coordinate-requires-3 c κs = search needs
-
-add-weight : tie.Need-add-weight
-add-weight c = search needs
-
-weight-requires : tie.Need-weight-requires
-weight-requires c κs = search needs
-
 returns : tie.Need-returns
 returns c =
     let x = c .before .before .before in
@@ -49,15 +19,5 @@ returns c =
 pub row-at-spec : {M : Type 1} → statement M
 row-at-spec =
     tie.close
-    (tie.spec
-    mul-at
-    add-at
-    add-coordinate
-    coordinate-requires
-    add-coordinate-2
-    coordinate-requires-2
-    add-coordinate-3
-    coordinate-requires-3
-    add-weight
-    weight-requires
-    returns)
+    (tie.spec (λ c. search needs) (λ c. search needs) (λ c. search needs) (λ c κs. search needs) (λ c. search needs) (λ c κs. search needs)
+    (λ c. search needs) (λ c κs. search needs) (λ c. search needs) (λ c κs. search needs) returns)

@@ -4,9 +4,6 @@ use borrow.Author.Needs.{needs}
 use Rattle.scene.proofs.read.solid.Statement.{statement}
 use Rattle.scene.proofs.read.solid.Tie as tie
 
-counts-requires : tie.Need-counts-requires
-counts-requires c κs = search needs
-
 returns : tie.Need-returns
 returns c = search (counted-a, needs)
 
@@ -14,4 +11,4 @@ returns-2 : tie.Need-returns-2
 returns-2 c = search (counted-b, needs)
 
 pub solid-spec : {M : Type 1} → statement M
-solid-spec = tie.close (tie.spec counts-requires returns returns-2)
+solid-spec = tie.close (tie.spec (λ c κs. search needs) returns returns-2)

@@ -44,14 +44,4 @@ returns c = copy-all _ _ (c .before .loop .inv .1) (le-antisymm (c .before .loop
 pub copy-spec : {M : Type 1} → statement M
 copy-spec =
     tie.close
-    (tie.spec
-    Inv-loop
-    μ-loop
-    loop-holds
-    shared-slice-read-out
-    slice-write-out
-    add-i
-    loop-less
-    loop-again
-    same-length
-    returns)
+    (tie.spec Inv-loop μ-loop loop-holds shared-slice-read-out slice-write-out add-i loop-less loop-again same-length returns)

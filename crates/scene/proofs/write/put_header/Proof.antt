@@ -7,37 +7,16 @@ use borrow.Author.Needs.{needs}
 use Rattle.scene.proofs.write.put_header.Statement.{statement}
 use Rattle.scene.proofs.write.put_header.Tie as tie
 
-put-two-requires : tie.Need-put-two-requires
-put-two-requires c κs = search needs
-
-cast-out : tie.Need-cast-out
-cast-out c = search needs
-
-slice-write-out : tie.Need-slice-write-out
-slice-write-out c = search needs
-
-cast-out-2 : tie.Need-cast-out-2
-cast-out-2 c = search needs
-
 slice-write-out-2 : tie.Need-slice-write-out-2
 slice-write-out-2 c = simp length-set (omega (arith, ap length (c .before .before .before .before .put-two .ensures) ∙ two-length _ _ _))
-
-cast-out-3 : tie.Need-cast-out-3
-cast-out-3 c = search needs
 
 slice-write-out-3 : tie.Need-slice-write-out-3
 slice-write-out-3 c =
     simp length-set (omega (arith, ap length (c .before .before .before .before .before .put-two .ensures) ∙ two-length _ _ _))
 
-cast-out-4 : tie.Need-cast-out-4
-cast-out-4 c = search needs
-
 slice-write-out-4 : tie.Need-slice-write-out-4
 slice-write-out-4 c =
     simp length-set (omega (arith, ap length (c .before .before .before .before .before .before .put-two .ensures) ∙ two-length _ _ _))
-
-same-length : tie.Need-same-length
-same-length c = search needs
 
 returns : tie.Need-returns
 returns c = header-stored _ _ (c .before .before .before .before .before .before .put-two .ensures)
@@ -45,15 +24,5 @@ returns c = header-stored _ _ (c .before .before .before .before .before .before
 pub put-header-spec : {M : Type 1} → statement M
 put-header-spec =
     tie.close
-    (tie.spec
-    put-two-requires
-    cast-out
-    slice-write-out
-    cast-out-2
-    slice-write-out-2
-    cast-out-3
-    slice-write-out-3
-    cast-out-4
-    slice-write-out-4
-    same-length
-    returns)
+    (tie.spec (λ c κs. search needs) (λ c. search needs) (λ c. search needs) (λ c. search needs) slice-write-out-2 (λ c. search needs)
+    slice-write-out-3 (λ c. search needs) slice-write-out-4 (λ c. search needs) returns)

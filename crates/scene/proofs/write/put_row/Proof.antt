@@ -10,51 +10,6 @@ use borrow.Author.Needs.{needs}
 use Rattle.scene.proofs.write.put_row.Statement.{statement}
 use Rattle.scene.proofs.write.put_row.Tie as tie
 
-mul-at : tie.Need-mul-at
-mul-at c = search needs
-
-add-at : tie.Need-add-at
-add-at c = search needs
-
-add-put-two : tie.Need-add-put-two
-add-put-two c = search needs
-
-unsigned-requires : tie.Need-unsigned-requires
-unsigned-requires c κs = search needs
-
-put-two-requires : tie.Need-put-two-requires
-put-two-requires c κs = search needs
-
-add-put-two-2 : tie.Need-add-put-two-2
-add-put-two-2 c = search needs
-
-unsigned-requires-2 : tie.Need-unsigned-requires-2
-unsigned-requires-2 c κs = search needs
-
-put-two-requires-2 : tie.Need-put-two-requires-2
-put-two-requires-2 c κs = search needs
-
-add-put-two-3 : tie.Need-add-put-two-3
-add-put-two-3 c = search needs
-
-unsigned-requires-3 : tie.Need-unsigned-requires-3
-unsigned-requires-3 c κs = search needs
-
-put-two-requires-3 : tie.Need-put-two-requires-3
-put-two-requires-3 c κs = search needs
-
-unsigned-requires-4 : tie.Need-unsigned-requires-4
-unsigned-requires-4 c κs = search needs
-
-cast-out : tie.Need-cast-out
-cast-out c = search needs
-
-add-out : tie.Need-add-out
-add-out c = search needs
-
-slice-write-out : tie.Need-slice-write-out
-slice-write-out c = search needs
-
 returns : tie.Need-returns
 returns c =
     let p =
@@ -79,21 +34,6 @@ same-length c = ap length (returns c) ∙ row-length _ _ _
 pub put-row-spec : {M : Type 1} → statement M
 put-row-spec =
     tie.close
-    (tie.spec
-    mul-at
-    add-at
-    add-put-two
-    unsigned-requires
-    put-two-requires
-    add-put-two-2
-    unsigned-requires-2
-    put-two-requires-2
-    add-put-two-3
-    unsigned-requires-3
-    put-two-requires-3
-    unsigned-requires-4
-    cast-out
-    add-out
-    slice-write-out
-    same-length
-    returns)
+    (tie.spec (λ c. search needs) (λ c. search needs) (λ c. search needs) (λ c κs. search needs) (λ c κs. search needs) (λ c. search needs)
+    (λ c κs. search needs) (λ c κs. search needs) (λ c. search needs) (λ c κs. search needs) (λ c κs. search needs) (λ c κs. search needs)
+    (λ c. search needs) (λ c. search needs) (λ c. search needs) same-length returns)

@@ -9,12 +9,6 @@ use borrow.Author.Needs.{needs}
 use Rattle.scene.proofs.write.unsigned.Statement.{statement}
 use Rattle.scene.proofs.write.unsigned.Tie as tie
 
-add-result : tie.Need-add-result
-add-result c = search needs
-
-sub-result : tie.Need-sub-result
-sub-result c = search needs
-
 sub-result-2 : tie.Need-sub-result-2
 sub-result-2 c =
     let b = below _ (c .before .fits .v) (c .if1 .taken) in
@@ -51,12 +45,4 @@ returns-2 c =
 pub unsigned-spec : {M : Type 1} → statement M
 unsigned-spec =
     tie.close
-    (tie.spec
-    add-result
-    sub-result
-    sub-result-2
-    cast-result
-    sub-result-3
-    cast-result-2
-    returns
-    returns-2)
+    (tie.spec (λ c. search needs) (λ c. search needs) sub-result-2 cast-result sub-result-3 cast-result-2 returns returns-2)

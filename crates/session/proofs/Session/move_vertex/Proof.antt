@@ -7,23 +7,8 @@ use borrow.Author.Needs.{needs}
 use Rattle.session.proofs.Session.move_vertex.Statement.{statement}
 use Rattle.session.proofs.Session.move_vertex.Tie as tie
 
-size-requires : tie.Need-size-requires
-size-requires c κs = search needs
-
-array-share-prefix-b : tie.Need-array-share-prefix-b
-array-share-prefix-b c = search needs
-
 slice-aggregate-vertex-fault : tie.Need-slice-aggregate-vertex-fault
 slice-aggregate-vertex-fault c = sym (length-take-le _ _ (c .before .before .size .ensures .within))
-
-vertex-fault-requires : tie.Need-vertex-fault-requires
-vertex-fault-requires c κs = search needs
-
-enum-known-j : tie.Need-enum-known-j
-enum-known-j c = search needs
-
-enum-told : tie.Need-enum-told
-enum-told c = search needs
 
 with-row-requires : tie.Need-with-row-requires
 with-row-requires c κs =
@@ -51,13 +36,5 @@ returns-2 c =
 pub move-vertex-spec : {M : Type 1} → statement M
 move-vertex-spec =
     tie.close
-    (tie.spec
-    size-requires
-    array-share-prefix-b
-    slice-aggregate-vertex-fault
-    vertex-fault-requires
-    enum-known-j
-    enum-told
-    with-row-requires
-    returns
-    returns-2)
+    (tie.spec (λ c κs. search needs) (λ c. search needs) slice-aggregate-vertex-fault (λ c κs. search needs) (λ c. search needs)
+    (λ c. search needs) with-row-requires returns returns-2)

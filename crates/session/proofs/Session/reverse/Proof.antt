@@ -7,23 +7,8 @@ use borrow.Author.Needs.{needs}
 use Rattle.session.proofs.Session.reverse.Statement.{statement}
 use Rattle.session.proofs.Session.reverse.Tie as tie
 
-size-requires : tie.Need-size-requires
-size-requires c κs = search needs
-
-array-share-prefix-b : tie.Need-array-share-prefix-b
-array-share-prefix-b c = search needs
-
 slice-aggregate-turn-fault : tie.Need-slice-aggregate-turn-fault
 slice-aggregate-turn-fault c = sym (length-take-le _ _ (c .before .before .size .ensures .within))
-
-turn-fault-requires : tie.Need-turn-fault-requires
-turn-fault-requires c κs = search needs
-
-enum-known-j : tie.Need-enum-known-j
-enum-known-j c = search needs
-
-enum-told : tie.Need-enum-told
-enum-told c = search needs
 
 sub-with-face : tie.Need-sub-with-face
 sub-with-face c = let f = turn-free _ _ (sym (c .before .before .turn-fault .ensures) ∙ c .enum-told .given .1) in omega (arith, f .low)
@@ -56,14 +41,5 @@ returns-2 c =
 pub reverse-spec : {M : Type 1} → statement M
 reverse-spec =
     tie.close
-    (tie.spec
-    size-requires
-    array-share-prefix-b
-    slice-aggregate-turn-fault
-    turn-fault-requires
-    enum-known-j
-    enum-told
-    sub-with-face
-    with-face-requires
-    returns
-    returns-2)
+    (tie.spec (λ c κs. search needs) (λ c. search needs) slice-aggregate-turn-fault (λ c κs. search needs) (λ c. search needs)
+    (λ c. search needs) sub-with-face with-face-requires returns returns-2)

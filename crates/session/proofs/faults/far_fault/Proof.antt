@@ -9,27 +9,9 @@ use borrow.Author.Needs.{needs}
 use Rattle.session.proofs.faults.far_fault.Statement.{statement}
 use Rattle.session.proofs.faults.far_fault.Tie as tie
 
-is-whole-requires : tie.Need-is-whole-requires
-is-whole-requires c κs = search needs
-
 returns : tie.Need-returns
 unfolding farFault
 returns c = search rules depth 16
-
-vertices-requires : tie.Need-vertices-requires
-vertices-requires c κs = search needs
-
-add-p : tie.Need-add-p
-add-p c = search needs
-
-sizes-of-requires : tie.Need-sizes-of-requires
-sizes-of-requires c κs = search needs
-
-row-fault-requires : tie.Need-row-fault-requires
-row-fault-requires c κs = search needs
-
-enum-known-r : tie.Need-enum-known-r
-enum-known-r c = search needs
 
 returns-2 : tie.Need-returns-2
 unfolding farFault
@@ -42,12 +24,6 @@ returns-2 c =
     rule-passed _ (c7 .is-whole .ensures) (c6 .if1 .left)
     (then-refused _ (c3 .row-fault .ensures ∙ ap₂ (rowFault 0) (ap (λ (n : ℕ). n + 1) (c5 .vertices .ensures .0)) (c4 .sizes-of .ensures))
     (c .before .r .given .1))
-
-enum-told : tie.Need-enum-told
-enum-told c = search needs
-
-is-nowhere-requires : tie.Need-is-nowhere-requires
-is-nowhere-requires c κs = search needs
 
 returns-3 : tie.Need-returns-3
 unfolding farFault
@@ -79,16 +55,5 @@ returns-4 c =
 pub far-fault-spec : {M : Type 1} → statement M
 far-fault-spec =
     tie.close
-    (tie.spec
-    is-whole-requires
-    returns
-    vertices-requires
-    add-p
-    sizes-of-requires
-    row-fault-requires
-    enum-known-r
-    returns-2
-    enum-told
-    is-nowhere-requires
-    returns-3
-    returns-4)
+    (tie.spec (λ c κs. search needs) returns (λ c κs. search needs) (λ c. search needs) (λ c κs. search needs) (λ c κs. search needs)
+    (λ c. search needs) returns-2 (λ c. search needs) (λ c κs. search needs) returns-3 returns-4)

@@ -5,29 +5,17 @@ use borrow.Author.Needs.{needs}
 use Rattle.session.proofs.faults.is_nowhere.Statement.{statement}
 use Rattle.session.proofs.faults.is_nowhere.Tie as tie
 
-is-zero-requires : tie.Need-is-zero-requires
-is-zero-requires c κs = search needs
-
 returns : tie.Need-returns
 unfolding isNowhere
 returns c = search ands depth 14
-
-is-zero-requires-2 : tie.Need-is-zero-requires-2
-is-zero-requires-2 c κs = search needs
 
 returns-2 : tie.Need-returns-2
 unfolding isNowhere
 returns-2 c = search ands depth 14
 
-is-zero-requires-3 : tie.Need-is-zero-requires-3
-is-zero-requires-3 c κs = search needs
-
 returns-3 : tie.Need-returns-3
 unfolding isNowhere
 returns-3 c = search ands depth 14
-
-is-zero-requires-4 : tie.Need-is-zero-requires-4
-is-zero-requires-4 c κs = search needs
 
 returns-4 : tie.Need-returns-4
 unfolding isNowhere
@@ -36,12 +24,5 @@ returns-4 c = search ands depth 14
 pub is-nowhere-spec : {M : Type 1} → statement M
 is-nowhere-spec =
     tie.close
-    (tie.spec
-    is-zero-requires
-    returns
-    is-zero-requires-2
-    returns-2
-    is-zero-requires-3
-    returns-3
-    is-zero-requires-4
+    (tie.spec (λ c κs. search needs) returns (λ c κs. search needs) returns-2 (λ c κs. search needs) returns-3 (λ c κs. search needs)
     returns-4)

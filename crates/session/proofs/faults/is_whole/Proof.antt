@@ -5,12 +5,9 @@ use borrow.Author.Needs.{needs}
 use Rattle.session.proofs.faults.is_whole.Statement.{statement}
 use Rattle.session.proofs.faults.is_whole.Tie as tie
 
-length-of-requires : tie.Need-length-of-requires
-length-of-requires c κs = search needs
-
 returns : tie.Need-returns
 unfolding isWhole
 returns c = ap (eqb _) (c .length-of .ensures .0)
 
 pub is-whole-spec : {M : Type 1} → statement M
-is-whole-spec = tie.close (tie.spec length-of-requires returns)
+is-whole-spec = tie.close (tie.spec (λ c κs. search needs) returns)

@@ -35,8 +35,5 @@ returns c =
     let b = below _ (c .before .fits .v) (c .if1 .taken) in
     rw (b .flip, toZ-pos w64 (b .small)) (add-one _ ∙ sym (ap natAbs (b .is)))
 
-returns-2 : tie.Need-returns-2
-returns-2 c = search needs
-
 pub size-spec : {M : Type 1} → statement M
-size-spec = tie.close (tie.spec sub-result cast-result add-result cast-result-2 returns returns-2)
+size-spec = tie.close (tie.spec sub-result cast-result add-result cast-result-2 returns (λ c. search needs))

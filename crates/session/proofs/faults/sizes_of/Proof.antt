@@ -8,18 +8,6 @@ use borrow.Author.Needs.{needs}
 use Rattle.session.proofs.faults.sizes_of.Statement.{statement}
 use Rattle.session.proofs.faults.sizes_of.Tie as tie
 
-size-requires : tie.Need-size-requires
-size-requires c κs = search needs
-
-size-requires-2 : tie.Need-size-requires-2
-size-requires-2 c κs = search needs
-
-size-requires-3 : tie.Need-size-requires-3
-size-requires-3 c κs = search needs
-
-size-requires-4 : tie.Need-size-requires-4
-size-requires-4 c κs = search needs
-
 returns : tie.Need-returns
 returns c =
     let v = c .before .before .before .before .before .before .before .before .args .v in
@@ -35,4 +23,4 @@ returns c =
 
 pub sizes-of-spec : {M : Type 1} → statement M
 sizes-of-spec =
-    tie.close (tie.spec size-requires size-requires-2 size-requires-3 size-requires-4 returns)
+    tie.close (tie.spec (λ c κs. search needs) (λ c κs. search needs) (λ c κs. search needs) (λ c κs. search needs) returns)

@@ -8,18 +8,9 @@ use borrow.Author.Needs.{needs}
 use Rattle.session.proofs.faults.turn_fault.Statement.{statement}
 use Rattle.session.proofs.faults.turn_fault.Tie as tie
 
-is-whole-requires : tie.Need-is-whole-requires
-is-whole-requires c κs = search needs
-
 returns : tie.Need-returns
 unfolding turnFault
 returns c = search rules depth 16
-
-faces-requires : tie.Need-faces-requires
-faces-requires c κs = search needs
-
-is-within-requires : tie.Need-is-within-requires
-is-within-requires c κs = search needs
 
 returns-2 : tie.Need-returns-2
 unfolding turnFault
@@ -44,4 +35,4 @@ returns-3 c =
 pub turn-fault-spec : {M : Type 1} → statement M
 turn-fault-spec =
     tie.close
-    (tie.spec is-whole-requires returns faces-requires is-within-requires returns-2 returns-3)
+    (tie.spec (λ c κs. search needs) returns (λ c κs. search needs) (λ c κs. search needs) returns-2 returns-3)

@@ -8,18 +8,9 @@ use borrow.Author.Needs.{needs}
 use Rattle.session.proofs.faults.vertex_fault.Statement.{statement}
 use Rattle.session.proofs.faults.vertex_fault.Tie as tie
 
-is-whole-requires : tie.Need-is-whole-requires
-is-whole-requires c κs = search needs
-
 returns : tie.Need-returns
 unfolding vertexFault
 returns c = search rules depth 16
-
-vertices-requires : tie.Need-vertices-requires
-vertices-requires c κs = search needs
-
-is-within-requires : tie.Need-is-within-requires
-is-within-requires c κs = search needs
 
 returns-2 : tie.Need-returns-2
 unfolding vertexFault
@@ -30,12 +21,6 @@ returns-2 c =
     rule-passed _ (c4 .is-whole .ensures) (c3 .if1 .left)
     (rule-refused _ (c .before .is-within .ensures ∙ ap (λ (n : ℕ). within 1 n (c6 .args .p)) (c .before .before .vertices .ensures .0))
     (c .if2 .taken))
-
-sizes-of-requires : tie.Need-sizes-of-requires
-sizes-of-requires c κs = search needs
-
-row-fault-requires : tie.Need-row-fault-requires
-row-fault-requires c κs = search needs
 
 returns-3 : tie.Need-returns-3
 unfolding vertexFault
@@ -52,12 +37,5 @@ returns-3 c =
 pub vertex-fault-spec : {M : Type 1} → statement M
 vertex-fault-spec =
     tie.close
-    (tie.spec
-    is-whole-requires
-    returns
-    vertices-requires
-    is-within-requires
-    returns-2
-    sizes-of-requires
-    row-fault-requires
-    returns-3)
+    (tie.spec (λ c κs. search needs) returns (λ c κs. search needs) (λ c κs. search needs) returns-2 (λ c κs. search needs)
+    (λ c κs. search needs) returns-3)

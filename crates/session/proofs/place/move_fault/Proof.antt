@@ -5,21 +5,9 @@ use borrow.Author.Needs.{needs}
 use Rattle.session.proofs.place.move_fault.Statement.{statement}
 use Rattle.session.proofs.place.move_fault.Tie as tie
 
-judge-requires : tie.Need-judge-requires
-judge-requires c κs = search needs
-
-enum-known-r : tie.Need-enum-known-r
-enum-known-r c = search needs
-
 returns : tie.Need-returns
 unfolding moveFault
 returns c = search chain depth 12
-
-enum-told : tie.Need-enum-told
-enum-told c = search needs
-
-vertex-fault-requires : tie.Need-vertex-fault-requires
-vertex-fault-requires c κs = search needs
 
 returns-2 : tie.Need-returns-2
 unfolding moveFault
@@ -28,4 +16,4 @@ returns-2 c = search chain depth 12
 pub move-fault-spec : {M : Type 1} → statement M
 move-fault-spec =
     tie.close
-    (tie.spec judge-requires enum-known-r returns enum-told vertex-fault-requires returns-2)
+    (tie.spec (λ c κs. search needs) (λ c. search needs) returns (λ c. search needs) (λ c κs. search needs) returns-2)

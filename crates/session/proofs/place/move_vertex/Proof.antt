@@ -5,27 +5,12 @@ use borrow.Author.Needs.{needs}
 use Rattle.session.proofs.place.move_vertex.Statement.{statement}
 use Rattle.session.proofs.place.move_vertex.Tie as tie
 
-move-fault-requires : tie.Need-move-fault-requires
-move-fault-requires c κs = search needs
-
-enum-known-j : tie.Need-enum-known-j
-enum-known-j c = search needs
-
-enum-told : tie.Need-enum-told
-enum-told c = search needs
-
 put-row-requires : tie.Need-put-row-requires
 put-row-requires c κs =
     let m = move-room _ _ _ (sym (c .before .before .before .move-fault .ensures) ∙ c .before .enum-told .given .1) in (m .fits, m .room)
 
-same-length : tie.Need-same-length
-same-length c = search needs
-
 returns : tie.Need-returns
 returns c = kept-so _ _ (c .before .before .before .move-fault .ensures) (c .before .j .given .1)
-
-same-length-2 : tie.Need-same-length-2
-same-length-2 c = search needs
 
 returns-2 : tie.Need-returns-2
 returns-2 c =
@@ -36,12 +21,5 @@ returns-2 c =
 pub move-vertex-spec : {M : Type 1} → statement M
 move-vertex-spec =
     tie.close
-    (tie.spec
-    move-fault-requires
-    enum-known-j
-    enum-told
-    put-row-requires
-    same-length
-    returns
-    same-length-2
-    returns-2)
+    (tie.spec (λ c κs. search needs) (λ c. search needs) (λ c. search needs) put-row-requires (λ c. search needs) returns
+    (λ c. search needs) returns-2)

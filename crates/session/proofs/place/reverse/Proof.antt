@@ -7,15 +7,6 @@ use borrow.Author.Needs.{needs}
 use Rattle.session.proofs.place.reverse.Statement.{statement}
 use Rattle.session.proofs.place.reverse.Tie as tie
 
-reverse-fault-requires : tie.Need-reverse-fault-requires
-reverse-fault-requires c κs = search needs
-
-enum-known-j : tie.Need-enum-known-j
-enum-known-j c = search needs
-
-enum-told : tie.Need-enum-told
-enum-told c = search needs
-
 sub-face-start : tie.Need-sub-face-start
 sub-face-start c =
     let m = face-room _ _ (sym (c .before .before .before .reverse-fault .ensures) ∙ c .before .enum-told .given .1) in m .low
@@ -45,14 +36,8 @@ put-corners-requires c κs =
     let m = face-room _ _ (sym (c7 .reverse-fault .ensures) ∙ c5 .enum-told .given .1) in
     (c .before .turned .ensures .1, omega (arith, m .room, c3 .face-start .ensures .0))
 
-same-length : tie.Need-same-length
-same-length c = search needs
-
 returns : tie.Need-returns
 returns c = kept-so _ _ (c .before .before .before .reverse-fault .ensures) (c .before .j .given .1)
-
-same-length-2 : tie.Need-same-length-2
-same-length-2 c = search needs
 
 returns-2 : tie.Need-returns-2
 returns-2 c =
@@ -66,16 +51,5 @@ returns-2 c =
 pub reverse-spec : {M : Type 1} → statement M
 reverse-spec =
     tie.close
-    (tie.spec
-    reverse-fault-requires
-    enum-known-j
-    enum-told
-    sub-face-start
-    face-start-requires
-    sub-turned
-    turned-requires
-    put-corners-requires
-    same-length
-    returns
-    same-length-2
-    returns-2)
+    (tie.spec (λ c κs. search needs) (λ c. search needs) (λ c. search needs) sub-face-start face-start-requires sub-turned turned-requires
+    put-corners-requires (λ c. search needs) returns (λ c. search needs) returns-2)

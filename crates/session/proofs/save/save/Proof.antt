@@ -6,26 +6,8 @@ use borrow.Author.Needs.{needs}
 use Rattle.session.proofs.save.save.Statement.{statement}
 use Rattle.session.proofs.save.save.Tie as tie
 
-size-requires : tie.Need-size-requires
-size-requires c κs = search needs
-
-array-share-prefix-b : tie.Need-array-share-prefix-b
-array-share-prefix-b c = search needs
-
 slice-aggregate-save-fault : tie.Need-slice-aggregate-save-fault
 slice-aggregate-save-fault c = sym (length-take-le _ _ (c .before .before .size .ensures .within))
-
-save-fault-requires : tie.Need-save-fault-requires
-save-fault-requires c κs = search needs
-
-enum-known-j : tie.Need-enum-known-j
-enum-known-j c = search needs
-
-enum-told : tie.Need-enum-told
-enum-told c = search needs
-
-array-share-prefix-b-2 : tie.Need-array-share-prefix-b-2
-array-share-prefix-b-2 c = search needs
 
 slice-aggregate-copy : tie.Need-slice-aggregate-copy
 slice-aggregate-copy c = sym (length-take-le _ _ (c .before .before .before .before .before .before .size .ensures .within))
@@ -39,9 +21,6 @@ returns c =
     let c6 = c3 .before .before .before in
     saved-not _ _ (rw (c6 .size .ensures .same) at (c3 .save-fault .ensures)) refl (c .before .j .given .1)
 
-same-length : tie.Need-same-length
-same-length c = search needs
-
 returns-2 : tie.Need-returns-2
 returns-2 c =
     let c5 = c .before .before .before .before .before in
@@ -53,16 +32,5 @@ returns-2 c =
 pub save-spec : {M : Type 1} → statement M
 save-spec =
     tie.close
-    (tie.spec
-    size-requires
-    array-share-prefix-b
-    slice-aggregate-save-fault
-    save-fault-requires
-    enum-known-j
-    enum-told
-    array-share-prefix-b-2
-    slice-aggregate-copy
-    copy-requires
-    returns
-    same-length
-    returns-2)
+    (tie.spec (λ c κs. search needs) (λ c. search needs) slice-aggregate-save-fault (λ c κs. search needs) (λ c. search needs)
+    (λ c. search needs) (λ c. search needs) slice-aggregate-copy copy-requires returns (λ c. search needs) returns-2)

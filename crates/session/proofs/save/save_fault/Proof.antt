@@ -5,15 +5,9 @@ use borrow.Author.Needs.{needs}
 use Rattle.session.proofs.save.save_fault.Statement.{statement}
 use Rattle.session.proofs.save.save_fault.Tie as tie
 
-is-whole-requires : tie.Need-is-whole-requires
-is-whole-requires c κs = search needs
-
 returns : tie.Need-returns
 unfolding saveFault
 returns c = search rules depth 16
-
-at-most-requires : tie.Need-at-most-requires
-at-most-requires c κs = search needs
 
 returns-2 : tie.Need-returns-2
 unfolding saveFault
@@ -25,4 +19,4 @@ returns-3 c = search rules depth 16
 
 pub save-fault-spec : {M : Type 1} → statement M
 save-fault-spec =
-    tie.close (tie.spec is-whole-requires returns at-most-requires returns-2 returns-3)
+    tie.close (tie.spec (λ c κs. search needs) returns (λ c κs. search needs) returns-2 returns-3)

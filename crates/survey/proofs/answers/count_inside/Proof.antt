@@ -8,8 +8,5 @@ use Rattle.survey.proofs.answers.count_inside.Tie as tie
 cast-result : tie.Need-cast-result
 cast-result c = omega (arith, ones-le 64 (c .args .inside) (search needs))
 
-returns : tie.Need-returns
-returns c = search needs
-
 pub count-inside-spec : {M : Type 1} → statement M
-count-inside-spec = tie.close (tie.spec cast-result returns)
+count-inside-spec = tie.close (tie.spec cast-result (λ c. search needs))

@@ -7,12 +7,6 @@ use borrow.Author.Needs.{needs}
 use Rattle.survey.proofs.answers.count_pairs.Statement.{statement}
 use Rattle.survey.proofs.answers.count_pairs.Tie as tie
 
-count-requires : tie.Need-count-requires
-count-requires c κs = search needs
-
-count-requires-2 : tie.Need-count-requires-2
-count-requires-2 c κs = search needs
-
 add-result : tie.Need-add-result
 add-result c =
     let s = c .before .before in
@@ -33,8 +27,4 @@ returns c =
 pub count-pairs-spec : {M : Type 1} → statement M
 count-pairs-spec =
     tie.close
-    (tie.spec
-    count-requires
-    count-requires-2
-    add-result
-    returns)
+    (tie.spec (λ c κs. search needs) (λ c κs. search needs) add-result returns)

@@ -8,19 +8,10 @@ use borrow.Author.Needs.{needs}
 use Rattle.survey.proofs.answers.lowest_inside.Statement.{statement}
 use Rattle.survey.proofs.answers.lowest_inside.Tie as tie
 
-add-result : tie.Need-add-result
-add-result c = search needs
-
-add-result-2 : tie.Need-add-result-2
-add-result-2 c = search needs
-
 returns : tie.Need-returns
 returns c =
     let s = c .before .args in
     told-yes (s .low + 1 + s .verts) (s .low + 1 + trailingZeros 64 (s .inside)) (eq-eqb (s .inside) 0 (c .if1 .taken))
-
-add-result-3 : tie.Need-add-result-3
-add-result-3 c = search needs
 
 cast-result : tie.Need-cast-result
 cast-result c = omega (arith, trailing-le 64 (c .before .args .inside))
@@ -36,4 +27,4 @@ returns-2 c =
 pub lowest-inside-spec : {M : Type 1} → statement M
 lowest-inside-spec =
     tie.close
-    (tie.spec add-result add-result-2 returns add-result-3 cast-result add-result-4 returns-2)
+    (tie.spec (λ c. search needs) (λ c. search needs) returns (λ c. search needs) cast-result add-result-4 returns-2)

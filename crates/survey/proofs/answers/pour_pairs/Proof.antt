@@ -8,9 +8,6 @@ use borrow.Author.Needs.{needs}
 use Rattle.survey.proofs.answers.pour_pairs.Statement.{statement}
 use Rattle.survey.proofs.answers.pour_pairs.Tie as tie
 
-pour-requires : tie.Need-pour-requires
-pour-requires c κs = search needs
-
 pour-requires-2 : tie.Need-pour-requires-2
 pour-requires-2 c κs =
     let p = c .before .before .before in
@@ -25,9 +22,6 @@ pour-requires-2 c κs =
       ),
     )
 
-same-length : tie.Need-same-length
-same-length c = search needs
-
 returns : tie.Need-returns
 unfolding pairsOf
 returns c =
@@ -38,8 +32,4 @@ returns c =
 pub pour-pairs-spec : {M : Type 1} → statement M
 pour-pairs-spec =
     tie.close
-    (tie.spec
-    pour-requires
-    pour-requires-2
-    same-length
-    returns)
+    (tie.spec (λ c κs. search needs) pour-requires-2 (λ c. search needs) returns)

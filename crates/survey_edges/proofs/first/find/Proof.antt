@@ -45,15 +45,4 @@ returns-2 c = first-end _ (c .before .loop .inv .0) (c .loop-test .left) (c .bef
 pub find-spec : {M : Type 1} → statement M
 find-spec =
     tie.close
-    (tie.spec
-    Inv-loop
-    μ-loop
-    loop-holds
-    find-entry-requires
-    enum-known-u
-    returns
-    enum-told
-    add-j
-    loop-less
-    loop-again
-    returns-2)
+    (tie.spec Inv-loop μ-loop loop-holds find-entry-requires enum-known-u returns enum-told add-j loop-less loop-again returns-2)

@@ -12,17 +12,8 @@ use borrow.Author.Needs.{needs}
 use Rattle.survey_edges.proofs.first.first_of_mask.Statement.{statement}
 use Rattle.survey_edges.proofs.first.first_of_mask.Tie as tie
 
-has-face-requires : tie.Need-has-face-requires
-has-face-requires c κs = search needs
-
 returns : tie.Need-returns
 returns c = entry-none _ _ (no-face _ (c .before .has-face .ensures) (not-true _ (c .if1 .taken)))
-
-add-t7 : tie.Need-add-t7
-add-t7 c = search needs
-
-first-face-requires : tie.Need-first-face-requires
-first-face-requires c κs = search needs
 
 add-t9 : tie.Need-add-t9
 add-t9 c = omega (arith, c .first-face .ensures, trailing-le width (valueOf (c .before .before .before .args .m)))
@@ -37,4 +28,4 @@ returns-2 c =
     ∙ entry-first (s .first) (entryOf (s .u) (s .v) (s .m)) (words-fit 64 (s .m .low) (s .m .high) (search needs) (search needs)) some
 
 pub first-of-mask-spec : {M : Type 1} → statement M
-first-of-mask-spec = tie.close (tie.spec has-face-requires returns add-t7 first-face-requires add-t9 returns-2)
+first-of-mask-spec = tie.close (tie.spec (λ c κs. search needs) returns (λ c. search needs) (λ c κs. search needs) add-t9 returns-2)

@@ -47,13 +47,4 @@ returns c = pours-all _ (c .before .loop .inv .0) (c .loop-test .left) (c .befor
 pub pour-spec : {M : Type 1} → statement M
 pour-spec =
     tie.close
-    (tie.spec
-    Inv-loop
-    μ-loop
-    loop-holds
-    pour-entry-requires
-    add-j
-    loop-less
-    loop-again
-    same-length
-    returns)
+    (tie.spec Inv-loop μ-loop loop-holds pour-entry-requires add-j loop-less loop-again same-length returns)

@@ -10,33 +10,6 @@ use borrow.Author.Needs.{needs}
 use Rattle.survey_edges.proofs.pour.pour_entry.Statement.{statement}
 use Rattle.survey_edges.proofs.pour.pour_entry.Tie as tie
 
-mask-at-requires : tie.Need-mask-at-requires
-mask-at-requires c κs = search needs
-
-mul-at : tie.Need-mul-at
-mul-at c = search needs
-
-mul-u : tie.Need-mul-u
-mul-u c = search needs
-
-element-copy-out-u : tie.Need-element-copy-out-u
-element-copy-out-u c = search needs
-
-add-v : tie.Need-add-v
-add-v c = search needs
-
-mul-v : tie.Need-mul-v
-mul-v c = search needs
-
-element-copy-out-v : tie.Need-element-copy-out-v
-element-copy-out-v c = search needs
-
-pour-word-requires : tie.Need-pour-word-requires
-pour-word-requires c κs = search needs
-
-add-pour-word : tie.Need-add-pour-word
-add-pour-word c = search needs
-
 pour-word-requires-2 : tie.Need-pour-word-requires-2
 pour-word-requires-2 c κs =
     let w = c .before .before .before in
@@ -50,9 +23,6 @@ pour-word-requires-2 c κs =
       ),
     )
 
-same-length : tie.Need-same-length
-same-length c = search needs
-
 returns : tie.Need-returns
 returns c =
     let w2 = c .before .before in
@@ -65,16 +35,5 @@ returns c =
 pub pour-entry-spec : {M : Type 1} → statement M
 pour-entry-spec =
     tie.close
-    (tie.spec
-    mask-at-requires
-    mul-at
-    mul-u
-    element-copy-out-u
-    add-v
-    mul-v
-    element-copy-out-v
-    pour-word-requires
-    add-pour-word
-    pour-word-requires-2
-    same-length
-    returns)
+    (tie.spec (λ c κs. search needs) (λ c. search needs) (λ c. search needs) (λ c. search needs) (λ c. search needs) (λ c. search needs)
+    (λ c. search needs) (λ c κs. search needs) (λ c. search needs) pour-word-requires-2 (λ c. search needs) returns)

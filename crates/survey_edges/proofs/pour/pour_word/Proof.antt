@@ -72,18 +72,5 @@ returns c = rest-end _ _ _ (omega arith) (c .before .loop .inv .1)
 pub pour-word-spec : {M : Type 1} → statement M
 pour-word-spec =
     tie.close
-    (tie.spec
-    Inv-loop
-    μ-loop
-    loop-holds
-    cast-t
-    add-narrow
-    add-narrow-2
-    narrow-requires
-    put-requires
-    add-n
-    sub-left
-    loop-less
-    loop-again
-    same-length
-    returns)
+    (tie.spec Inv-loop μ-loop loop-holds cast-t add-narrow add-narrow-2 narrow-requires put-requires add-n sub-left loop-less loop-again
+    same-length returns)

@@ -41,13 +41,4 @@ returns c = let e : c .before .loop .j ≡ c .before .before .before .before .ar
 pub fill-odds-spec : {M : Type 1} → statement M
 fill-odds-spec =
     tie.close
-    (tie.spec
-    Inv-loop
-    μ-loop
-    clear-requires
-    loop-holds
-    mark-entry-requires
-    add-j
-    loop-less
-    loop-again
-    returns)
+    (tie.spec Inv-loop μ-loop clear-requires loop-holds mark-entry-requires add-j loop-less loop-again returns)

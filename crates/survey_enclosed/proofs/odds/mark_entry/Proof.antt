@@ -9,53 +9,11 @@ use borrow.Author.Needs.{needs}
 use Rattle.survey_enclosed.proofs.odds.mark_entry.Statement.{statement}
 use Rattle.survey_enclosed.proofs.odds.mark_entry.Tie as tie
 
-mask-at-requires : tie.Need-mask-at-requires
-mask-at-requires c κs = search needs
-
-is-odd-requires : tie.Need-is-odd-requires
-is-odd-requires c κs = search needs
-
 returns : tie.Need-returns
 returns c =
     let s = c .before .before .before .args in
     marks-none _ _ (entryIn (now (s .ends)) (now (s .masks)) (s .j)) _
     (c .before .is-odd .ensures ∙ ap isOdd (c .before .before .mask-at .ensures .0)) (not-true _ (c .if1 .taken))
-
-mul-at : tie.Need-mul-at
-mul-at c = search needs
-
-mul-wide : tie.Need-mul-wide
-mul-wide c = search needs
-
-element-copy-out-wide : tie.Need-element-copy-out-wide
-element-copy-out-wide c = search needs
-
-wide-requires : tie.Need-wide-requires
-wide-requires c κs = search needs
-
-add-wide : tie.Need-add-wide
-add-wide c = search needs
-
-mul-wide-2 : tie.Need-mul-wide-2
-mul-wide-2 c = search needs
-
-element-copy-out-wide-2 : tie.Need-element-copy-out-wide-2
-element-copy-out-wide-2 c = search needs
-
-wide-requires-2 : tie.Need-wide-requires-2
-wide-requires-2 c κs = search needs
-
-bit-requires : tie.Need-bit-requires
-bit-requires c κs = search needs
-
-join-requires : tie.Need-join-requires
-join-requires c κs = search needs
-
-bit-requires-2 : tie.Need-bit-requires-2
-bit-requires-2 c κs = search needs
-
-join-requires-2 : tie.Need-join-requires-2
-join-requires-2 c κs = search needs
 
 returns-2 : tie.Need-returns-2
 returns-2 c =
@@ -72,20 +30,6 @@ returns-2 c =
 pub mark-entry-spec : {M : Type 1} → statement M
 mark-entry-spec =
     tie.close
-    (tie.spec
-    mask-at-requires
-    is-odd-requires
-    returns
-    mul-at
-    mul-wide
-    element-copy-out-wide
-    wide-requires
-    add-wide
-    mul-wide-2
-    element-copy-out-wide-2
-    wide-requires-2
-    bit-requires
-    join-requires
-    bit-requires-2
-    join-requires-2
-    returns-2)
+    (tie.spec (λ c κs. search needs) (λ c κs. search needs) returns (λ c. search needs) (λ c. search needs) (λ c. search needs)
+    (λ c κs. search needs) (λ c. search needs) (λ c. search needs) (λ c. search needs) (λ c κs. search needs) (λ c κs. search needs)
+    (λ c κs. search needs) (λ c κs. search needs) (λ c κs. search needs) returns-2)

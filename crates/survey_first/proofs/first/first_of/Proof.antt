@@ -73,21 +73,5 @@ returns-2 c = search all-end
 pub first-of-spec : {M : Type 1} → statement M
 first-of-spec =
     tie.close
-    (tie.spec
-    Inv-loop
-    μ-loop
-    loop-holds
-    add-u
-    add-u-2
-    mul-higher
-    element-copy-out-higher
-    add-higher
-    shr-higher
-    first-of-vertex-requires
-    enum-known-found
-    returns
-    enum-told
-    add-i
-    loop-less
-    loop-again
-    returns-2)
+    (tie.spec Inv-loop μ-loop loop-holds add-u add-u-2 mul-higher element-copy-out-higher add-higher shr-higher first-of-vertex-requires
+    enum-known-found returns enum-told add-i loop-less loop-again returns-2)

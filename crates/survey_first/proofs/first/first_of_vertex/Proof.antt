@@ -87,18 +87,5 @@ returns-2 c = search left-end
 pub first-of-vertex-spec : {M : Type 1} → statement M
 first-of-vertex-spec =
     tie.close
-    (tie.spec
-    Inv-loop
-    μ-loop
-    loop-holds
-    add-v
-    cast-v
-    add-v-2
-    first-of-edge-requires
-    enum-known-found
-    returns
-    enum-told
-    sub-left
-    loop-less
-    loop-again
-    returns-2)
+    (tie.spec Inv-loop μ-loop loop-holds add-v cast-v add-v-2 first-of-edge-requires enum-known-found returns enum-told sub-left loop-less
+    loop-again returns-2)

@@ -11,21 +11,12 @@ use Rattle.survey_first.proofs.look.look.Tie as tie
 returns : tie.Need-returns
 returns c = (search needs, c .before .before .pre .1 .1)
 
-add-u : tie.Need-add-u
-add-u c = search needs
-
 sides-requires : tie.Need-sides-requires
 sides-requires c κs =
     let s = c .before .before .before .before in
     let v = seenIn (s .args .n) (now (s .args .rows)) (now (s .args .corners)) in
     let q = side-asked v (s .args .k) (s .args .k .low + 1) (s .pre .0 .0) (s .pre .0 .1) (omega arith, omega arith) in
     (q .0, (q .1 .0, (q .1 .1, s .pre .1 .1)))
-
-mul-higher : tie.Need-mul-higher
-mul-higher c = search needs
-
-element-copy-out-higher : tie.Need-element-copy-out-higher
-element-copy-out-higher c = search needs
 
 look-from-requires : tie.Need-look-from-requires
 look-from-requires c κs =
@@ -45,11 +36,4 @@ returns-2 c =
 pub look-spec : {M : Type 1} → statement M
 look-spec =
     tie.close
-    (tie.spec
-    returns
-    add-u
-    sides-requires
-    mul-higher
-    element-copy-out-higher
-    look-from-requires
-    returns-2)
+    (tie.spec returns (λ c. search needs) sides-requires (λ c. search needs) (λ c. search needs) look-from-requires returns-2)

@@ -97,20 +97,5 @@ returns-3 c = (search needs, c .before .loop .inv .3)
 pub look-from-spec : {M : Type 1} → statement M
 look-from-spec =
     tie.close
-    (tie.spec
-    Inv-loop
-    μ-loop
-    loop-holds
-    returns
-    add-v
-    cast-v
-    add-v-2
-    look-at-requires
-    enum-known-found
-    returns-2
-    enum-told
-    sub-left
-    add-i
-    loop-less
-    loop-again
-    returns-3)
+    (tie.spec Inv-loop μ-loop loop-holds returns add-v cast-v add-v-2 look-at-requires enum-known-found returns-2 enum-told sub-left add-i
+    loop-less loop-again returns-3)

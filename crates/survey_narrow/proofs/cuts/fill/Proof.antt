@@ -66,18 +66,5 @@ returns c =
 pub fill-spec : {M : Type 1} → statement M
 fill-spec =
     tie.close
-    (tie.spec
-    Inv-loop
-    μ-loop
-    loop-holds
-    add-j
-    add-face-in
-    face-in-requires
-    cut-requires
-    put-requires
-    either-requires
-    add-i
-    loop-less
-    loop-again
-    put-requires-2
-    returns)
+    (tie.spec Inv-loop μ-loop loop-holds add-j add-face-in face-in-requires cut-requires put-requires either-requires add-i loop-less
+    loop-again put-requires-2 returns)

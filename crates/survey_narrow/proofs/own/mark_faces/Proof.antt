@@ -50,15 +50,4 @@ returns c =
 pub mark-faces-spec : {M : Type 1} → statement M
 mark-faces-spec =
     tie.close
-    (tie.spec
-    Inv-loop
-    μ-loop
-    loop-holds
-    add-face-in
-    add-face-in-2
-    face-in-requires
-    mark-face-requires
-    add-i
-    loop-less
-    loop-again
-    returns)
+    (tie.spec Inv-loop μ-loop loop-holds add-face-in add-face-in-2 face-in-requires mark-face-requires add-i loop-less loop-again returns)

@@ -15,15 +15,6 @@ use Rattle.survey_sides.proofs.crossing.crosses.Tie as tie
 abbrev row : tie.Start → ℕ → Row
 row s = rowIn (now (s .args .rows))
 
-row-in-requires : tie.Need-row-in-requires
-row-in-requires c κs = search needs
-
-row-in-requires-2 : tie.Need-row-in-requires-2
-row-in-requires-2 c κs = search needs
-
-row-in-requires-3 : tie.Need-row-in-requires-3
-row-in-requires-3 c κs = search needs
-
 span-requires : tie.Need-span-requires
 span-requires c κs =
     let s = c .before .before .before in
@@ -124,17 +115,5 @@ returns-2 c =
 pub crosses-spec : {M : Type 1} → statement M
 crosses-spec =
     tie.close
-    (tie.spec
-    row-in-requires
-    row-in-requires-2
-    row-in-requires-3
-    span-requires
-    dot-requires
-    sign-by-requires
-    dot-requires-2
-    sign-by-requires-2
-    returns
-    span-requires-2
-    dot-requires-3
-    sign-by-requires-3
-    returns-2)
+    (tie.spec (λ c κs. search needs) (λ c κs. search needs) (λ c κs. search needs) span-requires dot-requires sign-by-requires
+    dot-requires-2 sign-by-requires-2 returns span-requires-2 dot-requires-3 sign-by-requires-3 returns-2)

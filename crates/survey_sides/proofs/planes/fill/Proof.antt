@@ -62,17 +62,5 @@ returns c =
 pub fill-spec : {M : Type 1} → statement M
 fill-spec =
     tie.close
-    (tie.spec
-    Inv-loop
-    μ-loop
-    loop-holds
-    add-put
-    add-face-in
-    add-face-in-2
-    face-in-requires
-    plane-requires
-    put-requires
-    add-i
-    loop-less
-    loop-again
-    returns)
+    (tie.spec Inv-loop μ-loop loop-holds add-put add-face-in add-face-in-2 face-in-requires plane-requires put-requires add-i loop-less
+    loop-again returns)

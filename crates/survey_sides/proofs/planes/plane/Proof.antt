@@ -12,18 +12,6 @@ use Rattle.survey_sides.specs.Units.{units-are}
 use Rattle.survey_sides.proofs.planes.plane.Statement.{statement}
 use Rattle.survey_sides.proofs.planes.plane.Tie as tie
 
-row-in-requires : tie.Need-row-in-requires
-row-in-requires c κs = search needs
-
-row-in-requires-2 : tie.Need-row-in-requires-2
-row-in-requires-2 c κs = search needs
-
-row-in-requires-3 : tie.Need-row-in-requires-3
-row-in-requires-3 c κs = search needs
-
-are-units-requires : tie.Need-are-units-requires
-are-units-requires c κs = search needs
-
 within : (s : tie.Start) (n : ℕ) {r : Row} → r ≡ rowIn (now (s .args .rows)) n → RowWithin limits r
 within s n e = subst (RowWithin limits) (sym e) (s .pre .0 n)
 
@@ -67,12 +55,5 @@ returns-2 c =
 pub plane-spec : {M : Type 1} → statement M
 plane-spec =
     tie.close
-    (tie.spec
-    row-in-requires
-    row-in-requires-2
-    row-in-requires-3
-    are-units-requires
-    plane-requires
-    returns
-    through-requires
-    returns-2)
+    (tie.spec (λ c κs. search needs) (λ c κs. search needs) (λ c κs. search needs) (λ c κs. search needs) plane-requires returns
+    through-requires returns-2)

@@ -10,9 +10,6 @@ l-fits c = search needs
 r-fits : (c : tie.Start) → RowFits (c .args .r)
 r-fits c = search needs
 
-three-requires : tie.Need-three-requires
-three-requires c κs = search needs
-
 three-requires-2 : tie.Need-three-requires-2
 three-requires-2 c κs =
     let s = c .before .before .before .before .before .before .before .before .before .before .before in
@@ -51,4 +48,4 @@ returns c =
     }
 
 pub span-spec : {M : Type 1} → statement M
-span-spec = tie.close (tie.spec three-requires three-requires-2 three-requires-3 three-requires-4 returns)
+span-spec = tie.close (tie.spec (λ c κs. search needs) three-requires-2 three-requires-3 three-requires-4 returns)

@@ -5,9 +5,6 @@ use Rattle.survey_sides.specs.Planes.{spanOf, planeOf}
 use Rattle.survey_sides.proofs.planes.through.Statement.{statement}
 use Rattle.survey_sides.proofs.planes.through.Tie as tie
 
-join-requires : tie.Need-join-requires
-join-requires c κs = search needs
-
 span-requires : tie.Need-span-requires
 span-requires c κs = rw (c .join .ensures) (c .before .pre .whole)
 
@@ -16,4 +13,4 @@ unfolding planeOf
 returns c = c .span .ensures ∙ (λ i. spanOf (c .before .join .ensures i) (c .before .before .args .c))
 
 pub through-spec : {M : Type 1} → statement M
-through-spec = tie.close (tie.spec join-requires span-requires returns)
+through-spec = tie.close (tie.spec (λ c κs. search needs) span-requires returns)

@@ -14,18 +14,6 @@ b-fits c = search needs
 c-fits : (c : tie.Start) → RowFits (c .args .c)
 c-fits c = search needs
 
-sum-requires : tie.Need-sum-requires
-sum-requires c κs = search needs
-
-sum-requires-2 : tie.Need-sum-requires-2
-sum-requires-2 c κs = search needs
-
-sum-requires-3 : tie.Need-sum-requires-3
-sum-requires-3 c κs = search needs
-
-sum-requires-4 : tie.Need-sum-requires-4
-sum-requires-4 c κs = search needs
-
 returns : tie.Need-returns
 returns c =
     let d3 = c .before .before .before .before in
@@ -44,4 +32,4 @@ returns c =
     }
 
 pub added-spec : {M : Type 1} → statement M
-added-spec = tie.close (tie.spec sum-requires sum-requires-2 sum-requires-3 sum-requires-4 returns)
+added-spec = tie.close (tie.spec (λ c κs. search needs) (λ c κs. search needs) (λ c κs. search needs) (λ c κs. search needs) returns)

@@ -10,18 +10,6 @@ use Rattle.survey_sides.proofs.slopes.is_blank.Tie as tie
 fits : (c : tie.Start) → RowFits (c .args .r)
 fits c = search needs
 
-is-zero-requires : tie.Need-is-zero-requires
-is-zero-requires c κs = search needs
-
-is-zero-requires-2 : tie.Need-is-zero-requires-2
-is-zero-requires-2 c κs = search needs
-
-is-zero-requires-3 : tie.Need-is-zero-requires-3
-is-zero-requires-3 c κs = search needs
-
-is-zero-requires-4 : tie.Need-is-zero-requires-4
-is-zero-requires-4 c κs = search needs
-
 returns : tie.Need-returns
 returns c =
     let d3 = c .before .before in
@@ -37,4 +25,4 @@ returns c =
 pub is-blank-spec : {M : Type 1} → statement M
 is-blank-spec =
     tie.close
-    (tie.spec is-zero-requires is-zero-requires-2 is-zero-requires-3 is-zero-requires-4 returns)
+    (tie.spec (λ c κs. search needs) (λ c κs. search needs) (λ c κs. search needs) (λ c κs. search needs) returns)

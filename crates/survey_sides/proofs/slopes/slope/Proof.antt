@@ -10,18 +10,6 @@ use Rattle.survey_sides.specs.Units.{units-are}
 use Rattle.survey_sides.proofs.slopes.slope.Statement.{statement}
 use Rattle.survey_sides.proofs.slopes.slope.Tie as tie
 
-row-in-requires : tie.Need-row-in-requires
-row-in-requires c κs = search needs
-
-row-in-requires-2 : tie.Need-row-in-requires-2
-row-in-requires-2 c κs = search needs
-
-row-in-requires-3 : tie.Need-row-in-requires-3
-row-in-requires-3 c κs = search needs
-
-are-units-requires : tie.Need-are-units-requires
-are-units-requires c κs = search needs
-
 slope-seen-requires : tie.Need-slope-seen-requires
 slope-seen-requires c κs =
     let e = c .before in
@@ -35,12 +23,6 @@ slope-seen-requires c κs =
           (units-are _ _ _ (sym (e .are-units .ensures) ∙ c .if1 .taken)),
     )
 
-returns : tie.Need-returns
-returns c = search needs
-
-shift-at-requires : tie.Need-shift-at-requires
-shift-at-requires c κs = search needs
-
 through-requires : tie.Need-through-requires
 through-requires c κs =
     let r3 = c .before .before .before in
@@ -50,9 +32,6 @@ through-requires c κs =
     let h = s .pre .1 in
     rw (c .shift-at .ensures, r1 .row-in .ensures, r3 .row-in3 .ensures)
     (first-formed (rowIn (now (s .args .rows))) (f .q) (f .p) (f .r) (s .pre .0) (h .q) (h .p) (h .r))
-
-shift-at-requires-2 : tie.Need-shift-at-requires-2
-shift-at-requires-2 c κs = search needs
 
 through-requires-2 : tie.Need-through-requires-2
 through-requires-2 c κs =
@@ -129,18 +108,6 @@ returns-2 c =
 pub slope-spec : {M : Type 1} → statement M
 slope-spec =
     tie.close
-    (tie.spec
-    row-in-requires
-    row-in-requires-2
-    row-in-requires-3
-    are-units-requires
-    slope-seen-requires
-    returns
-    shift-at-requires
-    through-requires
-    shift-at-requires-2
-    through-requires-2
-    shift-at-requires-3
-    through-requires-3
-    added-requires
-    returns-2)
+    (tie.spec (λ c κs. search needs) (λ c κs. search needs) (λ c κs. search needs) (λ c κs. search needs) slope-seen-requires
+    (λ c. search needs) (λ c κs. search needs) through-requires (λ c κs. search needs) through-requires-2 shift-at-requires-3
+    through-requires-3 added-requires returns-2)

@@ -7,22 +7,10 @@ use Rattle.survey_sides.specs.Slopes.{slopeFor, isBlank, stored-sloped}
 use Rattle.survey_sides.proofs.slopes.slope_at.Statement.{statement}
 use Rattle.survey_sides.proofs.slopes.slope_at.Tie as tie
 
-held-requires : tie.Need-held-requires
-held-requires c κs = search needs
-
-is-blank-requires : tie.Need-is-blank-requires
-is-blank-requires c κs = search needs
-
-face-in-requires : tie.Need-face-in-requires
-face-in-requires c κs = search needs
-
 slope-requires : tie.Need-slope-requires
 slope-requires c κs =
     let p = c .before .before .before .before .before .pre in
     (p .0 .0, rw (c .face-in .ensures) (p .0 .1 _))
-
-put-requires : tie.Need-put-requires
-put-requires c κs = search needs
 
 returns : tie.Need-returns
 returns c =
@@ -46,11 +34,4 @@ returns-2 c =
 pub slope-at-spec : {M : Type 1} → statement M
 slope-at-spec =
     tie.close
-    (tie.spec
-    held-requires
-    is-blank-requires
-    face-in-requires
-    slope-requires
-    put-requires
-    returns
-    returns-2)
+    (tie.spec (λ c κs. search needs) (λ c κs. search needs) (λ c κs. search needs) slope-requires (λ c κs. search needs) returns returns-2)

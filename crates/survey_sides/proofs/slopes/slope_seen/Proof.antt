@@ -55,31 +55,16 @@ dv-is c =
 
 -- ---- what each step asks for
 
-row-in-requires : tie.Need-row-in-requires
-row-in-requires c κs = search needs
-
-shift-at-requires : tie.Need-shift-at-requires
-shift-at-requires c κs = search needs
-
-row-in-requires-2 : tie.Need-row-in-requires-2
-row-in-requires-2 c κs = search needs
-
 less-requires : tie.Need-less-requires
 less-requires c κs =
     let d = c .before .before in
     let p = d .before .pre .0 in
     rw (c .row-in2 .ensures, d .row-in .ensures) (unit-less (p _) (p _))
 
-row-in-requires-3 : tie.Need-row-in-requires-3
-row-in-requires-3 c κs = search needs
-
 less-requires-2 : tie.Need-less-requires-2
 less-requires-2 c κs =
     let p = start (c .before) .pre .0 in
     rw (c .row-in3 .ensures, r-is (c .before)) (unit-less (p _) (p _))
-
-shift-at-requires-2 : tie.Need-shift-at-requires-2
-shift-at-requires-2 c κs = search needs
 
 less-requires-3 : tie.Need-less-requires-3
 less-requires-3 c κs =
@@ -171,19 +156,6 @@ returns c =
 pub slope-seen-spec : {M : Type 1} → statement M
 slope-seen-spec =
     tie.close
-    (tie.spec
-    row-in-requires
-    shift-at-requires
-    row-in-requires-2
-    less-requires
-    row-in-requires-3
-    less-requires-2
-    shift-at-requires-2
-    less-requires-3
-    seen-requires
-    shift-at-requires-3
-    less-requires-4
-    seen-requires-2
-    triple-requires
-    added-requires
+    (tie.spec (λ c κs. search needs) (λ c κs. search needs) (λ c κs. search needs) less-requires (λ c κs. search needs) less-requires-2
+    (λ c κs. search needs) less-requires-3 seen-requires shift-at-requires-3 less-requires-4 seen-requires-2 triple-requires added-requires
     returns)

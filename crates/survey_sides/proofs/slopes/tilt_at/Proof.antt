@@ -13,9 +13,6 @@ use Rattle.survey_sides.specs.SlopeSizes.{plusSize, slope-dot, shift-dot
 use Rattle.survey_sides.proofs.slopes.tilt_at.Statement.{statement}
 use Rattle.survey_sides.proofs.slopes.tilt_at.Tie as tie
 
-slope-at-requires : tie.Need-slope-at-requires
-slope-at-requires c κs = search needs
-
 dot-requires : tie.Need-dot-requires
 unfolding slopeFor
 dot-requires c κs =
@@ -26,12 +23,6 @@ dot-requires c κs =
     let h = p .0 .1 (a .k) in
     rw (c .slope-at .ensures .0, p .1 .0 .1)
     (slope-dot (rowIn (now (a .rows))) (f .q) (f .p) (f .r) (p .0 .0) (h .q) (h .p) (h .r) (a .t))
-
-sub-plane-at : tie.Need-sub-plane-at
-sub-plane-at c = search needs
-
-plane-at-requires : tie.Need-plane-at-requires
-plane-at-requires c κs = search needs
 
 dot-requires-2 : tie.Need-dot-requires-2
 unfolding planeFor
@@ -79,4 +70,4 @@ returns c =
 
 pub tilt-at-spec : {M : Type 1} → statement M
 tilt-at-spec =
-    tie.close (tie.spec slope-at-requires dot-requires sub-plane-at plane-at-requires dot-requires-2 plus-requires returns)
+    tie.close (tie.spec (λ c κs. search needs) dot-requires (λ c. search needs) (λ c κs. search needs) dot-requires-2 plus-requires returns)

@@ -8,12 +8,6 @@ use Rattle.survey_sides.specs.Told.{above-asked, turned}
 use Rattle.survey_sides.proofs.tell.side.Statement.{statement}
 use Rattle.survey_sides.proofs.tell.side.Tie as tie
 
-sub-plane-at : tie.Need-sub-plane-at
-sub-plane-at c = search needs
-
-plane-at-requires : tie.Need-plane-at-requires
-plane-at-requires c κs = search needs
-
 dot-requires : tie.Need-dot-requires
 dot-requires c κs =
     let s = c .before in
@@ -32,4 +26,4 @@ returns c =
     (c .before .plane-at .ensures) (p .1 .0 .3) (c .dot .ensures))
 
 pub side-spec : {M : Type 1} → statement M
-side-spec = tie.close (tie.spec sub-plane-at plane-at-requires dot-requires returns)
+side-spec = tie.close (tie.spec (λ c. search needs) (λ c κs. search needs) dot-requires returns)

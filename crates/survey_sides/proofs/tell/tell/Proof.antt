@@ -31,12 +31,6 @@ tell-word-requires-2 c κs =
       ),
     )
 
-add-tell-word : tie.Need-add-tell-word
-add-tell-word c = search needs
-
-sub-tell-word : tie.Need-sub-tell-word
-sub-tell-word c = search needs
-
 tell-word-requires-3 : tie.Need-tell-word-requires-3
 tell-word-requires-3 c κs =
     let s = c .before .before in
@@ -59,4 +53,4 @@ returns-2 c =
 
 pub tell-spec : {M : Type 1} → statement M
 tell-spec =
-    tie.close (tie.spec tell-word-requires returns tell-word-requires-2 add-tell-word sub-tell-word tell-word-requires-3 returns-2)
+    tie.close (tie.spec tell-word-requires returns tell-word-requires-2 (λ c. search needs) (λ c. search needs) tell-word-requires-3 returns-2)

@@ -88,15 +88,4 @@ returns c =
 pub tell-at-spec : {M : Type 1} → statement M
 tell-at-spec =
     tie.close
-    (tie.spec
-    Inv-loop
-    μ-loop
-    loop-holds
-    add-side
-    side-requires
-    bit-requires
-    bit-requires-2
-    sub-k
-    loop-less
-    loop-again
-    returns)
+    (tie.spec Inv-loop μ-loop loop-holds add-side side-requires bit-requires bit-requires-2 sub-k loop-less loop-again returns)

@@ -21,12 +21,6 @@ face s = faceIn (now (s .args .corners))
 abbrev start : tie.After-ties → tie.Start
 start e = e .before .before .before .before .before .before
 
-row-in-requires : tie.Need-row-in-requires
-row-in-requires c κs = search needs
-
-shift-at-requires : tie.Need-shift-at-requires
-shift-at-requires c κs = search needs
-
 ties-requires : tie.Need-ties-requires
 ties-requires c κs =
     let d = c .before in
@@ -44,9 +38,6 @@ ties-requires c κs =
         ),
       ),
     )
-
-add-ties : tie.Need-add-ties
-add-ties c = search needs
 
 ties-requires-2 : tie.Need-ties-requires-2
 ties-requires-2 c κs =
@@ -103,4 +94,4 @@ returns c =
     )
 
 pub settled-spec : {M : Type 1} → statement M
-settled-spec = tie.close (tie.spec row-in-requires shift-at-requires ties-requires add-ties ties-requires-2 add-t18 add-t19 returns)
+settled-spec = tie.close (tie.spec (λ c κs. search needs) (λ c κs. search needs) ties-requires (λ c. search needs) ties-requires-2 add-t18 add-t19 returns)

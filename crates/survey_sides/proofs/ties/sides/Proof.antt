@@ -7,12 +7,6 @@ use Rattle.survey_sides.specs.Ties.{masks-clear}
 use Rattle.survey_sides.proofs.ties.sides.Statement.{statement}
 use Rattle.survey_sides.proofs.ties.sides.Tie as tie
 
-tell-requires : tie.Need-tell-requires
-tell-requires c κs = search needs
-
-has-ties-requires : tie.Need-has-ties-requires
-has-ties-requires c κs = search needs
-
 settled-requires : tie.Need-settled-requires
 settled-requires c κs =
     let d = c .before .before .before in
@@ -21,9 +15,6 @@ settled-requires c κs =
 
 returns : tie.Need-returns
 returns c = c .settled .ensures
-
-above-of-requires : tie.Need-above-of-requires
-above-of-requires c κs = search needs
 
 returns-2 : tie.Need-returns-2
 returns-2 c =
@@ -40,4 +31,4 @@ returns-2 c =
     )
 
 pub sides-spec : {M : Type 1} → statement M
-sides-spec = tie.close (tie.spec tell-requires has-ties-requires settled-requires returns above-of-requires returns-2)
+sides-spec = tie.close (tie.spec (λ c κs. search needs) (λ c κs. search needs) settled-requires returns (λ c κs. search needs) returns-2)

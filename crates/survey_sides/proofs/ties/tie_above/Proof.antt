@@ -24,9 +24,6 @@ returns c =
       d .tilt-at .ensures .1,
     )
 
-face-in-requires : tie.Need-face-in-requires
-face-in-requires c κs = search needs
-
 tied-at-requires : tie.Need-tied-at-requires
 tied-at-requires c κs =
     let s = c .before .before .before .before in
@@ -39,4 +36,4 @@ unfolding above
 returns-2 c = (c .tied-at .ensures ∙ ap (above _ _) (c .before .face-in .ensures), c .before .before .before .tilt-at .ensures .1)
 
 pub tie-above-spec : {M : Type 1} → statement M
-tie-above-spec = tie.close (tie.spec tilt-at-requires returns face-in-requires tied-at-requires returns-2)
+tie-above-spec = tie.close (tie.spec tilt-at-requires returns (λ c κs. search needs) tied-at-requires returns-2)

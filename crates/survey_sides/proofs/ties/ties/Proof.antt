@@ -108,18 +108,5 @@ returns c =
 pub ties-spec : {M : Type 1} → statement M
 ties-spec =
     tie.close
-    (tie.spec
-    Inv-loop
-    μ-loop
-    loop-holds
-    cast-k
-    add-tie-above
-    add-tie-above-2
-    tie-above-requires
-    bit-requires
-    shl-word
-    add-word
-    sub-left
-    loop-less
-    loop-again
-    returns)
+    (tie.spec Inv-loop μ-loop loop-holds cast-k add-tie-above add-tie-above-2 tie-above-requires bit-requires shl-word add-word sub-left
+    loop-less loop-again returns)

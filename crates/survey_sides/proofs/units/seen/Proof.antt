@@ -11,18 +11,6 @@ u-fits c = search needs
 v-fits : (c : tie.Start) → RowFits (c .args .v)
 v-fits c = search needs
 
-cross-requires : tie.Need-cross-requires
-cross-requires c κs = search needs
-
-cross-requires-2 : tie.Need-cross-requires-2
-cross-requires-2 c κs = search needs
-
-cross-requires-3 : tie.Need-cross-requires-3
-cross-requires-3 c κs = search needs
-
-triple-requires : tie.Need-triple-requires
-triple-requires c κs = search needs
-
 returns : tie.Need-returns
 returns c =
     let c3 = c .before in
@@ -40,4 +28,4 @@ returns c =
     }
 
 pub seen-spec : {M : Type 1} → statement M
-seen-spec = tie.close (tie.spec cross-requires cross-requires-2 cross-requires-3 triple-requires returns)
+seen-spec = tie.close (tie.spec (λ c κs. search needs) (λ c κs. search needs) (λ c κs. search needs) (λ c κs. search needs) returns)

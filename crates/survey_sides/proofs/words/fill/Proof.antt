@@ -10,9 +10,6 @@ use Rattle.survey_sides.specs.Tables.{masksFrom, masks-join, ready-from}
 use Rattle.survey_sides.proofs.words.fill.Statement.{statement}
 use Rattle.survey_sides.proofs.words.fill.Tie as tie
 
-fill-clear-requires : tie.Need-fill-clear-requires
-fill-clear-requires c κs = search needs
-
 add-fill-tied : tie.Need-add-fill-tied
 add-fill-tied c = omega (arith, c .before .fill-clear .ensures .0, c .before .before .before .pre .1 .0)
 
@@ -47,4 +44,4 @@ returns c =
     ∙ ap (λ (n : ℕ). masksFrom g (k .low) n (now (a .words))) e
 
 pub fill-spec : {M : Type 1} → statement M
-fill-spec = tie.close (tie.spec fill-clear-requires add-fill-tied sub-fill-tied fill-tied-requires returns)
+fill-spec = tie.close (tie.spec (λ c κs. search needs) add-fill-tied sub-fill-tied fill-tied-requires returns)

@@ -77,18 +77,5 @@ returns-2 c =
 pub fill-clear-spec : {M : Type 1} → statement M
 fill-clear-spec =
     tie.close
-    (tie.spec
-    Inv-loop
-    μ-loop
-    loop-holds
-    add-t
-    add-t-2
-    tell-requires
-    has-ties-requires
-    returns
-    above-of-requires
-    put-requires
-    add-i
-    loop-less
-    loop-again
-    returns-2)
+    (tie.spec Inv-loop μ-loop loop-holds add-t add-t-2 tell-requires has-ties-requires returns above-of-requires put-requires add-i
+    loop-less loop-again returns-2)

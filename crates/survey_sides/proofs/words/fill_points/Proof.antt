@@ -60,15 +60,4 @@ returns c =
 pub fill-points-spec : {M : Type 1} → statement M
 fill-points-spec =
     tie.close
-    (tie.spec
-    Inv-loop
-    μ-loop
-    loop-holds
-    add-t
-    add-t-2
-    sides-requires
-    put-requires
-    add-i
-    loop-less
-    loop-again
-    returns)
+    (tie.spec Inv-loop μ-loop loop-holds add-t add-t-2 sides-requires put-requires add-i loop-less loop-again returns)

@@ -7,12 +7,5 @@ use Rattle.table.proofs.row.row.Tie as tie
 pub row-spec : {M : Type 1} → statement M
 row-spec =
     tie.close
-    (tie.spec
-    (λ c κs. search needs)
-    (λ c κs. search needs)
-    (λ c. search needs)
-    (λ c. search (one, and))
-    (λ c. search needs)
-    (λ c κs. search needs)
-    (λ c. search needs)
-    (λ c. search (one, and)))
+    (tie.spec (λ c κs. search needs) (λ c κs. search needs) (λ c. search needs) (λ c. search (one, and)) (λ c. search needs)
+    (λ c κs. search needs) (λ c. search needs) (λ c. search (one, and)))

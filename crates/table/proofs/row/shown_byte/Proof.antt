@@ -7,7 +7,4 @@ use Rattle.table.proofs.row.shown_byte.Tie as tie
 pub shown-byte-spec : {M : Type 1} → statement M
 shown-byte-spec =
     tie.close
-    (tie.spec
-    (λ c. search shown-low)
-    (λ c. search shown-delete)
-    (λ c. search shown-same))
+    (tie.spec (λ c. search shown-low) (λ c. search shown-delete) (λ c. search shown-same))

@@ -49,18 +49,5 @@ returns c = search needs
 pub double-spec : {M : Type 1} → statement M
 double-spec =
     tie.close
-    (tie.spec
-    Inv-loop
-    μ-loop
-    next-requires
-    next-requires-2
-    face-start-requires
-    face-start-requires-2
-    loop-holds
-    add-copy-one
-    add-copy-one-2
-    copy-one-requires
-    add-i
-    loop-less
-    loop-again
-    returns)
+    (tie.spec Inv-loop μ-loop next-requires next-requires-2 face-start-requires face-start-requires-2 loop-holds add-copy-one add-copy-one-2
+    copy-one-requires add-i loop-less loop-again returns)
