@@ -4,6 +4,7 @@
 """
 
 import importlib
+import signal
 import sys
 import time
 
@@ -23,7 +24,15 @@ def outcome(function):
         return "failed", f"{type(why).__name__}: {why}" if not isinstance(why, AssertionError) else str(why)
 
 
+def feel_signals():
+    """Where the tests are started behind nohup or &, some are ignored, and every program that is started would ignore them too."""
+    signal.signal(signal.SIGINT, signal.default_int_handler)
+    for number in (signal.SIGHUP, signal.SIGQUIT, signal.SIGTERM):
+        signal.signal(number, signal.SIG_DFL)
+
+
 def main():
+    feel_signals()
     counts = {"passed": 0, "failed": 0, "skipped": 0}
     for part in sys.argv[2:] or PARTS:
         del tree.TESTS[:]
