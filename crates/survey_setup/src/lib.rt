@@ -62,7 +62,7 @@ pub fn tell_sides(
     survey_sides::words::fill(rows, corners, planes, k, words);
 }
 
-// The same, with a lent table of slopes: those that one solid's ties asked for serve again.
+// The same, with a lent table of slopes: those that the first look made are not made again.
 pub fn tell_lent(
     rows: &Rows,
     corners: &Corners,
