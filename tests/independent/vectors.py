@@ -18,7 +18,7 @@ from exact import Refused, ask, read_scene, report
 from judge import LONGEST_SCENE, judge
 from scenes import kind_of_scene, random_scene
 
-CRATE = Path(__file__).resolve().parent.parent / "crates" / "test_vectors"
+CRATE = Path(__file__).resolve().parents[2] / "crates" / "test_vectors"
 SCENES, PRINTS = CRATE / "stdin", CRATE / "stdout"
 
 SEED = 5

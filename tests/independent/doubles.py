@@ -17,7 +17,7 @@ from pathlib import Path
 
 from judge import COORDINATES, WEIGHTS
 
-CRATE = Path(__file__).resolve().parent.parent / "crates" / "test_doubles"
+CRATE = Path(__file__).resolve().parents[2] / "crates" / "test_doubles"
 TABLE, PRINTS = CRATE / "stdin", CRATE / "stdout"
 COORDINATE_LIMIT, WEIGHT_LIMIT = COORDINATES[-1], WEIGHTS[-1]
 SEED, RANDOM_ENTRIES = 7, 260

@@ -1,10 +1,10 @@
 """The class report once more, from the requirements alone: scenes end to end in a block, tallied.
 
-    class.py report < block                       prints the report of a block
-    class.py merge < reports                      prints the report of all reports, end to end
-    class.py selftest                             runs small blocks whose report is written here
-    class.py blocks FOLDER SEED COUNT             writes random blocks into a folder
-    class.py compare PROGRAM MERGE SEED COUNT     random blocks, and sets of them; the programs' prints against this one's
+    class_report.py report < block                       prints the report of a block
+    class_report.py merge < reports                      prints the report of all reports, end to end
+    class_report.py selftest                             runs small blocks whose report is written here
+    class_report.py blocks FOLDER SEED COUNT             writes random blocks into a folder
+    class_report.py compare PROGRAM MERGE SEED COUNT     random blocks, and sets of them; the programs' prints against this one's
 """
 
 import random
