@@ -7,76 +7,46 @@ The program reads entries like those of the shipped vectors from standard input 
 printed as a scene that can be replayed, and saved; then the exit status is 1.
 """
 
-import argparse
-import random
-import shlex
-import subprocess
 import sys
 from itertools import zip_longest
-from pathlib import Path
 
+import harness
 from judge import judge
 from scenes import random_scene
 from vectors import packed, print_of, questions
 
 
-def options():
-    parser = argparse.ArgumentParser(description="Compares random scenes with the kernel's program.")
-    parser.add_argument("--program", default="target/bin/test_vectors", help="the command to run")
-    parser.add_argument("--batch", type=int, default=100, help="scenes in one run of the program")
-    parser.add_argument("seed", type=int)
-    parser.add_argument("count", type=int, nargs="?", default=20000)
-    return parser.parse_args()
+def asked_of(n, data):
+    """What a scene, the n-th of its batch, is asked; each can be asked again of the saved scene."""
+    words = [("ask", *question) for question in questions(n, data)] if judge(data) is None else []
+    return "; ".join(["report", *(" ".join(map(str, question)) for question in words)])
 
 
-def first_difference(expected, found):
-    """The number of the first scene whose print does not come next, or None."""
-    start = 0
-    for n, lines in enumerate(expected):
-        if not found.startswith(lines, start):
-            return n, found[start:]
-        start += len(lines)
-    return None if start == len(found) else (len(expected) - 1, expected[-1] + found[start:])
-
-
-def show_difference(path, n, data, expected, found):
-    """Prints the scene, the first line that differs, and the questions it was asked."""
-    path.write_bytes(data)
-    print(f"difference: saved as {path}, {len(data)} bytes, scene {n} of its batch")
-    print(data.hex())
-    for line, (wanted, got) in enumerate(zip_longest(expected.splitlines(), found.splitlines()), 1):
-        if wanted != got:
-            print(f"line {line} of its print: expected {wanted!r}, found {got!r}")
-            break
-    print(f"replay: report < {path}")
-    for question in questions(n, data) if judge(data) is None else []:
-        print(f"replay: ask {' '.join(map(str, question))} < {path}")
-
-
-def compare_batch(program, scenes, seed, start):
-    """Whether the program prints what it should for these scenes, the first of which is `start`."""
+def compare_batch(comparison, program, scenes, start):
+    """What the program prints for these scenes, the first of which is `start`."""
     expected = [print_of(n, data) for n, data in enumerate(scenes)]
-    run = subprocess.run(program, input=packed(scenes), stdout=subprocess.PIPE, check=False)
-    difference = first_difference(expected, run.stdout.decode("latin-1"))
-    if difference:
-        n, found = difference
-        path = Path(f"difference-{seed}-{start + n}.scene")
-        show_difference(path, n, scenes[n], expected[n], found)
-    if run.returncode:
-        print(f"the program ended with status {run.returncode}")
-    return not difference and run.returncode == 0
+    ran = harness.run(program, (), packed(scenes))
+    other = harness.first_other(expected, ran.out.decode("latin-1"))
+    if other:
+        n, found = other
+        pairs = zip_longest(expected[n].splitlines(), found.splitlines())
+        line, (wanted, got) = next((line, pair) for line, pair in enumerate(pairs, 1) if pair[0] != pair[1])
+        comparison.case = start + n
+        asked = f"scene {n} of its batch, line {line} of its print, status {ran.status}; asked: {asked_of(n, scenes[n])}"
+        comparison.show(asked, {"scene": scenes[n]}, repr(wanted), repr(got))
+    comparison.same("the status", {"entries": packed(scenes)}, 0, ran.status)
 
 
-def main():
-    given = options()
-    rng, program = random.Random(given.seed), shlex.split(given.program)
+def main(words):
+    given = harness.words_of(words, default="target/bin/test_vectors", count=20000, batch=100)
+    comparison = harness.Comparison(given.seed)
     for start in range(0, given.count, given.batch):
-        scenes = [random_scene(rng) for _ in range(min(given.batch, given.count - start))]
-        if not compare_batch(program, scenes, given.seed, start):
-            return 1
+        comparison.case = start
+        scenes = [random_scene(comparison.rng) for _ in range(min(given.batch, given.count - start))]
+        compare_batch(comparison, given.program, scenes, start)
     print(f"{given.count} scenes alike")
     return 0
 
 
 if __name__ == "__main__":
-    sys.exit(main())
+    sys.exit(main(sys.argv[1:]))
