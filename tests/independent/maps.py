@@ -215,14 +215,20 @@ def faulty_tables(rng):
             diagonal(most, most, most, 1), diagonal(1, 1, 1, most), [[0, 0, 0, 1], [0, 1, 0, 0], [0, 0, 1, 0], [1, 0, 0, 0]]]
 
 
+def said_map(table):
+    """The words of a map, as the program takes them."""
+    return " ".join(["map", *map(str, sum(table, []))])
+
+
 def compare_image(comparison, given, data, turns):
     """A clean scene's image: its bytes, that it is clean, and that its report is the scene's own."""
     table, new = table_with_image(comparison.rng, data, turns)
     words = sum(table, [])
+    asked = said_map(table)
     inputs = {"scene": data, "image.scene": new}
-    comparison.same(f"map {words}", inputs, (new, "", 0), run(given.map, words, data))
-    comparison.same(f"clean, map {words}", inputs, [(b"clean yes\n", "", 0)] * 2, [run(given.clean, [], scene) for scene in (data, new)])
-    comparison.same(f"report, map {words}", inputs, *(run(given.report, [], scene) for scene in (data, new)))
+    comparison.same(asked, inputs, (new, "", 0), run(given.map, words, data))
+    comparison.same(f"clean, {asked}", inputs, [(b"clean yes\n", "", 0)] * 2, [run(given.clean, [], scene) for scene in (data, new)])
+    comparison.same(f"report, {asked}", inputs, *(run(given.report, [], scene) for scene in (data, new)))
 
 
 def compare(words):
@@ -242,7 +248,7 @@ def compare(words):
         for scene in (data, other):
             new = image(scene, table)
             expected = (b"", new.line + "\n", 1) if isinstance(new, Refused) else (new, "", 0)
-            comparison.same(f"map {sum(table, [])}", {"scene": scene}, expected, run(given.map, sum(table, []), scene))
+            comparison.same(said_map(table), {"scene": scene}, expected, run(given.map, sum(table, []), scene))
     print(f"{given.count} clean scenes and their images with one report, and as many refusals")
     return 0
 
