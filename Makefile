@@ -13,7 +13,7 @@ DOCUMENTS = README.md LICENSE CHANGELOG.md $(wildcard docs/GUIDE.md docs/SCENE.m
 COMMANDS = bodhranhaze bodhranhaze-blocks
 PAGES = $(notdir $(wildcard packaging/man/*))
 # What examples/make.py imports.
-EXACT = independent/exact.py independent/judge.py
+EXACT = tests/independent/exact.py tests/independent/judge.py
 
 TREE = $(DESTDIR)$(PREFIX)
 PACK = bodhranhaze-$(VERSION)-x86_64

@@ -32,7 +32,7 @@ from making import drawings, texts
 from making.files import Wrong, contents_of, refuse_same, say, write_to
 
 HERE = Path(__file__).resolve().parent
-INDEPENDENT = HERE.parent / "independent"
+INDEPENDENT = HERE.parent / "tests" / "independent"
 TABLE_HEAD = "| name | what it shows | the report begins |\n|---|---|---|\n"
 
 

@@ -45,10 +45,10 @@ def it_is_loaded_and_answers():
 
 
 def compiled_by_the_kit(tools, room, libraries):
-    """viewer/survey.c by the compiler that stands beside the emulator."""
+    """tests/c/survey.c by the compiler that stands beside the emulator."""
     lib = tools.parent / "lib"
     run([tools / "clang", "--target=x86_64-unknown-linux-gnu", "-O2", "-fPIE", "-ffreestanding", "-nostdinc",
-         f"-I{ROOT}/viewer/c", f"-I{TREE}/include", "-c", ROOT / "viewer/survey.c", "-o", f"{room}/survey.o"])
+         f"-I{ROOT}/tests/c/headers", f"-I{TREE}/include", "-c", ROOT / "tests/c/survey.c", "-o", f"{room}/survey.o"])
     starts = [lib / name for name in ("Scrt1.o", "crti.o", "crtbeginS.o")]
     ends = [lib / name for name in ("libc.so.6", "libc_nonshared.a", "libgcc.a", "crtendS.o", "crtn.o")]
     return run([tools / "ld.lld", "-pie", "-dynamic-linker", lib / "ld-linux-x86-64.so.2", "-rpath", LIB,
@@ -57,7 +57,7 @@ def compiled_by_the_kit(tools, room, libraries):
 
 def compiled_here(room, libraries):
     needs("cc")
-    return run(["cc", f"-I{ROOT}/viewer/c", f"-I{TREE}/include", f"-Wl,-rpath,{LIB}", ROOT / "viewer/survey.c", *libraries,
+    return run(["cc", f"-I{ROOT}/tests/c/headers", f"-I{TREE}/include", f"-Wl,-rpath,{LIB}", ROOT / "tests/c/survey.c", *libraries,
                 "-o", f"{room}/survey"])
 
 

@@ -13,7 +13,7 @@ from pathlib import Path
 
 ROOT = Path(__file__).resolve().parent.parent.parent
 MAKE = Path(sys.argv[1]).resolve() if sys.argv[1:] else ROOT / "examples" / "make.py"
-sys.path[:0] = [str(Path(__file__).resolve().parent), str(MAKE.parent), str(ROOT / "independent")]
+sys.path[:0] = [str(Path(__file__).resolve().parent), str(MAKE.parent), str(ROOT / "tests" / "independent")]
 
 import dialects
 import shapes

@@ -1,14 +1,13 @@
 """A folder with blocks in it, as the office has it, and the report that is right for them."""
 
-import importlib
 import os
 import pathlib
 import sys
 
 import room
 
-sys.path.insert(0, str(pathlib.Path(__file__).resolve().parents[2] / "independent"))
-independent = importlib.import_module("class")
+sys.path.insert(0, str(pathlib.Path(__file__).resolve().parents[1] / "independent"))
+import class_report as independent
 
 FAR_X = 8
 

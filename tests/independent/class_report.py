@@ -1,17 +1,16 @@
 """The class report once more, from the requirements alone: scenes end to end in a block, tallied.
 
-    class.py report < block                       prints the report of a block
-    class.py merge < reports                      prints the report of all reports, end to end
-    class.py selftest                             runs small blocks whose report is written here
-    class.py blocks FOLDER SEED COUNT             writes random blocks into a folder
-    class.py compare PROGRAM MERGE SEED COUNT     random blocks, and sets of them; the programs' prints against this one's
+    class_report.py report < block                       prints the report of a block
+    class_report.py merge < reports                      prints the report of all reports, end to end
+    class_report.py selftest                             runs small blocks whose report is written here
+    class_report.py blocks FOLDER SEED COUNT             writes random blocks into a folder
+    class_report.py compare PROGRAM MERGE SEED COUNT     random blocks, and sets of them; the programs' prints against this one's
 """
 
 import random
-import shlex
-import subprocess
 import sys
 
+import harness
 from exact import Refused, read_scene
 from judge import FACE_COUNTS, HEADER_BYTES, VERTEX_COUNTS, scene_bytes
 from scenes import random_scene
@@ -95,7 +94,7 @@ def said(block):
     return [line for line in lines if not line.endswith(" 0") or line.startswith(("mean", "refused 23"))]
 
 
-def run():
+def selftest(words):
     cases = [
         (b"", ["mean 0 0 0"]),
         (CROSS, ["scenes 1", "cross 1", "mean 3 0 1"]),
@@ -146,78 +145,76 @@ def ends_whole(block):
     return block is not None
 
 
-def printed_by(program, data):
-    return subprocess.run(shlex.split(program), input=data, stdout=subprocess.PIPE, check=True).stdout.decode("latin-1")
+def answer_of(program, data, *words):
+    """The status that a program ends with, and the lines that it prints."""
+    ran = harness.run(program, words, data)
+    return ran.status, ran.out.decode("latin-1").split("\n")
 
 
-def differs(name, data, expected, found):
-    """Saves what the programs differ on, and says so."""
-    if expected == found:
-        return False
-    open(f"difference-{name}", "wb").write(data)
-    print(f"difference: saved as difference-{name}; expected\n{expected}found\n{found}", end="")
-    return True
+def answer(lines):
+    """The same, as it should be."""
+    return 0, [*lines, ""]
 
 
-def counts(merge, text, number, expected):
+def compare_count(comparison, merge, text, number, expected):
     """Asked for as many reports as there are, it prints them merged; asked for one more, nothing, and says how many there are."""
-    more = subprocess.run(shlex.split(f"{merge} --reports {number + 1}"), input=text, capture_output=True)
-    said = f"merge: {number} reports, and {number + 1} are asked for\n"
-    if printed_by(f"{merge} --reports {number}", text) == expected and (more.stdout, more.stderr.decode()) == (b"", said):
-        return True
-    print(f"{number} reports are counted otherwise: {more.stdout + more.stderr}")
-    return False
+    comparison.same(f"--reports {number}", {"reports": text}, expected, answer_of(merge, text, "--reports", number))
+    more = harness.run(merge, ["--reports", number + 1], text)
+    said = f"merge: {number} reports, and {number + 1} are asked for\n".encode()
+    comparison.same(f"--reports {number + 1}", {"reports": text}, (b"", said), (more.out, more.err))
 
 
-def compare_sets(program, merge, rng, blocks, reports, count):
+def chosen_blocks(rng, blocks, n):
+    """The numbers of a set: the first has the last block, which is too long, and every other one only blocks that can stand end to end."""
+    chosen = rng.sample(range(len(blocks)), rng.randrange(6))
+    if n == 0:
+        return chosen + [len(blocks) - 1]
+    return [k for k in chosen if ends_whole(blocks[k]) and len(blocks[k]) < 9000] if n % 2 else chosen
+
+
+def compare_sets(comparison, given, blocks, reports):
     """Sets of blocks: their reports merged and counted; and, where they can stand end to end, the report of that block."""
-    end_to_end = 0
-    for n in range(count):
-        chosen = rng.sample(range(len(blocks)), rng.randrange(6))
-        if n == 0:
-            chosen.append(len(blocks) - 1)
-        elif n % 2:
-            chosen = [k for k in chosen if ends_whole(blocks[k]) and len(blocks[k]) < 9000]
-        text = "".join(reports[k] for k in chosen).encode()
-        found = printed_by(merge, text)
-        if differs(f"{n}.reports", text, "\n".join(merged(text.decode())) + "\n", found):
-            return False
-        if not counts(merge, text, len(chosen), found):
-            return False
+    end_to_end, count = 0, given.count // 2
+    for n in comparison.cases(count, "set-"):
+        chosen = chosen_blocks(comparison.rng, blocks, n)
+        text = "".join(reports[k] for k in chosen)
+        expected, text = answer(merged(text)), text.encode()
+        comparison.same("merge", {"reports": text}, expected, answer_of(given.merge, text))
+        compare_count(comparison, given.merge, text, len(chosen), expected)
         block = b"".join(blocks[k] for k in chosen)
         if len(block) <= MOST_BYTES and all(ends_whole(blocks[k]) for k in chosen):
             end_to_end += 1
-            if differs(f"{n}.block", block, printed_by(program, block), found):
-                return False
+            comparison.same("blocks end to end", {"reports": text, "block": block}, expected, answer_of(given.program, block))
     print(f"{count} sets of reports merged and counted alike, {end_to_end} of them as blocks end to end")
-    return True
 
 
-def refuses(merge, reports):
+def compare_refusals(comparison, merge, text):
     """Texts that are not reports end to end: nothing is printed, and one line says where."""
-    text = "".join(reports)
-    wrong = [text[:-1], text + "x", text.replace("mean ", "mean", 1), text.replace("cross ", "cross  ", 1), text.replace("apart ", "apart -", 1)]
-    for broken in wrong:
-        done = subprocess.run(shlex.split(merge), input=broken.encode(), capture_output=True)
-        if done.stdout or done.stderr.count(b"\n") != 1 or not done.stderr.startswith(b"merge: standard input: no class report"):
-            print(f"not refused in one line: {done.stdout + done.stderr}")
-            return False
+    wrong = [text[:-1], text + "x", text.replace("mean ", "mean", 1), text.replace("cross ", "cross  ", 1),
+             text.replace("apart ", "apart -", 1)]
+    begin = b"merge: standard input: no class report"
+    for n in comparison.cases(len(wrong), "wrong-"):
+        broken = wrong[n].encode()
+        ran = harness.run(merge, [], broken)
+        is_said = ran.err.startswith(begin) and ran.err.count(b"\n") == 1
+        comparison.same("a text that is no report", {"reports": broken}, (b"", begin), (ran.out, begin if is_said else ran.err))
     print(f"{len(wrong)} texts refused")
-    return True
 
 
-def compare(program, merge, seed, count):
+def compare(words):
     """Each block's report, the last one's too long; and sets of half as many, where there is a program that merges."""
-    rng, blocks, reports = random.Random(seed), [], []
-    for n in range(count):
-        blocks.append(random_block(rng) if n + 1 < count else bytes(MOST_BYTES + 1))
-        reports.append(printed_by(program, blocks[n]))
-        if differs(f"{seed}-{n}.block", blocks[n], "\n".join(report(blocks[n])) + "\n", reports[n]):
-            return 1
-    print(f"{count} blocks alike")
-    if merge == "-":
-        return 0
-    return 0 if compare_sets(program, merge, rng, blocks, reports, count // 2) and refuses(merge, reports) else 1
+    given = harness.words_of(words, ("program", "merge"))
+    comparison, blocks, reports = harness.Comparison(given.seed), [], []
+    for n in comparison.cases(given.count):
+        blocks.append(random_block(comparison.rng) if n + 1 < given.count else bytes(MOST_BYTES + 1))
+        lines = report(blocks[n])
+        comparison.same("the report of a block", {"block": blocks[n]}, answer(lines), answer_of(given.program, blocks[n]))
+        reports.append("".join(line + "\n" for line in lines))
+    print(f"{given.count} blocks alike")
+    if given.merge != "-":
+        compare_sets(comparison, given, blocks, reports)
+        compare_refusals(comparison, given.merge, "".join(reports))
+    return 0
 
 
 def write_blocks(folder, seed, count):
@@ -234,17 +231,21 @@ def write_blocks(folder, seed, count):
     return 0
 
 
-def main(words):
-    if words == ["selftest"]:
-        return run()
-    if words[:1] == ["blocks"] and len(words) == 4:
-        return write_blocks(words[1], int(words[2]), int(words[3]))
-    if words[:1] == ["compare"] and len(words) == 5:
-        return compare(words[1], words[2], int(words[3]), int(words[4]))
-    data = sys.stdin.buffer.read()
-    print("\n".join(merged(data.decode("latin-1")) if words == ["merge"] else report(data)))
+def print_report(words):
+    print("\n".join(report(sys.stdin.buffer.read())))
     return 0
 
 
+def print_merged(words):
+    print("\n".join(merged(sys.stdin.buffer.read().decode("latin-1"))))
+    return 0
+
+
+def write_random(words):
+    folder, seed, count = words
+    return write_blocks(folder, int(seed), int(count))
+
+
 if __name__ == "__main__":
-    sys.exit(main(sys.argv[1:]))
+    COMMANDS = {"report": print_report, "merge": print_merged, "selftest": selftest, "blocks": write_random, "compare": compare}
+    sys.exit(harness.main(sys.argv[1:], COMMANDS, __doc__))

@@ -15,9 +15,10 @@ from fractions import Fraction
 from itertools import permutations
 from pathlib import Path
 
+from harness import first_other
 from judge import COORDINATES, WEIGHTS
 
-CRATE = Path(__file__).resolve().parent.parent / "crates" / "test_doubles"
+CRATE = Path(__file__).resolve().parents[2] / "crates" / "test_doubles"
 TABLE, PRINTS = CRATE / "stdin", CRATE / "stdout"
 COORDINATE_LIMIT, WEIGHT_LIMIT = COORDINATES[-1], WEIGHTS[-1]
 SEED, RANDOM_ENTRIES = 7, 260
@@ -149,18 +150,13 @@ def make():
 
 
 def check():
-    entries, stored = unpacked(TABLE.read_bytes()), PRINTS.read_text()
-    expected = [print_of(entry) for entry in entries]
-    if "".join(expected) == stored:
-        print(f"{4 * len(entries)} vertices in doubles are taken or refused as they should be")
-        return 0
-    start = 0
-    for n, lines in enumerate(expected):
-        if not stored.startswith(lines, start):
-            print(f"the stored print of entry {n} differs: {entries[n]}")
-            break
-        start += len(lines)
-    return 1
+    entries = unpacked(TABLE.read_bytes())
+    other = first_other(map(print_of, entries), PRINTS.read_text())
+    if other:
+        print(f"the stored print of entry {other[0]} differs: {entries[other[0]]}")
+        return 1
+    print(f"{4 * len(entries)} vertices in doubles are taken or refused as they should be")
+    return 0
 
 
 if __name__ == "__main__":

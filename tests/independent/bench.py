@@ -10,14 +10,13 @@ first.  The fixture is held once here, and a group's scene is written from it wh
 one, and holds the program to a line in words for each refusal, the opening's with the file refused.
 """
 
-import argparse
-import random
 import shlex
-import subprocess
 import sys
 import tempfile
+from itertools import zip_longest
 from pathlib import Path
 
+import harness
 from exact import Refused, read_scene
 from judge import judge, point_rows, scene_bytes, stored_faces
 from scenes import parts_of_scene
@@ -153,48 +152,45 @@ def words_behind(lines, names, scenes):
     return [f"why: {refused[0]}: ", *begin[1:]] if refused else begin
 
 
-def differs(program, files, scenes, words):
-    """What is expected and what is found, where they differ; one of the files may be standard input."""
-    names = [name if name == "-" else str(name) for name in files]
+def beginnings(lines, begin):
+    """The lines, each cut to what it should begin with where it does."""
+    return [start if start and line.startswith(start) else line for line, start in zip_longest(lines, begin, fillvalue="")]
+
+
+def compare_one(comparison, program, files, scenes, words):
+    """The lines on standard output, and how those on standard error begin; one of the files may be standard input."""
+    names = [str(name) for name in files]
     given = b"".join(data for name, data in zip(names, scenes) if name == "-")
-    done = subprocess.run([*program, *names, *words], input=given, capture_output=True, check=False)
-    expected, found = play(*scenes, words), done.stdout.decode().splitlines()
+    ran = harness.run(program, [*names, *words], given)
+    expected = play(*scenes, words)
     begin = words_behind(expected, [name if name != "-" else "standard input" for name in names], scenes)
-    said = done.stderr.decode().splitlines()
-    is_said = len(said) == len(begin) and all(line.startswith(words) for line, words in zip(said, begin))
-    return None if expected == found and is_said else (expected, begin, found, said)
+    found = ran.out.decode(errors="replace").splitlines(), beginnings(ran.lines(), begin)
+    inputs = {f"{group}.scene": data for group, data in zip(GROUPS, scenes)}
+    asked = shlex.join([*(Path(name).name for name in names), *words])
+    comparison.same(asked, inputs, (expected, begin), found)
 
 
-def compare(program, seed, count):
-    rng = random.Random(seed)
+def compare(words):
+    given = harness.words_of(words, default="target/bin/bench", count=100)
+    comparison = harness.Comparison(given.seed)
+    rng = comparison.rng
     with tempfile.TemporaryDirectory() as folder:
-        files = [Path(folder, name) for name in GROUPS]
-        for n in range(count):
+        files = [Path(folder, f"{group}.scene") for group in GROUPS]
+        for _ in comparison.cases(given.count):
             scenes = random_bench(rng)
             words = random_words(rng, *scenes)
             for file, data in zip(files, scenes):
                 file.write_bytes(data)
             names = rng.choice([files, ["-", files[1]], [files[0], "-"]])
-            found = differs(program, names, scenes, words)
-            if found:
-                print(f"difference in {n}: {shlex.join(words)}", *(data.hex() for data in scenes), *found, sep="\n")
-                return 1
-    print(f"{count} benches alike")
+            compare_one(comparison, given.program, names, scenes, words)
+    print(f"{given.count} benches alike")
     return 0
 
 
-def main(words):
-    if words[:1] == ["run"]:
-        print("\n".join(play(*(Path(name).read_bytes() for name in words[1:3]), words[3:])))
-        return 0
-    parser = argparse.ArgumentParser(description="Compares random benches with the program.")
-    parser.add_argument("command", choices=["compare"])
-    parser.add_argument("--program", default="target/bin/bench")
-    parser.add_argument("seed", type=int)
-    parser.add_argument("count", type=int, nargs="?", default=100)
-    given = parser.parse_args(words)
-    return compare(shlex.split(given.program), given.seed, given.count)
+def print_bench(words):
+    print("\n".join(play(*(Path(name).read_bytes() for name in words[:2]), words[2:])))
+    return 0
 
 
 if __name__ == "__main__":
-    sys.exit(main(sys.argv[1:]))
+    sys.exit(harness.main(sys.argv[1:], {"run": print_bench, "compare": compare}, __doc__))

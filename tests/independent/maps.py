@@ -8,17 +8,15 @@
 """
 
 import random
-import shlex
-import subprocess
 import sys
 from itertools import combinations, product
 
+import harness
 from exact import Refused, determinant, read_scene
 from judge import COORDINATES, POINT_FORM, WEIGHTS, judge, point_rows, records, scene_bytes, stored_faces
 from scenes import anywhere, direction, random_scene, weighted
 
 ENTRIES = range(-100, 100 + 1)
-USAGE = "usage: clean | map 16 NUMBERS [ROOM] | selftest SEED COUNT | compare MAP CLEAN REPORT SEED COUNT"
 
 
 def is_clean(scene):
@@ -168,8 +166,10 @@ def same_pairs(scene, other, new):
             and other.verdict()[0] == scene.verdict()[0])
 
 
-def selftest(seed, count):
-    """Clean scenes keep their answers under a map, with A and B exchanged and with other numbers, all scenes under multiplied rows; 14 never comes up."""
+def selftest(words):
+    """Clean scenes keep their answers under a map, with A and B exchanged and with other numbers, all scenes under multiplied rows; 14
+    never comes up."""
+    seed, count = map(int, words)
     rng = random.Random(seed)
     for n in range(count // 5):
         data = clean_scene(rng)
@@ -198,11 +198,11 @@ def selftest(seed, count):
 
 
 def run(program, words, data):
-    """What a program writes on standard output, the same on standard error but for words about a refusal, and how many such lines there are."""
-    done = subprocess.run([*shlex.split(program), *map(str, words)], input=data, stdout=subprocess.PIPE, stderr=subprocess.PIPE)
-    lines = done.stderr.decode("latin-1").splitlines(keepends=True)
+    """What a program writes on standard output, on standard error but for words about a refusal, and how many lines these are."""
+    ran = harness.run(program, words, data)
+    lines = ran.err.decode("latin-1").splitlines(keepends=True)
     others = [line for line in lines if not line.startswith("why: ")]
-    return done.stdout, "".join(others), len(lines) - len(others)
+    return ran.out, "".join(others), len(lines) - len(others)
 
 
 def faulty_tables(rng):
@@ -211,53 +211,60 @@ def faulty_tables(rng):
         return [[entry if j == k else 0 for j in range(4)] for k, entry in enumerate(entries)]
 
     most = rng.choice((-1, 1)) * 100
-    return [diagonal(1, 1, 0, 101), diagonal(-101, 1, 1, 1), diagonal(1, 1, 0, 1), diagonal(100, 100, 100, 0), diagonal(most, most, most, 1),
-            diagonal(1, 1, 1, most), [[0, 0, 0, 1], [0, 1, 0, 0], [0, 0, 1, 0], [1, 0, 0, 0]]]
+    return [diagonal(1, 1, 0, 101), diagonal(-101, 1, 1, 1), diagonal(1, 1, 0, 1), diagonal(100, 100, 100, 0),
+            diagonal(most, most, most, 1), diagonal(1, 1, 1, most), [[0, 0, 0, 1], [0, 1, 0, 0], [0, 0, 1, 0], [1, 0, 0, 0]]]
 
 
-def compare(mapping, clean, report, seed, count):
+def said_map(table):
+    """The words of a map, as the program takes them."""
+    return " ".join(["map", *map(str, sum(table, []))])
+
+
+def compare_image(comparison, given, data, turns):
+    """A clean scene's image: its bytes, that it is clean, and that its report is the scene's own."""
+    table, new = table_with_image(comparison.rng, data, turns)
+    words = sum(table, [])
+    asked = said_map(table)
+    inputs = {"scene": data, "image.scene": new}
+    comparison.same(asked, inputs, (new, "", 0), run(given.map, words, data))
+    comparison.same(f"clean, {asked}", inputs, [(b"clean yes\n", "", 0)] * 2, [run(given.clean, [], scene) for scene in (data, new)])
+    comparison.same(f"report, {asked}", inputs, *(run(given.report, [], scene) for scene in (data, new)))
+
+
+def compare(words):
     """Images with the scene's own report, refusals, and whether a scene is clean."""
-    rng = random.Random(seed)
-
-    def same(what, expected, found, data):
-        if expected != found:
-            open(f"difference-{seed}.scene", "wb").write(data)
-            raise SystemExit(f"{what}: saved as difference-{seed}.scene; expected {expected}, found {found}")
-
-    for n in range(count):
+    given = harness.words_of(words, ("map", "clean", "report"))
+    comparison = harness.Comparison(given.seed)
+    rng = comparison.rng
+    for n in comparison.cases(given.count):
         data = clean_scene(rng)
-        table, new = table_with_image(rng, data, n % 2 == 1)
-        same(f"map {table}", (new, "", 0), run(mapping, sum(table, []), data), data)
-        same("clean", [(b"clean yes\n", "", 0)] * 2, [run(clean, [], scene) for scene in (data, new)], data)
-        same(f"report, map {table}", *(run(report, [], scene) for scene in (data, new)), data)
+        compare_image(comparison, given, data, n % 2 == 1)
         other = random_scene(rng)
         if len(other) < 400:
             line = said_clean(other)
-            same("clean", (line.encode() + b"\n", "", int(line.startswith("refused"))), run(clean, [], other), other)
+            expected = line.encode() + b"\n", "", int(line.startswith("refused"))
+            comparison.same("clean", {"scene": other}, expected, run(given.clean, [], other))
         table = rng.choice(faulty_tables(rng))
         for scene in (data, other):
             new = image(scene, table)
             expected = (b"", new.line + "\n", 1) if isinstance(new, Refused) else (new, "", 0)
-            same(f"map {table}", expected, run(mapping, sum(table, []), scene), scene)
-    print(f"{count} clean scenes and their images with one report, and as many refusals")
+            comparison.same(said_map(table), {"scene": scene}, expected, run(given.map, sum(table, []), scene))
+    print(f"{given.count} clean scenes and their images with one report, and as many refusals")
     return 0
 
 
-def main(words):
-    if words[:1] == ["selftest"] and len(words) == 3:
-        return selftest(*map(int, words[1:]))
-    if words[:1] == ["compare"] and len(words) == 6:
-        return compare(*words[1:4], int(words[4]), int(words[5]))
-    if words == ["clean"]:
-        print(said_clean(sys.stdin.buffer.read()))
-    elif words[:1] == ["map"] and len(words) in (17, 18):
-        numbers = list(map(int, words[1:]))
-        new = image(sys.stdin.buffer.read(), [numbers[k:k + 4] for k in range(0, 16, 4)], *numbers[16:])
-        print(new.line if isinstance(new, Refused) else f"image {len(new)} {new.hex()}")
-    else:
-        print(USAGE)
+def print_clean(words):
+    print(said_clean(sys.stdin.buffer.read()))
+    return 0
+
+
+def print_image(words):
+    numbers = list(map(int, words))
+    new = image(sys.stdin.buffer.read(), [numbers[k:k + 4] for k in range(0, 16, 4)], *numbers[16:])
+    print(new.line if isinstance(new, Refused) else f"image {len(new)} {new.hex()}")
     return 0
 
 
 if __name__ == "__main__":
-    sys.exit(main(sys.argv[1:]))
+    COMMANDS = {"clean": print_clean, "map": print_image, "selftest": selftest, "compare": compare}
+    sys.exit(harness.main(sys.argv[1:], COMMANDS, __doc__))

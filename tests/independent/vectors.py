@@ -15,10 +15,11 @@ from collections import Counter
 from pathlib import Path
 
 from exact import Refused, ask, read_scene, report
+from harness import first_other
 from judge import LONGEST_SCENE, judge
 from scenes import kind_of_scene, random_scene
 
-CRATE = Path(__file__).resolve().parent.parent / "crates" / "test_vectors"
+CRATE = Path(__file__).resolve().parents[2] / "crates" / "test_vectors"
 SCENES, PRINTS = CRATE / "stdin", CRATE / "stdout"
 
 SEED = 5
@@ -101,20 +102,13 @@ def make():
 
 def check():
     """Each scene's print must follow in the stored prints, and nothing may be left over."""
-    stored, start, passed = PRINTS.read_text(), 0, 0
     scenes = unpacked(SCENES.read_bytes())
-    for n, data in enumerate(scenes):
-        expected = print_of(n, data)
-        if not stored.startswith(expected, start):
-            print(f"the stored print of scene {n} differs: {data.hex()}")
-            break
-        start += len(expected)
-        passed += 1
-    if passed == len(scenes) and start != len(stored):
-        print("the stored prints go on behind the last scene")
-        passed -= 1
+    other = first_other((print_of(n, data) for n, data in enumerate(scenes)), PRINTS.read_text())
+    passed = other[0] if other else len(scenes)
+    if other:
+        print(f"the stored print of scene {passed} differs: {scenes[passed].hex()}")
     print(f"{passed} passed, {len(scenes) - passed} failed")
-    return 0 if passed == len(scenes) else 1
+    return 1 if other else 0
 
 
 if __name__ == "__main__":

@@ -10,14 +10,12 @@ one, and that each refusal has words behind it; what was written is opened again
 wrong or a file is missing, the program says which and writes nothing.
 """
 
-import argparse
-import random
 import re
 import shlex
-import subprocess
 import sys
 import tempfile
 
+import harness
 from exact import Refused, read_scene
 from judge import COORDINATES, FACE_FORM, HEADER_BYTES, POINT_FORM, WEIGHTS
 from scenes import random_scene
@@ -163,10 +161,10 @@ def damaged(rng, words):
 
 def run(program, words, data):
     """The lines on standard error, of those in words only which they are; and the bytes on standard output."""
-    done = subprocess.run(program + words, input=data, capture_output=True, check=False)
-    lines = done.stderr.decode().splitlines()
+    ran = harness.run(program, words, data)
+    lines = ran.lines()
     shorter = [re.sub("^(why|note): .+| is wrong or missing; .*", r"\1", line) for line in lines]
-    return [line if line == NOTHING_WRITTEN else short for line, short in zip(lines, shorter)], done.stdout
+    return [line if line == NOTHING_WRITTEN else short for line, short in zip(lines, shorter)], ran.out
 
 
 def said(data, steps):
@@ -190,22 +188,23 @@ def expected_of(words, data, name):
     return said(data, steps)
 
 
-def differs(program, words, data, name):
-    """What is expected and what is found, where they differ; or None."""
+def compare_one(comparison, program, words, data, name):
+    """A session, and what it wrote opened again."""
     expected = expected_of(words, data, name)
-    found = run(program, words, b"" if name in words else data)
-    if found != expected or not expected[1]:
-        return None if found == expected else (expected, found)
-    # What was written is opened again.
-    expected = said(expected[1], [])
-    found = run(program, ["-"], expected[1])
-    return None if found == expected else (expected, found)
+    asked = shlex.join("scene" if word == name else word for word in words)
+    comparison.same(asked, {"scene": data}, expected, run(program, words, b"" if name in words else data))
+    written = expected[1]
+    if written:
+        inputs = {"scene": data, "written.scene": written}
+        comparison.same(f"{asked}; opened again", inputs, said(written, []), run(program, ["-"], written))
 
 
-def compare(program, seed, count):
-    rng = random.Random(seed)
+def compare(words):
+    given = harness.words_of(words, default="target/bin/edit", count=200)
+    comparison = harness.Comparison(given.seed)
+    rng = comparison.rng
     with tempfile.NamedTemporaryFile() as file:
-        for n in range(count):
+        for n in comparison.cases(given.count):
             data = b"" if n % 10 == 9 else random_scene(rng)
             file.seek(0)
             file.truncate()
@@ -216,28 +215,17 @@ def compare(program, seed, count):
             if n % 5 == 4:
                 words = damaged(rng, words)
             words += rng.choice([[], [file.name], ["-"]])
-            found = differs(program, words, data, file.name)
-            if found:
-                print(f"difference in {n}: {shlex.join(words)}\n{data.hex()}", *found, sep="\n")
-                return 1
-    print(f"{count} sessions alike")
+            compare_one(comparison, given.program, words, data, file.name)
+    print(f"{given.count} sessions alike")
     return 0
 
 
-def main(words):
-    if words[:1] == ["run"]:
-        lines, held = play(sys.stdin.buffer.read(), operations(words[1:]))
-        print("\n".join(lines), file=sys.stderr)
-        sys.stdout.buffer.write(held)
-        return 0
-    parser = argparse.ArgumentParser(description="Compares random sessions with the program.")
-    parser.add_argument("command", choices=["compare"])
-    parser.add_argument("--program", default="target/bin/edit")
-    parser.add_argument("seed", type=int)
-    parser.add_argument("count", type=int, nargs="?", default=200)
-    given = parser.parse_args(words)
-    return compare(shlex.split(given.program), given.seed, given.count)
+def print_session(words):
+    lines, held = play(sys.stdin.buffer.read(), operations(words))
+    print("\n".join(lines), file=sys.stderr)
+    sys.stdout.buffer.write(held)
+    return 0
 
 
 if __name__ == "__main__":
-    sys.exit(main(sys.argv[1:]))
+    sys.exit(harness.main(sys.argv[1:], {"run": print_session, "compare": compare}, __doc__))

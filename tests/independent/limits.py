@@ -14,7 +14,7 @@ from pathlib import Path
 from judge import FACE_COUNTS, VERTEX_COUNTS, judge, scene_bytes
 from vectors import packed
 
-ROOT = Path(__file__).resolve().parent.parent
+ROOT = Path(__file__).resolve().parents[2]
 TABLE, PRINTS = ROOT / "crates" / "test_limits" / "stdin", ROOT / "crates" / "test_limits" / "stdout"
 PRINTED = (ROOT / "examples" / "printed.scene").read_bytes()
 MOST_VERTICES, MOST_FACES = VERTEX_COUNTS[-1], FACE_COUNTS[-1]

@@ -3,7 +3,7 @@
 import sys
 from pathlib import Path
 
-sys.path.append(str(Path(__file__).resolve().parent.parent / "examples"))
+sys.path.append(str(Path(__file__).resolve().parents[2] / "examples"))
 
 from making.form import (COORDINATES, FACE_COUNTS, FACE_FORM, HEADER_BYTES, LONGEST_SCENE, POINT_FORM, VERTEX_COUNTS, WEIGHTS,
                          record_marks, records, scene_bytes)

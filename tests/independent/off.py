@@ -5,13 +5,11 @@
 """
 
 import os
-import random
 import re
-import shlex
-import subprocess
 import sys
 import tempfile
 
+import harness
 from judge import COORDINATES, FACE_COUNTS, VERTEX_COUNTS, WEIGHTS, judge, scene_bytes
 
 ITEM = re.compile(rb"#[^\n]*|[^ \n#]+")
@@ -234,48 +232,46 @@ def damaged(rng, text):
             return text
 
 
-def printed_by(program, words, data=b""):
-    ran = subprocess.run(shlex.split(program) + words, input=data, capture_output=True, check=False)
-    return ran.stdout, ran.stderr
+def written_by(program, words, data=b""):
+    ran = harness.run(program, words, data)
+    return ran.out, ran.err
 
 
-def pair_differs(program, names, texts, far):
-    """Whether a program writes otherwise of a pair of texts, one of which may be standard input, or of the solids of their scene."""
+def compare_pair(comparison, program, names, texts, far):
+    """What a program writes of a pair of texts, one of which may be standard input, and of the solids of their scene."""
     given = b"".join(text for name, text in zip(names, texts) if name == "-")
-    expected, found = answer(*texts, far), printed_by(program, names + [str(n) for n in far], given)
-    asked = [(expected, found)]
+    expected, inputs = answer(*texts, far), dict(zip(("first.off", "second.off"), texts))
+    asked = " ".join([*map(os.path.basename, names), *map(str, far)])
+    comparison.same(asked, inputs, expected, written_by(program, [*names, *far], given))
     if expected[0]:
         for k, text in zip("12", texts):
-            asked.append(((text_of(*solid(text, 0)), b""), printed_by(program, ["--write", k], expected[0])))
-    for expected, found in asked:
-        if expected != found:
-            print(f"difference: {texts} {far}\nexpected {expected}\nfound {found}")
-            return True
-    return False
+            found = written_by(program, ["--write", k], expected[0])
+            comparison.same(f"{asked}, --write {k}", {**inputs, "scene": expected[0]}, (text_of(*solid(text, 0)), b""), found)
 
 
-def compare(program, seed, count):
+def compare(words):
     """What a program writes of pairs of texts at random, on standard output and on standard error."""
-    rng, made = random.Random(seed), 0
+    given = harness.words_of(words, ("program",))
+    comparison, made = harness.Comparison(given.seed), 0
+    rng = comparison.rng
     with tempfile.TemporaryDirectory() as folder:
         names = [os.path.join(folder, name) for name in ("first.off", "second.off")]
-        for _ in range(count):
+        for _ in comparison.cases(given.count):
             texts = [damaged(rng, random_text(rng)) for _ in names]
             far = rng.choice([(100, 101, 103, 1), (0, 0, 1, 0), (0, 0, 0, 0), (4096, 0, 0, 1), (1, 2, 3, 17), (10 ** 30, 0, 0, 1)]
                              if rng.random() < 0.2 else [(1000, 1001, 1003, 1)])
             for name, text in zip(names, texts):
                 with open(name, "wb") as file:
                     file.write(text)
-            if pair_differs(program, rng.choice([names, ["-", names[1]], [names[0], "-"]]), texts, far):
-                return 1
+            compare_pair(comparison, given.program, rng.choice([names, ["-", names[1]], [names[0], "-"]]), texts, far)
             made += not answer(*texts, far)[1]
-    print(f"{count} pairs of texts alike, {made} of them scenes whose solids are written alike")
+    print(f"{given.count} pairs of texts alike, {made} of them scenes whose solids are written alike")
     return 0
 
 
 def main(words):
-    if words[:1] == ["compare"] and len(words) == 4:
-        return compare(words[1], int(words[2]), int(words[3]))
+    if words[:1] == ["compare"]:
+        return compare(words[1:])
     texts = []
     for name in words[:2]:
         with open(name, "rb") as file:
