@@ -10,7 +10,8 @@ use Rattle.laws.specs.Lists.{run, number-once}
 use Rattle.scene.specs.Limits.{Limits, limits}
 use Rattle.scene.specs.Records.{vertsA}
 use Rattle.scene.specs.Read.{points-are}
-use Rattle.scene.specs.View.{View, viewOf, points, solid, either-solid}
+use Rattle.scene.specs.View.{View, viewOf, points, solid}
+use Rattle.scene.specs.View.Laws.{either-solid}
 use Rattle.scene.specs.declared.Solid as numbers
 use Rattle.judge.specs.Judge.{judgedAt, rule}
 use Rattle.judge.specs.declared.Judged.the-variants.{Accepted}
