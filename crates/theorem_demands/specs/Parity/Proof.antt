@@ -24,8 +24,8 @@ use Rattle.pierce.specs.Scene.{scene-parity, scene-route}
 use Rattle.questions.specs.Answers.{answered, isPoint, isVertexOf, edgeAndSolid, outside, maskFault, maskIn, maskedIn, maskedOf, isSolid}
 use Rattle.theorem_demands.specs.Parity.{Outside, Parity, CountParity, Route, ParityAt, Asked}
 use Rattle.theorem_demands.specs.Words.{SolidNumber, VertexOf}
-use Rattle.theorem_demands.specs.Solids.{vertex-of}
-use Rattle.theorem_demands.specs.ExactMask.{mask-is}
+use Rattle.theorem_demands.specs.Words.Solids.{vertex-of}
+use Rattle.theorem_demands.specs.Exact.Mask.{mask-is}
 
 module _ (s : List ℕ) where
   abbrev v : View
