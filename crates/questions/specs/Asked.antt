@@ -8,7 +8,8 @@ use borrow.Author.Tests.{not-true, leb-true, leb-false}
 use lib.Dec.{leb}
 use Rattle.laws.specs.Decides.{and-iff, differ-iff, fails-iff, decides}
 use Rattle.scene.specs.Faces.{Vertex, isCorner}
-use Rattle.scene.specs.View.{View, verts, points, faces, solid, solid-a, solid-b}
+use Rattle.scene.specs.View.{View, verts, points, faces, solid}
+use Rattle.scene.specs.View.Laws.{solid-a, solid-b}
 use Rattle.scene.specs.declared.Solid.{Solid}
 use Rattle.judge.specs.Laws.{rule-ok, rule-rest}
 use Rattle.judge.specs.Tests.{within-iff}

@@ -15,7 +15,8 @@ use Rattle.scene.specs.Records.{vertsA, facesA, verts, faces}
 use Rattle.scene.specs.Read.{points-are}
 use Rattle.scene.specs.Arrays.{rowIn, faceIn, AllWithin, FaceWithin, FacesWithin}
 use Rattle.scene.specs.Faces.{Vertex, FaceOf, corner-iff, isCorner}
-use Rattle.scene.specs.View.{View, viewOf, points, solid, solidA, solidB, either-solid}
+use Rattle.scene.specs.View.{View, viewOf, points, solid, solidA, solidB}
+use Rattle.scene.specs.View.Laws.{either-solid}
 use Rattle.scene.specs.declared.Row.{Row}
 use Rattle.scene.specs.declared.Face.{Face}
 use Rattle.scene.specs.declared.Solid.{Solid}

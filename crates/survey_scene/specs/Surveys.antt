@@ -9,7 +9,8 @@ use lib.IntN.{ℤ}
 use Rattle.laws.specs.Lists.{run}
 use Rattle.scene.specs.Limits.{limits}
 use Rattle.scene.specs.Records.{vertsA, verts}
-use Rattle.scene.specs.View.{View, viewOf, solid, solidA, solidB, either-solid}
+use Rattle.scene.specs.View.{View, viewOf, solid, solidA, solidB}
+use Rattle.scene.specs.View.Laws.{either-solid}
 use Rattle.scene.specs.declared.Solid.{Solid}
 use Rattle.judge.specs.Judge.{judged}
 use Rattle.judge.specs.declared.Judged.the-variants.{Accepted}

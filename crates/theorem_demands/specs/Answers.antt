@@ -1,7 +1,9 @@
 -- Demand 1. "Every question takes the scene's bytes, so a scene refusal (1 to 9, and 14) always comes before the question's own (10 to
 -- 12)", "11 comes before 12", and "Each number carries its place and nothing else": for each question, the refusals that it can give and
 -- for each of them exactly when, nothing earlier in the order being at fault. The statement is `Answers`; its proof is
--- `AnswersProof.answers`. In numbers and places it is `Numbers`. Assumes nothing.
+-- `Answers.Proof.answers`. In numbers and places it is `Numbers`. Assumes nothing.
+pub mod Tests
+pub mod Proof
 use mathlib.Core.Path.{_≡_}
 use mathlib.Core.Logic.{_⊎_, _↔_}
 use mathlib.Core.List.{List, []}

@@ -2,6 +2,7 @@
 -- signs answer as the formula does, and the formula answers alike for every helper. The contract of `plain::pierces` is the five signs; the
 -- contracts of all that is asked of either engine (piercing, masks, enclosed vertices, counts, listing and verdict) are equations with one
 -- definition. Assumes nothing.
+pub mod Proof
 use mathlib.Core.Path.{_≡_}
 use mathlib.Core.Bool.{Bool}
 use mathlib.Core.List.{List}

@@ -1,10 +1,15 @@
 -- Demand 2: "acceptance, verdict, list and counts equal the definition". Accepted exactly when the written rules hold; the sign, piercing,
 -- the mask, enclosure, the verdict, the listing and the counts exactly as document 01 says them, over all edges, faces and vertices of both
--- solids. The statement is `Exact`, at the end; its proof is `ExactProof.exact`. Assumes nothing.
+-- solids. The statement is `Exact`, at the end; its proof is `Exact.Proof.exact`. Assumes nothing.
+pub mod Listing
+pub mod Pairs
+pub mod Mask
+pub mod Verdict
+pub mod Proof
 use mathlib.Core.Path.{_≡_}
 use mathlib.Core.Logic.{_⊎_, _↔_}
 use mathlib.Core.Bool.{Bool, true, cond}
-use mathlib.Core.List.{List, [], _∷_, _++_}
+use mathlib.Core.List.{List, _∷_, _++_}
 use Prim.Native.Nat.{ℕ, _+_, _-_, _*_, _^_, _%_, _≤_, _<_}
 use lib.Dec.{leb}
 use lib.ListN.{length, drop}
@@ -24,10 +29,8 @@ use Rattle.orient.specs.declared.Terms.{Terms}
 use Rattle.question_listing.specs.Hits.{Hit}
 use Rattle.question_listing.specs.Pour.{three, flat, partIn}
 use Rattle.scene.specs.View.{viewOf}
-use Rattle.survey_edges.specs.Table.{Entry}
 use Rattle.questions.specs.Answers.{signOf, piercesOf, verdictOf, countedOf, maskedOf, faces-are, enclosedOf}
 use Rattle.questions.specs.Answers.{IsListed, listingIn, insideOf, IsPart}
-use Rattle.questions.specs.Answers.{maskIn}
 use Rattle.questions.specs.declared.Signed.the-variants as sign
 use Rattle.questions.specs.declared.Answer.the-variants as answer
 use Rattle.questions.specs.declared.Counts.{Counts}
@@ -150,15 +153,6 @@ module _ (s : List ℕ) where
   pub record PiercesIs (u v f : ℕ) : Type 0 where
     pub yes : (piercesOf s u v f ≡ answer.Yes) ↔ (FileOk limits s × EdgeAndFace s u v f × ¬ AlikeOrCorner s u v f × Pierces s u v f)
     pub no : (piercesOf s u v f ≡ answer.No) ↔ (FileOk limits s × EdgeAndFace s u v f × ¬ AlikeOrCorner s u v f × ¬ Pierces s u v f)
-
--- ---- a table of edges, as a survey leaves it: the edges of the solid with the faces Own, each once, rising, with its mask against solid k
-
-abbrev pub Earlier : Entry → Entry → Type 0
-Earlier x y = Less (x .low ∷ x .high ∷ []) (y .low ∷ y .high ∷ [])
-
-pub record EdgesAre (s : List ℕ) (Own : ℕ → Type 0) (k : ℕ) (l : List Entry) : Type 0 where
-  pub rising : Rising Earlier l
-  pub members : (e : Entry) → Some (λ x. x ≡ e) l ↔ (Edge s Own (e .low) (e .high) × (e .mask ≡ maskIn (viewOf s) (e .low) (e .high) k))
 
 -- ---- the demand, of any bytes
 

@@ -1,5 +1,7 @@
 -- What the change requests left as it was: scenes accepted before, by what the definitions were, are accepted still, with the same answers.
 -- Assumes nothing.
+pub mod Before
+pub mod Proof
 use mathlib.Core.Path.{_≡_}
 use mathlib.Core.Bool.{Bool}
 use mathlib.Core.List.{List}
@@ -28,7 +30,7 @@ use Rattle.questions.specs.declared.Counted.the-variants as counted
 use Rattle.questions.specs.declared.Listed.{Listed}
 use Rattle.questions.specs.declared.Listed.the-variants as listed
 use Rattle.theorem_demands.specs.Words.{FourPoints}
-use Rattle.theorem_demands.specs.Before.{judgedBefore}
+use Rattle.theorem_demands.specs.Kept.Before.{judgedBefore}
 use Rattle.theorem_demands.specs.Witnesses.{printed}
 
 -- ---- the answers about a scene that is accepted: those of what its bytes denote, whatever rules accepted it

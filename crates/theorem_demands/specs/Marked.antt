@@ -1,5 +1,8 @@
 -- The marked examples S1 to S8 and E1 to E5 as one table. Each is a question about an accepted scene: A is points 1 to 3, B is points 4 to
 -- 6, each has two faces on the same three corners, and the far point is 7. Assumes nothing.
+pub mod Scenes
+pub mod Computing
+pub mod Proof
 use mathlib.Core.Path.{_≡_}
 use mathlib.Core.Bool.{Bool, true, false}
 use mathlib.Core.List.{List, [], _∷_}
@@ -16,7 +19,7 @@ use Rattle.questions.specs.declared.Signed.{Signed}
 use Rattle.questions.specs.declared.Signed.the-variants.{Sign, Refused}
 use Rattle.questions.specs.declared.Answer.{Answer}
 use Rattle.questions.specs.declared.Answer.the-variants.{Yes, No}
-use Rattle.theorem_demands.specs.Scenes.{minus, weighted, at, twice, scene}
+use Rattle.theorem_demands.specs.Marked.Scenes.{minus, weighted, at, twice, scene}
 
 -- the scene of six points
 abbrev pub six : (p1 p2 p3 p4 p5 p6 : Row) → List ℕ

@@ -1,5 +1,7 @@
 -- Demand 1, in numbers and places: the refusal numbers of each question, the scene's and its own. No other is given, and each of these is,
--- for some bytes and some numbers. And the places of a question's own. The proof is `NumbersProof`. Assumes nothing.
+-- for some bytes and some numbers. And the places of a question's own. The proof is `Numbers.Proof`. Assumes nothing.
+pub mod Given
+pub mod Proof
 use mathlib.Core.Path.{_≡_}
 use mathlib.Core.List.{List, [], _∷_, _++_}
 use Prim.Native.Nat.{ℕ}

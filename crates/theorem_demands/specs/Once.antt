@@ -2,6 +2,7 @@
 -- second answer, nor second contents of a lent place. Bytes that are shown are said by what they hold, an array is as long as its type
 -- says, and the words of a mask are below 2 ^ 64 as theirs says. The tables lent to a survey are determined up to the edges that it counts.
 -- `limits_agree` answers nothing. Assumes nothing.
+pub mod Proof
 use mathlib.Core.Path.{_≡_}
 use mathlib.Core.Bool.{Bool}
 use mathlib.Core.List.{List}

@@ -1,5 +1,6 @@
 -- What each answer enum says: the number of each of its cases, in the order of document 01's words with a refusal last, and the case's
 -- values. A refusal's values are its own number and its place. Assumes nothing.
+pub mod Proof
 use mathlib.Core.Path.{_≡_}
 use mathlib.Core.Bool.{cond}
 use mathlib.Core.List.{List, [], _∷_, map}

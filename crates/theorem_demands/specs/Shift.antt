@@ -1,6 +1,8 @@
 -- The shift is real. For every accepted scene and every whole N above 3.5 × 10^18 the rows (N·x + k·i, N·y + k·i², N·z + k·i³, w), k the
 -- factor of the shift, have no zero determinant of four different points, and with the sign of that determinant they give the same signs,
 -- masks, enclosed vertices, listing and verdict as the scene does. Assumes nothing.
+pub mod Same
+pub mod Proof
 use mathlib.Core.Path.{_≡_}
 use mathlib.Core.Logic.{_≢_}
 use mathlib.Core.List.{List}
@@ -17,7 +19,6 @@ use Rattle.orient.specs.Signs.{Upto, Four}
 use Rattle.orient.specs.Terms.{factor, isPlus, positiveAt}
 use Rattle.questions.specs.Answers.{maskIn, insideIn, listingIn, verdictIn}
 use Rattle.theorem_demands.specs.Words.{SolidNumber, VertexOf}
-use Rattle.theorem_demands.specs.Same.{withRows}
 
 -- ---- the rows
 
@@ -33,7 +34,11 @@ shiftedRow N row i =
       w = r .w;
     }
 
--- the scene with these rows in place of its own, and their determinant
+-- the scene with other rows in place of its own
+abbrev pub withRows : View → (ℕ → Row) → View
+withRows v row′ = record { vertsA = v .vertsA; facesA = v .facesA; vertsB = v .vertsB; facesB = v .facesB; row = row′; face = v .face }
+
+-- with these, and their determinant
 abbrev pub shiftedView : ℕ → View → View
 shiftedView N v = withRows v (shiftedRow N (v .row))
 

@@ -1,6 +1,7 @@
 -- "Any one record can be shown: the answer is the part of the caller's own bytes from its mark to its last byte." Of every accepted scene:
 -- its records, end to end, are the file, and each has its kind's length and begins with its kind's mark. The statement is `Records`; its
--- proof is `ShownProof.records`. Assumes nothing.
+-- proof is `Shown.Proof.records`. Assumes nothing.
+pub mod Proof
 use mathlib.Core.Path.{_≡_}
 use mathlib.Core.List.{List, [], _++_}
 use Prim.Native.Nat.{ℕ, zero, suc, _+_, _≤_, _<_}

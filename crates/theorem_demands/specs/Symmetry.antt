@@ -1,5 +1,6 @@
 -- Piercing is of an edge and a face, however they are named: it does not change when the ends are exchanged, when the corners are taken
--- round, or when they are taken the other way. The statement is `Symmetry`; its proof is `SymmetryProof.symmetry`. Assumes nothing.
+-- round, or when they are taken the other way. The statement is `Symmetry`; its proof is `Symmetry.Proof.symmetry`. Assumes nothing.
+pub mod Proof
 use mathlib.Core.Path.{_≡_}
 use mathlib.Core.List.{List}
 use Prim.Native.Nat.{ℕ}

@@ -1,5 +1,6 @@
 -- One accepted scene for each verdict, so that no demand is about nothing: the printed scene, which crosses, and a small solid beside,
 -- within and around another; and the printed scene with a direction as far point, and with an edge of A in four faces. Assumes nothing.
+pub mod Proof
 use mathlib.Core.Path.{_≡_}
 use mathlib.Core.List.{List, [], _∷_}
 use Prim.Native.Nat.{ℕ}
@@ -16,7 +17,7 @@ use Rattle.questions.specs.declared.Counts.{Counts}
 use Rattle.questions.specs.declared.Counted.the-variants as counted
 use Rattle.questions.specs.declared.Verdict.{Verdict}
 use Rattle.questions.specs.declared.Verdict.the-variants.{Cross, AInB, BInA, Apart}
-use Rattle.theorem_demands.specs.Scenes.{minus, at, corners, four, scene, sceneTo}
+use Rattle.theorem_demands.specs.Marked.Scenes.{minus, at, corners, four, scene, sceneTo}
 
 -- ---- the solids: that at the origin, the printed one that it crosses, one beside it and one around it
 

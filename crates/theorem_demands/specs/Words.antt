@@ -1,12 +1,13 @@
 -- The words of document 01 that the demands use, as facts about the numbers of a scene: its points, vertices, faces, solids and records,
--- the edges of a solid, an edge that pierces a face, and a vertex that is enclosed. Assumes nothing.
+-- the edges of a solid, an edge that pierces a face, and a vertex that is enclosed; and how a function's arguments are written. Assumes
+-- nothing.
+pub mod Solids
 use mathlib.Core.Path.{_≡_}
-use mathlib.Core.Logic.{_⊎_, _↔_}
+use mathlib.Core.Logic.{_⊎_}
 use mathlib.Core.Bool.{true}
 use mathlib.Core.List.{List}
-use Prim.Native.Nat.{ℕ, _+_, _^_, _≤_, _<_}
-use Rattle.laws.specs.Mask.{testBit}
-use Rattle.scene.specs.Records.{vertsA, vertsB, facesA, verts, faces, lastRecord}
+use Prim.Native.Nat.{ℕ, _+_, _≤_, _<_}
+use Rattle.scene.specs.Records.{vertsA, facesA, verts, faces, lastRecord}
 use Rattle.scene.specs.View.{viewOf}
 use Rattle.scene.specs.Tables.{tablesOf, row, face}
 use Rattle.scene.specs.Faces.{Corner}
@@ -74,15 +75,6 @@ module _ (s : List ℕ) where
   abbrev pub Enclosed : ℕ → Type 0
   Enclosed i = isEnclosed (viewOf s) i ≡ true
 
-  -- the word w of the n vertices above low has a bit for each, set exactly when the other solid encloses it
-  pub record IsWord (low n w : ℕ) : Type 0 where
-    pub small : w < 2 ^ n
-    pub bits : (j : ℕ) → j < n → (testBit w j ≡ true) ↔ Enclosed (low + 1 + j)
-
-  -- the words of A's and of B's enclosed vertices
-  abbrev pub AreWords : (a b : ℕ) → Type 0
-  AreWords a b = IsWord 0 (vertsA s) a × IsWord (vertsA s) (vertsB s) b
-
   -- ---- the numbers that a question is asked with, and those that must differ and are the same (refusals 11 and 12)
 
   abbrev pub FourPoints : (a b c d : ℕ) → Type 0
@@ -99,3 +91,9 @@ module _ (s : List ℕ) where
 
   abbrev pub AlikeOrVertex : (u v k : ℕ) → Type 0
   AlikeOrVertex u v k = (u ≡ v) ⊎ VertexOf k u ⊎ VertexOf k v
+
+-- ---- the arguments of a function, one behind the other and `tt` behind the last, as its contract takes them
+
+infixr 4 _▸_
+abbrev pub _▸_ : {A B : Type 0} → A → B → A × B
+x ▸ y = (x, y)

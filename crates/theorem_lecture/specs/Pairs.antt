@@ -26,8 +26,8 @@ use Rattle.question_listing.specs.Pour.{three}
 use Rattle.questions.specs.Answers.{listingIn}
 use Rattle.theorem_demands.specs.Words.{FaceOfA, FaceOfB, FaceNumber, Point, CornerOf, Edge, Pierces}
 use Rattle.theorem_demands.specs.Exact.{PiercedPair, Before, solidOf}
-use Rattle.theorem_demands.specs.ExactProof.{exact}
-use Rattle.theorem_demands.specs.SymmetryProof.{symmetry}
+use Rattle.theorem_demands.specs.Exact.Proof.{exact}
+use Rattle.theorem_demands.specs.Symmetry.Proof.{symmetry}
 use Rattle.theorem_lecture.specs.Lecture.{pointsOf}
 use Rattle.theorem_lecture.specs.Fewer.{In, no-more}
 use Rattle.theorem_lecture.specs.Numbered.{NumberedBy, carried}

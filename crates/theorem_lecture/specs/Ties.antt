@@ -19,8 +19,8 @@ use Rattle.question_listing.specs.First.{firstOf}
 use Rattle.question_listing.specs.Hits.{faceHits, edgeHits, pairHits, vertexHits, solidHits, isInside, lowestInside}
 use Rattle.questions.specs.Answers.{answered, enclosureIn, verdictIn, verdictOf, listingIn}
 use Rattle.questions.specs.declared.Verdict.the-variants.{Cross, Apart}
-use Rattle.theorem_demands.specs.Computing.{judging, piercing}
-use Rattle.theorem_demands.specs.Scenes.{minus, at, four, scene}
+use Rattle.theorem_demands.specs.Marked.Computing.{judging, piercing}
+use Rattle.theorem_demands.specs.Marked.Scenes.{minus, at, four, scene}
 use Rattle.theorem_lecture.specs.Exchange.{exchangedBytes}
 
 abbrev above : Table

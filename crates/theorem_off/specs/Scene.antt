@@ -10,7 +10,8 @@ use Rattle.scene.specs.Records.{vertsA, vertsB}
 use Rattle.scene.specs.Tables.{Table, row, rowAt, raise, tablesOf}
 use Rattle.scene.specs.Read.{row-is}
 use Rattle.scene.specs.Faces.{FaceOf}
-use Rattle.scene.specs.View.{viewOf, solidA, solidB, solid-a, solid-b}
+use Rattle.scene.specs.View.{viewOf, solidA, solidB}
+use Rattle.scene.specs.View.Laws.{solid-a, solid-b}
 use Rattle.scene.specs.declared.Face.{Face}
 use Rattle.judge.specs.Judge.{judged}
 use Rattle.judge.specs.declared.Judged.the-variants.{Accepted}

@@ -1,5 +1,5 @@
 -- The header's counts are the solids' numbers.
-use Rattle.scene.specs.View.{counted-a, counted-b}
+use Rattle.scene.specs.View.Laws.{counted-a, counted-b}
 use borrow.Author.Needs.{needs}
 use Rattle.scene.proofs.read.solid.Statement.{statement}
 use Rattle.scene.proofs.read.solid.Tie as tie

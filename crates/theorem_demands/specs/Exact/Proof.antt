@@ -46,14 +46,15 @@ use Rattle.questions.specs.declared.Verdict.the-variants as verdict
 use Rattle.questions.specs.declared.Listed.{Listed}
 use Rattle.questions.specs.declared.Listed.the-variants as listed
 use Rattle.theorem_demands.specs.Words.{Vertex, Enclosed, EdgeAndFace, AlikeOrCorner, EdgeAndSolid, AlikeOrVertex}
-use Rattle.theorem_demands.specs.Exact.{VerdictIs, ListedIs, numbered, MaskIs, MasksAre, EnclosedIs, CountsAre, SignIs, PiercesIs, Exact}
+use Rattle.theorem_demands.specs.Exact.{VerdictIs, ListedIs, numbered, MaskIs, MasksAre, EnclosedIs, CountsAre, SignIs, PiercesIs}
+use Rattle.theorem_demands.specs.Exact.{Exact}
 use Rattle.theorem_demands.specs.Exact.{PartIs, InsideIs}
-use Rattle.theorem_demands.specs.AnswersTests.{asked-ok, answered-ok, twice-ok, points-iff, edge-iff}
-use Rattle.theorem_demands.specs.AnswersTests.{mask-iff, alike-points, alike-corner, alike-vertex}
-use Rattle.theorem_demands.specs.ExactMask.{mask, mask-is, mask-once, enclosed-in}
-use Rattle.theorem_demands.specs.ExactPairs.{listing-is}
-use Rattle.theorem_demands.specs.ExactVerdict.{Says, verdict-iff}
-use Rattle.theorem_demands.specs.Solids.{Worded, a-worded, b-worded}
+use Rattle.theorem_demands.specs.Answers.Tests.{asked-ok, answered-ok, twice-ok, points-iff, edge-iff}
+use Rattle.theorem_demands.specs.Answers.Tests.{mask-iff, alike-points, alike-corner, alike-vertex}
+use Rattle.theorem_demands.specs.Exact.Mask.{mask, mask-is, mask-once, enclosed-in}
+use Rattle.theorem_demands.specs.Exact.Pairs.{listing-is}
+use Rattle.theorem_demands.specs.Exact.Verdict.{Says, verdict-iff}
+use Rattle.theorem_demands.specs.Words.Solids.{Worded, a-worded, b-worded}
 
 module _ (s : List ℕ) where
   accepted : (judged s ≡ Accepted) ↔ FileOk limits s

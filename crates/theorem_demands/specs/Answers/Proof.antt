@@ -46,8 +46,8 @@ use Rattle.questions.specs.declared.Listed.the-variants as listed
 use Rattle.theorem_demands.specs.Words.{Vertex, RecordNumber, FourPoints, TwoAlike, EdgeAndFace, AlikeOrCorner}
 use Rattle.theorem_demands.specs.Words.{EdgeAndSolid, AlikeOrVertex, SolidNumber}
 use Rattle.theorem_demands.specs.Answers.{Refusals, Never, Always, NoList, TooShort, Answers}
-use Rattle.theorem_demands.specs.AnswersTests.{scene-turn, asked, plain, told, answered-iff, twice-iff}
-use Rattle.theorem_demands.specs.AnswersTests.{points-iff, edge-iff, mask-iff, alike-points, alike-corner, alike-vertex}
+use Rattle.theorem_demands.specs.Answers.Tests.{scene-turn, asked, plain, told, answered-iff, twice-iff}
+use Rattle.theorem_demands.specs.Answers.Tests.{points-iff, edge-iff, mask-iff, alike-points, alike-corner, alike-vertex}
 
 -- ---- an answer is no refusal
 

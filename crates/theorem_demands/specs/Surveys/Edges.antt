@@ -22,9 +22,9 @@ use Rattle.survey_edges.specs.Edges.{entry, vertexEdges, solidEdges}
 use Rattle.questions.specs.Answers.{seen, maskIn}
 use Rattle.survey_scene.specs.Ready.{sound-a, sound-b}
 use Rattle.theorem_demands.specs.Words.{FaceOfA, FaceOfB, Edge}
-use Rattle.theorem_demands.specs.Exact.{Earlier, EdgesAre}
-use Rattle.theorem_demands.specs.ExactPairs.{Joined, joined-iff, joined-own, edge-in}
-use Rattle.theorem_demands.specs.Solids.{Worded, a-worded, b-worded}
+use Rattle.theorem_demands.specs.Surveys.{Earlier, EdgesAre}
+use Rattle.theorem_demands.specs.Exact.Pairs.{Joined, joined-iff, joined-own, edge-in}
+use Rattle.theorem_demands.specs.Words.Solids.{Worded, a-worded, b-worded}
 
 -- ---- of one solid
 

@@ -29,7 +29,8 @@ use Rattle.questions.specs.Answers.{saidMask, seen}
 use Rattle.survey_scene.specs.Surveys.{SoughtIs}
 use Rattle.questions.specs.declared.Masked.{Masked}
 use Rattle.questions.specs.declared.Masked.the-variants.{Refused, Faces}
-use Rattle.theorem_demands.specs.Once.{Words, WordsSaid, SceneOnce, JudgeOnce, RecordOnce, OrientOnce, EdgesOnce, PierceOnce, KernelOnce}
+use Rattle.theorem_demands.specs.Once.{Words, WordsSaid, SceneOnce, JudgeOnce, RecordOnce, OrientOnce, EdgesOnce, PierceOnce}
+use Rattle.theorem_demands.specs.Once.{KernelOnce}
 use Rattle.theorem_demands.specs.Once.{Table, WordsHeld, Alike, SurveysOnce, NoSecondAnswer}
 
 -- ---- a mask is its number

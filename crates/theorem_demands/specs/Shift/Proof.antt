@@ -23,10 +23,10 @@ use Rattle.orient.specs.Weighted.{oriented}
 use Rattle.orient.specs.Whole.{wholeDet, TermsUpto, whole-sign}
 use Rattle.questions.specs.Answers.{maskIn}
 use Rattle.survey_scene.specs.Ready.{rows-fit, scene-weighted, outside-beside, sound}
-use Rattle.theorem_demands.specs.Solids.{vertex-of}
+use Rattle.theorem_demands.specs.Words.Solids.{vertex-of}
 use Rattle.theorem_demands.specs.Words.{SolidNumber, VertexOf}
 use Rattle.theorem_demands.specs.Shift.{shiftedRow, shiftedView, shiftedDet, Shift}
-use Rattle.theorem_demands.specs.Same.{mask-same-rows, inside-same-rows, listing-same-rows, verdict-same-rows}
+use Rattle.theorem_demands.specs.Shift.Same.{mask-same-rows, inside-same-rows, listing-same-rows, verdict-same-rows}
 
 module _ (s : List ℕ) (ok : judged s ≡ Accepted) where
   abbrev v : View

@@ -28,8 +28,9 @@ use Rattle.rules.specs.Refused as table
 use Rattle.questions.specs.Laws.{answered-then}
 use Rattle.questions.specs.Answers.{answered, isPoint, isFace, other, differ, arePoints, clear, edgeAndFace}
 use Rattle.questions.specs.Answers.{isVertexOf, edgeAndSolid, outside, isSolid}
-use Rattle.theorem_demands.specs.Words.{SolidNumber, VertexOf, FourPoints, TwoAlike, EdgeAndFace, AlikeOrCorner, EdgeAndSolid, AlikeOrVertex}
-use Rattle.theorem_demands.specs.Solids.{vertex-of}
+use Rattle.theorem_demands.specs.Words.{SolidNumber, VertexOf, FourPoints, TwoAlike, EdgeAndFace, AlikeOrCorner, EdgeAndSolid}
+use Rattle.theorem_demands.specs.Words.{AlikeOrVertex}
+use Rattle.theorem_demands.specs.Words.Solids.{vertex-of}
 use Rattle.theorem_demands.specs.Answers.{OfScene, Refusals, Never, Always, NoList}
 
 -- a scene's own refusals come first

@@ -26,9 +26,9 @@ use Rattle.scene.specs.View.{viewOf, solidA, solidB, solid}
 use Rattle.questions.specs.Answers.{listingIn, seen}
 use Rattle.survey_scene.specs.Ready.{sound-a, sound-b}
 use Rattle.theorem_demands.specs.Words.{Edge}
-use Rattle.theorem_demands.specs.Solids.{Worded, a-worded, b-worded}
+use Rattle.theorem_demands.specs.Words.Solids.{Worded, a-worded, b-worded}
 use Rattle.theorem_demands.specs.Exact.{Crossing, PiercedPair, solidOf, Before, ListingIs}
-use Rattle.theorem_demands.specs.ExactListing.{Lower, solid-each, solid-rises}
+use Rattle.theorem_demands.specs.Exact.Listing.{Lower, solid-each, solid-rises}
 
 -- a corner of one of the solid's faces is one of its vertices
 corner-vertex : {low high i : ℕ} (f : Face) → FaceOf low high f → Corner i f → Vertex low high i

@@ -18,7 +18,7 @@ use Rattle.survey_links.specs.Bits.{same-bits}
 use Rattle.question_listing.specs.Hits.{isInside}
 use Rattle.theorem_demands.specs.Words.{farPoint, Pierces, Enclosed}
 use Rattle.theorem_demands.specs.Exact.{numbered, MaskIs, Odd}
-use Rattle.theorem_demands.specs.Solids.{Worded}
+use Rattle.theorem_demands.specs.Words.Solids.{Worded}
 
 -- ---- of u and v, against the n faces behind others
 

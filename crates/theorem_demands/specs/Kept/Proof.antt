@@ -36,10 +36,10 @@ use Rattle.questions.specs.declared.Verdict.the-variants as verdict
 use Rattle.questions.specs.declared.Listed.the-variants as listed
 use Rattle.theorem_demands.specs.Kept.{Answers, Still, RulesOfWeights, byWeight, termsByWeight, signByWeight, SameTerms, AllWeighted}
 use Rattle.theorem_demands.specs.Kept.{SharedEdges, LargerModels, FarAtInfinity, FirstKernel}
-use Rattle.theorem_demands.specs.Before.{judgedBefore}
-use Rattle.theorem_demands.specs.Computing.{judging}
-use Rattle.theorem_demands.specs.BeforeProof.{least-one, before-accepted, before-weighs}
-use Rattle.theorem_demands.specs.Same.{pierces-same}
+use Rattle.theorem_demands.specs.Kept.Before.{judgedBefore}
+use Rattle.theorem_demands.specs.Marked.Computing.{judging}
+use Rattle.theorem_demands.specs.Kept.Before.Proof.{least-one, before-accepted, before-weighs}
+use Rattle.theorem_demands.specs.Shift.Same.{pierces-same}
 
 -- the scene's judgement comes first, and says nothing
 taken : {X : Type 0} (refuse : Refusal → X) {j : Judged} → j ≡ Accepted → (x : X) → answered refuse j x ≡ x

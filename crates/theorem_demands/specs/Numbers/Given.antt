@@ -35,7 +35,7 @@ use Rattle.questions.specs.declared.Listed.the-variants as listed
 use Rattle.theorem_demands.specs.Words.{Pierces, CornerOf}
 use Rattle.theorem_demands.specs.Numbers.{ofScene, Gives}
 use Rattle.theorem_demands.specs.Answers.{OfScene}
-use Rattle.theorem_demands.specs.ExactPairs.{members}
+use Rattle.theorem_demands.specs.Exact.Pairs.{members}
 
 -- a refusal with the number n is given
 abbrev Given : (List ℕ → Refusal → Type 0) → ℕ → Type 0

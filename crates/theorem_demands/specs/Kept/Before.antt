@@ -1,5 +1,6 @@
 -- The judge of document 01 as it was before the requests: counts up to 32 and 64, no weight 0 and no refusal 14, an edge in exactly two
 -- faces. Assumes nothing.
+pub mod Proof
 use mathlib.Core.Bool.{Bool, cond, _&&_}
 use mathlib.Core.List.{List}
 use Prim.Native.Nat.{ℕ, _+_, _-_}

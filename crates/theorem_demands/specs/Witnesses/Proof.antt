@@ -10,7 +10,7 @@ use Rattle.question_listing.specs.First.{firstOf}
 use Rattle.scene.specs.View.{solid}
 use Rattle.scene.specs.Faces.{isCorner, hasBoth}
 use Rattle.questions.specs.Answers.{answered, countsIn, countedOf, enclosureIn, verdictIn, verdictOf, listingIn, insideIn}
-use Rattle.theorem_demands.specs.Computing.{judging, piercing}
+use Rattle.theorem_demands.specs.Marked.Computing.{judging, piercing}
 use Rattle.theorem_demands.specs.Witnesses.{Witnesses}
 
 pub witnesses : Witnesses

@@ -1,7 +1,7 @@
 -- The verdict of an accepted scene is what the first of its listing and the lowest of its enclosed vertices say. Assumes nothing.
 use mathlib.Core.Path.{_≡_, refl, sym, ap, _∙_, subst}
 use mathlib.Core.Logic.{_⊎_, inl, inr, ⊎-elim, _↔_}
-use mathlib.Core.Bool.{Bool, false, true≢false}
+use mathlib.Core.Bool.{false, true≢false}
 use mathlib.Core.List.{List, [], _∷_}
 use Prim.Native.Nat.{ℕ, _+_, _<_}
 use native.Mathlib.Omega.{arith}
@@ -9,7 +9,6 @@ use lib.Dec.{leb}
 use borrow.Author.Tests.{le-leb, lt-leb}
 use Rattle.laws.specs.Lowest.{FirstOrNone, lowest-or-none}
 use Rattle.laws.specs.Lists.{Some}
-use Rattle.laws.specs.Mask.{mask-lt, mask-test}
 use Rattle.laws.specs.Members.{each-of}
 use Rattle.laws.specs.Rising.{Rising, less-never, less-back}
 use Rattle.scene.specs.Records.{vertsA, verts}
@@ -22,13 +21,12 @@ use Rattle.question_listing.specs.Pour.{three}
 use Rattle.question_listing.specs.declared.find.Found.the-variants.{Nothing, Pair}
 use Rattle.scene.specs.View.{viewOf, solidA, solidB, solid}
 use Rattle.questions.specs.Answers.{enclosureIn, verdictIn, listingIn, seen}
-use Rattle.survey_enclosed.specs.Walk.{insideWord}
 use Rattle.questions.specs.declared.Verdict.{Verdict}
 use Rattle.questions.specs.declared.Verdict.the-variants as verdict
-use Rattle.theorem_demands.specs.Words.{VertexOfA, VertexOfB, Enclosed, IsWord, AreWords}
+use Rattle.theorem_demands.specs.Words.{VertexOfA, VertexOfB, Enclosed}
 use Rattle.theorem_demands.specs.Exact.{PiercedPair, solidOf, Before, FirstPair, NonePierced, NoneEnclosed, LowestEnclosed}
-use Rattle.theorem_demands.specs.Solids.{Worded, a-worded, b-worded}
-use Rattle.theorem_demands.specs.ExactPairs.{members, rises}
+use Rattle.theorem_demands.specs.Words.Solids.{Worded, a-worded, b-worded}
+use Rattle.theorem_demands.specs.Exact.Pairs.{members, rises}
 
 -- ---- the first of a listing
 
@@ -159,22 +157,3 @@ module _ (s : List ℕ) where
 
     pub verdict-iff : (v : Verdict) → (verdictIn (viewOf s) ≡ v) ↔ Says v
     verdict-iff v = (λ e. subst Says e says, given v)
-
--- ---- the words of enclosed vertices
-
-word-in : (s : List ℕ) {k : Solid} {n : ℕ} {Of Own Other : ℕ → Type 0} → Worded s k n Of Own Other →
-    IsWord s (k .low) (k .verts) (insideWord (seen (viewOf s)) k)
-unfolding insideWord
-word-in s {k} w =
-    let g : ℕ → Bool = λ m. isInside (seen (viewOf s)) k (k .low + 1 + m) in
-    record {
-      small = mask-lt g (k .verts);
-      bits = λ j b.
-          let e = mask-test g (k .verts) j b ∙ w .inside (k .low + 1 + j) (w .vertices (k .low + 1 + j) .0 (omega arith, omega arith)) in
-          (λ t. sym e ∙ t, λ t. e ∙ t);
-    }
-
-pub are-words : (s : List ℕ) {a b : ℕ} → a ≡ insideWord (seen (viewOf s)) (solid (viewOf s) 1) →
-    b ≡ insideWord (seen (viewOf s)) (solid (viewOf s) 2) → AreWords s a b
-unfolding solid
-are-words s d e = (rw d (word-in s (a-worded s)), rw e (word-in s (b-worded s)))

@@ -10,7 +10,8 @@ use Rattle.laws.specs.Lists.{run, number-once}
 use Rattle.scene.specs.Limits.{Limits, limits}
 use Rattle.scene.specs.Records.{vertsA}
 use Rattle.scene.specs.Read.{points-are}
-use Rattle.scene.specs.View.{View, viewOf, points, solid, either-solid}
+use Rattle.scene.specs.View.{View, viewOf, points, solid}
+use Rattle.scene.specs.View.Laws.{either-solid}
 use Rattle.scene.specs.declared.Solid as numbers
 use Rattle.judge.specs.Judge.{judgedAt, rule}
 use Rattle.judge.specs.declared.Judged.the-variants.{Accepted}
@@ -23,8 +24,8 @@ use Rattle.pierce.specs.Scene.{scene-parity, scene-route}
 use Rattle.questions.specs.Answers.{answered, isPoint, isVertexOf, edgeAndSolid, outside, maskFault, maskIn, maskedIn, maskedOf, isSolid}
 use Rattle.theorem_demands.specs.Parity.{Outside, Parity, CountParity, Route, ParityAt, Asked}
 use Rattle.theorem_demands.specs.Words.{SolidNumber, VertexOf}
-use Rattle.theorem_demands.specs.Solids.{vertex-of}
-use Rattle.theorem_demands.specs.ExactMask.{mask-is}
+use Rattle.theorem_demands.specs.Words.Solids.{vertex-of}
+use Rattle.theorem_demands.specs.Exact.Mask.{mask-is}
 
 module _ (s : List ℕ) where
   abbrev v : View

@@ -17,7 +17,7 @@ use Rattle.judge.specs.Judge.{isEdge, edgeOk, sidesOk, closedAt, edgeFault, edg
 use Rattle.judge.specs.Tests.{within-iff, rule-iff, then-iff, first-iff}
 use Rattle.judge.specs.declared.Judged.{Judged}
 use Rattle.judge.specs.declared.Judged.the-variants.{Accepted}
-use Rattle.theorem_demands.specs.Before.{pointFaultBefore, recordFaultBefore, inTwo, sidesInTwo, edgeFaultBefore, judgedBefore}
+use Rattle.theorem_demands.specs.Kept.Before.{pointFaultBefore, recordFaultBefore, inTwo, sidesInTwo, edgeFaultBefore, judgedBefore}
 
 pub least-one : (j : ℕ) → leastWeight j ≤ 1
 least-one zero = omega arith

@@ -15,9 +15,9 @@ use Rattle.questions.specs.Answers.{IsListed, listingIn}
 use Rattle.questions.specs.declared.Listed.{Listed}
 use Rattle.questions.specs.declared.Listed.the-variants as listed
 use Rattle.theorem_demands.specs.Answers.{Refusals, NoList}
-use Rattle.theorem_demands.specs.AnswersProof.{answers}
+use Rattle.theorem_demands.specs.Answers.Proof.{answers}
 use Rattle.theorem_demands.specs.Numbers.{Places, ofScene, Numbers}
-use Rattle.theorem_demands.specs.NumbersGiven.{gives, base, keeps, not-empty, heldOf, listedOf, is-listed, partHeld, partOf, is-part}
+use Rattle.theorem_demands.specs.Numbers.Given.{gives, base, keeps, not-empty, heldOf, listedOf, is-listed, partHeld, partOf, is-part}
 
 -- the number of a refusal is the scene's or one of these
 abbrev By : List ℕ → Refusal → Type 0

@@ -21,12 +21,14 @@ use Rattle.pierce.specs.Helper.{helper-found}
 use Rattle.pierce.specs.Beside.{Beside, BesideAll}
 use Rattle.pierce_masks.specs.Faces.{isOdd}
 use Rattle.pierce.specs.Against.{maskAgainst}
-use Rattle.question_listing.specs.Hits.{Seen, Hit, faceHits, edgeHits, pairHits, pairsAt, vertexHits, solidHits, isInside, insideCount, lowestInside}
+use Rattle.question_listing.specs.Hits.{Seen, Hit, faceHits, edgeHits, pairHits, pairsAt, vertexHits, solidHits, isInside, insideCount}
+use Rattle.question_listing.specs.Hits.{lowestInside}
 use Rattle.question_listing.specs.Hits.{Own, Sound}
 use Rattle.question_listing.specs.First.{firstOf}
 use Rattle.questions.specs.Answers.{seen, maskIn, listingIn, insideIn, crossOr, enclosureIn, verdictIn}
 use Rattle.questions.specs.declared.Verdict.{Verdict}
 use Rattle.questions.specs.declared.Verdict.the-variants.{AInB, BInA, Apart}
+use Rattle.theorem_demands.specs.Shift.{withRows}
 
 -- ---- piercing
 
@@ -110,9 +112,6 @@ module _ (s : Seen) (k : Solid) (ok : Sound s k) (row′ : ℕ → Row) (same : 
   lowests-same = lowest-same (isInside s k) (isInside t k) (k .low + 1) (k .low + 1 + k .verts) inside-same
 
 -- ---- a scene
-
-abbrev pub withRows : View → (ℕ → Row) → View
-withRows v row′ = record { vertsA = v .vertsA; facesA = v .facesA; vertsB = v .vertsB; facesB = v .facesB; row = row′; face = v .face }
 
 module _ (v : View) (ok : (k : ℕ) → Sound (seen v) (solid v k)) (row′ : ℕ → Row) (same : SameSigns (points v) (v .row) row′) where
   pub mask-same-rows : (u w k : ℕ) → BesideAll (points v) u w (v .face) (solid v k .first) (solid v k .count) →

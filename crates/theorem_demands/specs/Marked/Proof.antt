@@ -4,7 +4,7 @@ use Rattle.scene.specs.Faces.{isCorner}
 use Rattle.orient.specs.Terms.{termsAt}
 use Rattle.questions.specs.Answers.{answered, isPoint, isFace, differ, arePoints, signFault, signOf, clear}
 use Rattle.questions.specs.Answers.{edgeAndFace, piercesFault, piercesOf, signIn, piercesIn}
-use Rattle.theorem_demands.specs.Computing.{judging, piercing}
+use Rattle.theorem_demands.specs.Marked.Computing.{judging, piercing}
 use Rattle.theorem_demands.specs.Marked.{Marked}
 
 pub marked : Marked

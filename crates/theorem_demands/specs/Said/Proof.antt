@@ -23,7 +23,8 @@ use Rattle.questions.specs.declared.Listed.{Listed}
 use Rattle.questions.specs.declared.Listed.the-variants as listed
 use Rattle.questions.specs.declared.Verdict.{Verdict}
 use Rattle.questions.specs.declared.Verdict.the-variants as verdict
-use Rattle.theorem_demands.specs.Said.{Said, judgedSays, signSays, answerSays, facesSay, countsSay, insideSays, listedSays, verdictSays}
+use Rattle.theorem_demands.specs.Said.{Said, judgedSays, signSays, answerSays, facesSay, countsSay, insideSays, listedSays}
+use Rattle.theorem_demands.specs.Said.{verdictSays}
 use Rattle.theorem_demands.specs.Said.{Tells, AllTell}
 
 -- the i-th value, from 0
