@@ -58,10 +58,10 @@ pub struct Reader<'a> {
 }
 
 impl<'a> Reader<'a> {
-    pub fn new(block: &'a [u8]) -> Reader<'a>
-        ensures { λ r. ⌜ (r .block ≡ block .entry) × (r .at ≡ 0) ⌝ }
+    pub fn new(block: &'a [u8], at: usize) -> Reader<'a>
+        ensures { λ r. ⌜ (r .block ≡ block .entry) × (r .at ≡ at) ⌝ }
     {
-        Reader { block, at: 0 }
+        Reader { block, at }
     }
 
     // Hands out the next scene, which has no bytes where the block has ended, and moves behind it.
@@ -79,6 +79,6 @@ impl<'a> Reader<'a> {
 pub fn read_scene(block: &[u8], at: usize) -> &[u8]
     ensures { λ s. ⌜ now s ≡ sceneOf (startAt (now (block .entry)) at) ⌝ }
 {
-    let mut r = Reader { block, at };
+    let mut r = Reader::new(block, at);
     r.next()
 }

@@ -167,62 +167,62 @@ module _ {M : Type 1} (𝓤 : URA M) (H : Heap 𝓤) (A : Atoms 𝓤) (W : Given
       feqI ! (List Val) (vptr b o ∷ []) (vptr b o ∷ []) refl $ fjoin3 ! $ nothing ! $ move ! (1 ∷ 0 ∷ []) $ fjoin ! $ frame ! $ done !
 
   module _ (C : Calls 𝓤 H) (Λ : Loops 𝓤 H) (fm : FmC 𝓤 H (W .laws) C) (known : Triple 𝓤 (C #block·scene-at) (SceneAt 𝓤 H A at-mem run))
-      where
-    walk : ent 𝓤 (onEntry 𝓤 H A next.signature (κ, (κ′, tt)) (q, (q′, tt)) x at) (WpFn 𝓤 H C Λ code.function (vptr b o ∷ []) Post)
-    walk =
-        qed W ((‵ (flft κ q) ⊛ ‵ (flft κ′ q′) ⊛ ‵ ftrue) ∷ ‵ (owns (MutRef (named 0) κ (B κ′) ∷ []) x at) ∷ []) ∵ enter ! C Λ code.function
-        (vptr b o ∷ []) _ $
-        alloc1 ! (λ l₀. alloc1 ! (λ l₁. alloc1 ! (λ l₂. alloc1 ! (λ l₃. alloc1 ! (λ l₄. alloc1 ! (λ l₅. alloc1 ! (λ l₆. alloc0 ! $
-        params1 ! $ pass1 ! (init ! 10 refl (tt, tt)) $ pass0 ! $
-        -- the borrow is opened
-        move ! (15 ∷ []) $ fsplit ! $ fsplit3 ! $ drop ! $ move ! (17 ∷ []) $ split ! $ move ! (2 ∷ 3 ∷ 0 ∷ []) $
-        opens ! tt (B κ′) {h = h} b o
-        (λ vs. spelt ! (B κ′) (Is (B κ′)) (shows 𝓤 H A (B κ′)) (LL.vals D L) (LL.tells D L) fullShare h vs b o $
-        use1 W (‵ (fat fullShare (T′.mir erased) b o mach)) (W .laws .raw-at fullShare (T′.mir erased) b o mach) $
-        move ! (1 ∷ []) $ peeks ! (B κ′) (Is (B κ′)) (shows 𝓤 H A (B κ′)) h (mach ∷ []) (λ was. move ! (1 ∷ 0 ∷ []) $
-        let wt = LL.lawful D L 𝓤 H A W .typed h _ was .0 in
-        -- [the struct's cell; what a Reader owns; the open borrow; obs; auth; 'a's token; nothing; _6; …; _5; …; _4; …; _3; …; _2; …; _1; …;
-        -- room for _0; …]
-        assigns ! (of-opd ! (load ! (from ! (hop ! (look ! 17 refl) (fld ! refl (stop !)))) (look-in ! 0 (sub ! 1 refl (whole !)))))
-        (from ! (stop !)) (init ! 15 refl (tt, wt .1 .1 .0)) $
-        assigns ! (of-opd ! (load ! (from ! (hop ! (look ! 17 refl) (fld ! refl (stop !)))) (look-in ! 0 (sub ! 0 refl (whole !)))))
-        (from ! (stop !)) (init ! 11 refl (tt, wt .1 .0)) $
-        -- the call of `scene_at`
-        move ! (1 ∷ []) $ use1 W (‵ asks ⊛ ‵ Own) (apart (wt .1 .1 .0 .fits)) $ split ! $ move ! (0 ∷ 6 ∷ []) $
-        use2 W (raw (SceneAt 𝓤 H A at-mem run .pre to-scene)) to-scene-goes $
-        calls-at ! fm (SceneAt 𝓤 H A at-mem run) known to-scene
-        (and-then ! (load ! (from ! (stop !)) (look ! 11 refl)) (and-then ! (load ! (from ! (stop !)) (look ! 15 refl)) (no-more !))) (λ w.
-        use1 W (later (some (λ (s : RefT (List ℕ)). ((‵ (flft κ′ q′) ⊛ ‵ ftrue) ⊛ ‵ (ShrSlice (named 0) κ′ u8 .own s (w ∷ [])))
-        ⊛ raw (ensured 𝓤 H A scene.ended (scene.clauses 𝓤 H A at-mem run) (κ′, tt) (h .block, (h .at, tt)) tt s))))
-        (id⊢ 𝓤 _) $ await ! tt $ pick ! (λ s.
-        split ! $ move ! (1 ∷ []) $ use1 W (raw (fact 𝓤 (now s ≡ shown))) (scene-said s) $ heard ! (now s ≡ shown)
-        (λ e. split ! $ move ! (1 ∷ []) $
-        peeks ! (ShrSlice (named 0) κ′ u8) (Is (ShrSlice (named 0) κ′ u8)) (shows 𝓤 H A (ShrSlice (named 0) κ′ u8)) s (w ∷ []) (λ is.
-        let fits = scene-within (now (h .block)) (h .at) e (wt .1 .1 .0 .fits) (wt .1 .0 .1 .0 .fits) in
-        -- [the scene; 'a's token; what a Reader owns; the struct's cell; the open borrow; obs; auth; nothing; _6; …; _5; …; _4; …; _3; …;
-        -- _2; …; _1; …; room for _0; …]
-        land ! (from ! (stop !)) (init ! 14 refl (shr-slice-lawful 𝓤 H A W erased κ′ u8 .typed s (w ∷ []) is .0)) $
-        rewrite ! 14 (λ (u : Val). ‵ (fat fullShare (sliceTy (tyRef erased imm (tyInt w8))) l₃ 0 u)) (ap only (is .0 .0)) refl $
-        rewrite ! 0 (λ (us : List Val). ‵ (ShrSlice (named 0) κ′ u8 .own s us)) (is .0 .0) refl $
-        -- the place behind the scene is stored
-        assigns ! (of-opd ! (load ! (from ! (fld ! refl (stop !))) (look-in ! 14 (sub ! 1 refl (whole !))))) (from ! (stop !))
-        (init ! 10 refl (tt, record { fits = is .0 .1 .0 })) $
-        assigns ! (bin ! (load ! (from ! (stop !)) (look ! 16 refl)) (load ! (from ! (stop !)) (look ! 10 refl)) (record { fits = fits }))
-        (from ! (stop !)) (init ! 8 refl (tt, record { fits = fits })) $
-        assigns ! (of-opd ! (load ! (from ! (stop !)) (look ! 8 refl))) (from ! (hop ! (look ! 18 refl) (fld ! refl (stop !))))
-        (store-in ! 3 (sub ! 1 refl (whole !)) (tt, record { fits = fits })) $
-        assigns ! (of-opd ! (load ! (from ! (stop !)) (look ! 14 refl))) (from ! (stop !))
-        (init ! 20 refl (tt, (tt, (record { fits = is .0 .1 .0 }, tt)))) $
-        -- the borrow is closed, at the new place
-        move ! (2 ∷ []) $ use1 W (‵ (B κ′ .own (moved (after s)) (T′.lowered (moved (after s)) ∷ []))) (again (after s) fits) $
-        move ! (3 ∷ []) $ use1 W (‵ (cellAt fullShare (B κ′ .mir) (T′.lowered (moved (after s)) ∷ []) b o))
-        (W .laws .at-raw fullShare (T′.mir erased) b o (T′.lowered (moved (after s)))) $
-        move ! (0 ∷ 1 ∷ 4 ∷ 5 ∷ 6 ∷ []) $ closes ! tt (B κ′) (moved (after s)) (T′.lowered (moved (after s)) ∷ []) b o $
-        -- [obs; the borrow; its token; the scene; 'a's token; nothing; _6; …; _5; …; _4; …; _3; …; _2; …; _1; …; _0; …]
-        returns ! (look ! 18 refl) $ forget ! 6 refl $ forget ! 8 refl $ forget ! 10 refl $ forget ! 12 refl $ forget ! 14 refl $
-        forget ! 16 refl $ forget ! 18 refl $ move ! (18 ∷ 19 ∷ []) $ free1 ! $ move ! (16 ∷ 17 ∷ []) $ free1 ! $
-        move ! (14 ∷ 15 ∷ []) $ free1 ! $ move ! (12 ∷ 13 ∷ []) $ free1 ! $ move ! (10 ∷ 11 ∷ []) $ free1 ! $ move ! (8 ∷ 9 ∷ []) $
-        free1 ! $ move ! (6 ∷ 7 ∷ []) $ free1 ! $ free0 ! $ keep ! (3 ∷ 0 ∷ 1 ∷ 2 ∷ 4 ∷ []) $ by ! (exits s e))))))))))))))
+    where
+      walk : ent 𝓤 (onEntry 𝓤 H A next.signature (κ, (κ′, tt)) (q, (q′, tt)) x at) (WpFn 𝓤 H C Λ code.function (vptr b o ∷ []) Post)
+      walk =
+          qed W ((‵ (flft κ q) ⊛ ‵ (flft κ′ q′) ⊛ ‵ ftrue) ∷ ‵ (owns (MutRef (named 0) κ (B κ′) ∷ []) x at) ∷ []) ∵ enter ! C Λ code.function
+          (vptr b o ∷ []) _ $
+          alloc1 ! (λ l₀. alloc1 ! (λ l₁. alloc1 ! (λ l₂. alloc1 ! (λ l₃. alloc1 ! (λ l₄. alloc1 ! (λ l₅. alloc1 ! (λ l₆. alloc0 ! $
+          params1 ! $ pass1 ! (init ! 10 refl (tt, tt)) $ pass0 ! $
+          -- the borrow is opened
+          move ! (15 ∷ []) $ fsplit ! $ fsplit3 ! $ drop ! $ move ! (17 ∷ []) $ split ! $ move ! (2 ∷ 3 ∷ 0 ∷ []) $
+          opens ! tt (B κ′) {h = h} b o
+          (λ vs. spelt ! (B κ′) (Is (B κ′)) (shows 𝓤 H A (B κ′)) (LL.vals D L) (LL.tells D L) fullShare h vs b o $
+          use1 W (‵ (fat fullShare (T′.mir erased) b o mach)) (W .laws .raw-at fullShare (T′.mir erased) b o mach) $
+          move ! (1 ∷ []) $ peeks ! (B κ′) (Is (B κ′)) (shows 𝓤 H A (B κ′)) h (mach ∷ []) (λ was. move ! (1 ∷ 0 ∷ []) $
+          let wt = LL.lawful D L 𝓤 H A W .typed h _ was .0 in
+          -- [the struct's cell; what a Reader owns; the open borrow; obs; auth; 'a's token; nothing; _6; …; _5; …; _4; …; _3; …; _2; …; _1; …;
+          -- room for _0; …]
+          assigns ! (of-opd ! (load ! (from ! (hop ! (look ! 17 refl) (fld ! refl (stop !)))) (look-in ! 0 (sub ! 1 refl (whole !)))))
+          (from ! (stop !)) (init ! 15 refl (tt, wt .1 .1 .0)) $
+          assigns ! (of-opd ! (load ! (from ! (hop ! (look ! 17 refl) (fld ! refl (stop !)))) (look-in ! 0 (sub ! 0 refl (whole !)))))
+          (from ! (stop !)) (init ! 11 refl (tt, wt .1 .0)) $
+          -- the call of `scene_at`
+          move ! (1 ∷ []) $ use1 W (‵ asks ⊛ ‵ Own) (apart (wt .1 .1 .0 .fits)) $ split ! $ move ! (0 ∷ 6 ∷ []) $
+          use2 W (raw (SceneAt 𝓤 H A at-mem run .pre to-scene)) to-scene-goes $
+          calls-at ! fm (SceneAt 𝓤 H A at-mem run) known to-scene
+          (and-then ! (load ! (from ! (stop !)) (look ! 11 refl)) (and-then ! (load ! (from ! (stop !)) (look ! 15 refl)) (no-more !))) (λ w.
+          use1 W (later (some (λ (s : RefT (List ℕ)). ((‵ (flft κ′ q′) ⊛ ‵ ftrue) ⊛ ‵ (ShrSlice (named 0) κ′ u8 .own s (w ∷ [])))
+          ⊛ raw (ensured 𝓤 H A scene.ended (scene.clauses 𝓤 H A at-mem run) (κ′, tt) (h .block, (h .at, tt)) tt s))))
+          (id⊢ 𝓤 _) $ await ! tt $ pick ! (λ s.
+          split ! $ move ! (1 ∷ []) $ use1 W (raw (fact 𝓤 (now s ≡ shown))) (scene-said s) $ heard ! (now s ≡ shown)
+          (λ e. split ! $ move ! (1 ∷ []) $
+          peeks ! (ShrSlice (named 0) κ′ u8) (Is (ShrSlice (named 0) κ′ u8)) (shows 𝓤 H A (ShrSlice (named 0) κ′ u8)) s (w ∷ []) (λ is.
+          let fits = scene-within (now (h .block)) (h .at) e (wt .1 .1 .0 .fits) (wt .1 .0 .1 .0 .fits) in
+          -- [the scene; 'a's token; what a Reader owns; the struct's cell; the open borrow; obs; auth; nothing; _6; …; _5; …; _4; …; _3; …;
+          -- _2; …; _1; …; room for _0; …]
+          land ! (from ! (stop !)) (init ! 14 refl (shr-slice-lawful 𝓤 H A W erased κ′ u8 .typed s (w ∷ []) is .0)) $
+          rewrite ! 14 (λ (u : Val). ‵ (fat fullShare (sliceTy (tyRef erased imm (tyInt w8))) l₃ 0 u)) (ap only (is .0 .0)) refl $
+          rewrite ! 0 (λ (us : List Val). ‵ (ShrSlice (named 0) κ′ u8 .own s us)) (is .0 .0) refl $
+          -- the place behind the scene is stored
+          assigns ! (of-opd ! (load ! (from ! (fld ! refl (stop !))) (look-in ! 14 (sub ! 1 refl (whole !))))) (from ! (stop !))
+          (init ! 10 refl (tt, record { fits = is .0 .1 .0 })) $
+          assigns ! (bin ! (load ! (from ! (stop !)) (look ! 16 refl)) (load ! (from ! (stop !)) (look ! 10 refl)) (record { fits = fits }))
+          (from ! (stop !)) (init ! 8 refl (tt, record { fits = fits })) $
+          assigns ! (of-opd ! (load ! (from ! (stop !)) (look ! 8 refl))) (from ! (hop ! (look ! 18 refl) (fld ! refl (stop !))))
+          (store-in ! 3 (sub ! 1 refl (whole !)) (tt, record { fits = fits })) $
+          assigns ! (of-opd ! (load ! (from ! (stop !)) (look ! 14 refl))) (from ! (stop !))
+          (init ! 20 refl (tt, (tt, (record { fits = is .0 .1 .0 }, tt)))) $
+          -- the borrow is closed, at the new place
+          move ! (2 ∷ []) $ use1 W (‵ (B κ′ .own (moved (after s)) (T′.lowered (moved (after s)) ∷ []))) (again (after s) fits) $
+          move ! (3 ∷ []) $ use1 W (‵ (cellAt fullShare (B κ′ .mir) (T′.lowered (moved (after s)) ∷ []) b o))
+          (W .laws .at-raw fullShare (T′.mir erased) b o (T′.lowered (moved (after s)))) $
+          move ! (0 ∷ 1 ∷ 4 ∷ 5 ∷ 6 ∷ []) $ closes ! tt (B κ′) (moved (after s)) (T′.lowered (moved (after s)) ∷ []) b o $
+          -- [obs; the borrow; its token; the scene; 'a's token; nothing; _6; …; _5; …; _4; …; _3; …; _2; …; _1; …; _0; …]
+          returns ! (look ! 18 refl) $ forget ! 6 refl $ forget ! 8 refl $ forget ! 10 refl $ forget ! 12 refl $ forget ! 14 refl $
+          forget ! 16 refl $ forget ! 18 refl $ move ! (18 ∷ 19 ∷ []) $ free1 ! $ move ! (16 ∷ 17 ∷ []) $ free1 ! $
+          move ! (14 ∷ 15 ∷ []) $ free1 ! $ move ! (12 ∷ 13 ∷ []) $ free1 ! $ move ! (10 ∷ 11 ∷ []) $ free1 ! $ move ! (8 ∷ 9 ∷ []) $
+          free1 ! $ move ! (6 ∷ 7 ∷ []) $ free1 ! $ free0 ! $ keep ! (3 ∷ 0 ∷ 1 ∷ 2 ∷ 4 ∷ []) $ by ! (exits s e))))))))))))))
 
 module _ {M : Type 1} (𝓤 : URA M) (H : Heap 𝓤) (A : Atoms 𝓤) (W : Given 𝓤 H A) (mem : Memory → SProp 𝓤) (run : Routine → Fun 𝓤) where
   next-walks : (C : Calls 𝓤 H) (Λ : Loops 𝓤 H) → FmC 𝓤 H (W .laws) C → Triple 𝓤 (C #block·scene-at) (SceneAt 𝓤 H A mem run)
