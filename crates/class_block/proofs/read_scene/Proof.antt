@@ -223,7 +223,8 @@ module _ {M : Type 1} (𝓤 : URA M) (H : Heap 𝓤) (A : Atoms 𝓤) (W : Given
         move ! (4 ∷ 0 ∷ 2 ∷ []) $ use3 W (raw (Next 𝓤 H A at-mem run .pre (to-next ν r l₃ δ))) (goes-next ν r l₃ δ) $
         -- [what is asked; the rest of ν; nothing; the lender's part; what the block owns; _5; …; _4; …; _3's end; _2; …; _1; …; room
         -- for _0; …]
-        calls-at ! fm (Next 𝓤 H A at-mem run) known-next (to-next ν r l₃ δ) (and-then ! (load ! (from ! (stop !)) (look ! 5 refl)) (no-more !))
+        calls-at ! fm (Next 𝓤 H A at-mem run) known-next (to-next ν r l₃ δ)
+        (and-then ! (load ! (from ! (stop !)) (look ! 5 refl)) (no-more !))
         (λ w.
         use1 W (later (some (λ (t : RefT (List ℕ)).
         ((‵ (flft (ν ∷ κ) q₁) ⊛ ‵ (flft κ q₂) ⊛ ‵ ftrue) ⊛ ‵ (ShrSlice (named 1) κ u8 .own t (w ∷ [])))

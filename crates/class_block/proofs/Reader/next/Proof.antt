@@ -170,8 +170,8 @@ module _ {M : Type 1} (𝓤 : URA M) (H : Heap 𝓤) (A : Atoms 𝓤) (W : Given
     where
       walk : ent 𝓤 (onEntry 𝓤 H A next.signature (κ, (κ′, tt)) (q, (q′, tt)) x at) (WpFn 𝓤 H C Λ code.function (vptr b o ∷ []) Post)
       walk =
-          qed W ((‵ (flft κ q) ⊛ ‵ (flft κ′ q′) ⊛ ‵ ftrue) ∷ ‵ (owns (MutRef (named 0) κ (B κ′) ∷ []) x at) ∷ []) ∵ enter ! C Λ code.function
-          (vptr b o ∷ []) _ $
+          qed W ((‵ (flft κ q) ⊛ ‵ (flft κ′ q′) ⊛ ‵ ftrue) ∷ ‵ (owns (MutRef (named 0) κ (B κ′) ∷ []) x at) ∷ []) ∵
+          enter ! C Λ code.function (vptr b o ∷ []) _ $
           alloc1 ! (λ l₀. alloc1 ! (λ l₁. alloc1 ! (λ l₂. alloc1 ! (λ l₃. alloc1 ! (λ l₄. alloc1 ! (λ l₅. alloc1 ! (λ l₆. alloc0 ! $
           params1 ! $ pass1 ! (init ! 10 refl (tt, tt)) $ pass0 ! $
           -- the borrow is opened
@@ -181,8 +181,8 @@ module _ {M : Type 1} (𝓤 : URA M) (H : Heap 𝓤) (A : Atoms 𝓤) (W : Given
           use1 W (‵ (fat fullShare (T′.mir erased) b o mach)) (W .laws .raw-at fullShare (T′.mir erased) b o mach) $
           move ! (1 ∷ []) $ peeks ! (B κ′) (Is (B κ′)) (shows 𝓤 H A (B κ′)) h (mach ∷ []) (λ was. move ! (1 ∷ 0 ∷ []) $
           let wt = LL.lawful D L 𝓤 H A W .typed h _ was .0 in
-          -- [the struct's cell; what a Reader owns; the open borrow; obs; auth; 'a's token; nothing; _6; …; _5; …; _4; …; _3; …; _2; …; _1; …;
-          -- room for _0; …]
+          -- [the struct's cell; what a Reader owns; the open borrow; obs; auth; 'a's token; nothing; _6; …; _5; …; _4; …; _3; …; _2; …;
+          -- _1; …; room for _0; …]
           assigns ! (of-opd ! (load ! (from ! (hop ! (look ! 17 refl) (fld ! refl (stop !)))) (look-in ! 0 (sub ! 1 refl (whole !)))))
           (from ! (stop !)) (init ! 15 refl (tt, wt .1 .1 .0)) $
           assigns ! (of-opd ! (load ! (from ! (hop ! (look ! 17 refl) (fld ! refl (stop !)))) (look-in ! 0 (sub ! 0 refl (whole !)))))
@@ -191,7 +191,8 @@ module _ {M : Type 1} (𝓤 : URA M) (H : Heap 𝓤) (A : Atoms 𝓤) (W : Given
           move ! (1 ∷ []) $ use1 W (‵ asks ⊛ ‵ Own) (apart (wt .1 .1 .0 .fits)) $ split ! $ move ! (0 ∷ 6 ∷ []) $
           use2 W (raw (SceneAt 𝓤 H A at-mem run .pre to-scene)) to-scene-goes $
           calls-at ! fm (SceneAt 𝓤 H A at-mem run) known to-scene
-          (and-then ! (load ! (from ! (stop !)) (look ! 11 refl)) (and-then ! (load ! (from ! (stop !)) (look ! 15 refl)) (no-more !))) (λ w.
+          (and-then ! (load ! (from ! (stop !)) (look ! 11 refl)) (and-then ! (load ! (from ! (stop !)) (look ! 15 refl)) (no-more !)))
+          (λ w.
           use1 W (later (some (λ (s : RefT (List ℕ)). ((‵ (flft κ′ q′) ⊛ ‵ ftrue) ⊛ ‵ (ShrSlice (named 0) κ′ u8 .own s (w ∷ [])))
           ⊛ raw (ensured 𝓤 H A scene.ended (scene.clauses 𝓤 H A at-mem run) (κ′, tt) (h .block, (h .at, tt)) tt s))))
           (id⊢ 𝓤 _) $ await ! tt $ pick ! (λ s.
