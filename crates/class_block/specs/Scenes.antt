@@ -8,7 +8,7 @@ use native.Mathlib.Omega.{arith}
 use borrow.Author.Tests.{leb-true}
 use lib.Dec.{leb}
 use lib.ListN.{length, take, drop, length-drop, drop-of-length-le}
-use lib.Seq.{take-all, take-nil, drop-drop}
+use lib.Seq.{take-all, take-nil, drop-drop, length-take-le}
 use Rattle.scene.specs.Records.{lengthOf}
 use Rattle.class_block.specs.Block.{headed, whole, sizeOf, sceneOf, behind, scenesIn, scenesOf, endAt}
 
@@ -90,10 +90,6 @@ module _ (block : List ℕ) (at : ℕ) where
     unfolding endAt
     part-some = ap (λ (k : ℕ). at + k) sized
 
-  pub part-none : length block ≤ at → at ≡ endAt block at
-  unfolding endAt
-  part-none h = omega (arith, size-most (drop at block), length-drop at block)
-
 -- ---- the scene that starts at `at`, where a byte is left, up to its end e
 
 module _ (block : List ℕ) (at : ℕ) (more-left : at < length block) where
@@ -112,6 +108,18 @@ module _ (block : List ℕ) (at : ℕ) (more-left : at < length block) where
     pub behind-here : behind (drop at block) ≡ drop e block
     unfolding endAt
     behind-here = drop-drop (sizeOf (drop at block)) at block ∙ ap (λ (n : ℕ). drop n block) (sym ends)
+
+-- it ends as many bytes behind its start as it has, and no later than the block, or where it starts
+module _ (block : List ℕ) (at : ℕ) {s : List ℕ} (is : s ≡ sceneOf (drop at block)) where
+  long : length s ≡ sizeOf (drop at block)
+  long = ap length is ∙ length-take-le (sizeOf (drop at block)) (drop at block) (size-most (drop at block))
+
+  pub scene-ends : at + length s ≡ endAt block at
+  unfolding endAt
+  scene-ends = ap (λ (n : ℕ). at + n) long
+
+  pub scene-within : {m : ℕ} → at < m → length block < m → at + length s < m
+  scene-within h k = omega (arith, long, size-most (drop at block), length-drop at block)
 
 -- where none is left
 pub scene-none : (block : List ℕ) (at : ℕ) → length block ≤ at → [] ≡ sceneOf (drop at block)

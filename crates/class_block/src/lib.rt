@@ -2,7 +2,7 @@
 ghost use mathlib.Core.Path.{_≡_};
 ghost use Rattle.scene.specs.Records.{lengthOf};
 ghost use Rattle.class_block.specs.Reading.{Handed};
-ghost use Rattle.class_block.specs.Block.{headed, sizeOf, sceneOf, endAt, startAt};
+ghost use Rattle.class_block.specs.Block.{headed, sizeOf, sceneOf, startAt};
 use judge::Judged;
 use scene::read::byte;
 
@@ -40,22 +40,12 @@ fn size(s: &[u8]) -> usize
     s.len()
 }
 
-// Where the scene that starts at `at` ends.
-pub fn part_at(block: &[u8], at: usize) -> usize
-    ensures { λ r. ⌜ r ≡ endAt (now (block .entry)) at ⌝ }
-{
-    if at < block.len() {
-        return at + size(&block[at..]);
-    }
-    at
-}
-
 // The scene that starts at `at`: no bytes where the block has ended.
-pub fn scene_at(block: &[u8], at: usize) -> &[u8]
+fn scene_at(block: &[u8], at: usize) -> &[u8]
     ensures { λ r. ⌜ now r ≡ sceneOf (startAt (now (block .entry)) at) ⌝ }
 {
     if at < block.len() {
-        let end = part_at(block, at);
+        let end = at + size(&block[at..]);
         return &block[at..end];
     }
     &block[0..0]
@@ -68,19 +58,27 @@ pub struct Reader<'a> {
 }
 
 impl<'a> Reader<'a> {
-    pub fn new(block: &'a [u8]) -> Reader<'a>
-        ensures { λ r. ⌜ (r .block ≡ block .entry) × (r .at ≡ 0) ⌝ }
+    pub fn new(block: &'a [u8], at: usize) -> Reader<'a>
+        ensures { λ r. ⌜ (r .block ≡ block .entry) × (r .at ≡ at) ⌝ }
     {
-        Reader { block, at: 0 }
+        Reader { block, at }
     }
 
     // Hands out the next scene, which has no bytes where the block has ended, and moves behind it.
     pub fn next<'s>(&'s mut self) -> &'a [u8]
         ensures { λ s. ⌜ Handed (now (self .entry)) s (now (self .exit)) ⌝ }
     {
-        let block = self.block;
         let at = self.at;
-        self.at = part_at(block, at);
-        scene_at(block, at)
+        let s = scene_at(self.block, at);
+        self.at = at + s.len();
+        s
     }
+}
+
+// The scene that starts at `at`, as a reader at that place hands it out.
+pub fn read_scene(block: &[u8], at: usize) -> &[u8]
+    ensures { λ s. ⌜ now s ≡ sceneOf (startAt (now (block .entry)) at) ⌝ }
+{
+    let mut r = Reader::new(block, at);
+    r.next()
 }

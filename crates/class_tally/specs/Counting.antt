@@ -2,13 +2,13 @@
 use mathlib.Core.Path.{_≡_, refl, sym, ap, ap₂, _∙_}
 use mathlib.Core.Bool.{Bool, true, false, cond, _||_}
 use mathlib.Core.List.{List, [], _∷_, map}
-use Prim.Native.Nat.{ℕ, suc, _+_, _*_, _-_, _≤_, _<_}
+use Prim.Native.Nat.{ℕ, suc, _+_, _*_, _≤_, _<_}
 use native.Mathlib.Omega.{arith}
 use native.Mathlib.Nat.{suc-mul}
 use native.Mathlib.Decide.{ℕ-discrete}
 use borrow.Author.Tests.{eq-eqb, ne-eqb, leb-true, le-leb, lt-leb}
 use lib.Dec.{eqb, leb, lit<}
-use lib.ListN.{length, getD, set, replicate, take, drop, length-set, getD-replicate, length-drop, length-map}
+use lib.ListN.{length, getD, set, replicate, drop, length-set, getD-replicate, length-drop, length-map}
 use lib.Seq.{getD-set-same, getD-set-other}
 use Rattle.laws.specs.Range.{more}
 use Rattle.scene.specs.Refusal.{numberOf}
@@ -25,8 +25,8 @@ use Rattle.questions.specs.declared.Surveyed.the-variants as surveyed
 use Rattle.questions.specs.declared.Verdict.{Verdict}
 use Rattle.questions.specs.declared.Verdict.the-variants as verdict
 use Rattle.questions.specs.declared.Counted.the-variants as counted
-use Rattle.class_block.specs.Block.{mostBytes, sceneOf, behind, scenesOf, endAt}
-use Rattle.class_block.specs.Scenes.{scenes-end, scenes-next, scenes-few, byte-left, end-within, scene-here, behind-here}
+use Rattle.class_block.specs.Block.{mostBytes, sceneOf, behind, scenesOf}
+use Rattle.class_block.specs.Scenes.{scenes-end, scenes-next, scenes-few, byte-left, end-within, scene-ends, behind-here}
 use Rattle.class_tally.specs.Most.{mostPairs, pairs-most}
 use Rattle.class_tally.specs.Merge.{made-same}
 use Rattle.class_tally.specs.Sums.{largest, acceptedIn}
@@ -213,16 +213,22 @@ module _ (block : List ℕ) (at : ℕ) (l : List ℕ) (p : ℕ) (so : Sofar bloc
   sofar-few h k b = omega (arith, so .each k b, in-line-most k (marksOf block), marks-few block)
 
   module _ (more-left : at < length block) where
-    -- the scene that starts here, up to its end e
-    module _ (e : ℕ) (ends : e ≡ endAt block at) where
-      module _ (m : Mark) (is : m ≡ markOf (take (e - at) (drop at block))) where
+    -- the scene that starts here, and its end e
+    module _ (s : List ℕ) (handed : s ≡ sceneOf (drop at block)) where
+      abbrev e : ℕ
+      e = at + length s
+
+      pub ends-here : (at < e) × (e ≤ length block)
+      ends-here = end-within block at more-left e (scene-ends block at handed)
+
+      module _ (m : Mark) (is : m ≡ markOf s) where
         marked : marksOf (drop at block) ≡ m ∷ marksOf (drop e block)
         marked = marks-next (drop at block) (byte-left block at more-left)
-            ∙ ap₂ (λ (x : Mark) (s : List ℕ). x ∷ marksOf s) (sym (is ∙ ap markOf (scene-here block at more-left e ends)))
-            (behind-here block at more-left e ends)
+            ∙ ap₂ (λ (x : Mark) (s : List ℕ). x ∷ marksOf s) (sym (is ∙ ap markOf handed))
+            (behind-here block at more-left e (scene-ends block at handed))
 
         pub line-here : (1 ≤ m .line) × (m .line < lines)
-        line-here = let h = line-of (take (e - at) (drop at block)) in rw is h
+        line-here = let h = line-of s in rw is h
 
         pub counting-here : length block ≤ mostBytes → Counting l (m .line)
         counting-here h = record { few = sofar-few h; from = line-here .0; to = line-here .1 }
@@ -243,7 +249,7 @@ module _ (block : List ℕ) (at : ℕ) (l : List ℕ) (p : ℕ) (so : Sofar bloc
             rw is-l
             record {
               size = up-size (up l 0) (m .line) ∙ up-size l 0 ∙ so .size;
-              within = end-within block at more-left e ends .1;
+              within = ends-here .1;
               each = λ k b.
                   let h : inLine k (marksOf (drop at block)) ≡ more (counts k m) (inLine k (marksOf (drop e block))) =
                   ap (inLine k) marked in

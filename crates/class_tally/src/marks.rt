@@ -9,7 +9,7 @@ ghost use Rattle.class_tally.specs.Counting.{Counting, up, markBy};
 use crate::Mark;
 use crate::Tally;
 use crate::files::sum;
-use class_block::part_at;
+use class_block::read_scene;
 use kernel::facts::survey;
 use pierce_engine::Engine;
 use questions::Facts;
@@ -113,11 +113,11 @@ pub fn tally(block: &[u8]) -> Tally
     let mut pairs = 0;
     let mut at = 0;
     while at < block.len() {
-        let end = part_at(block, at);
-        let m = mark_of(&block[at..end]);
+        let s = read_scene(block, at);
+        let m = mark_of(s);
         count_in(&mut lines, m.line);
         pairs += m.pairs;
-        at = end;
+        at += s.len();
     }
     told(&lines, pairs)
 }

@@ -4,8 +4,7 @@ use Prim.Native.Nat.{_-_}
 use native.Mathlib.Omega.{arith}
 use borrow.Author.Needs.{needs}
 use lib.ListN.{length}
-use Rattle.class_tally.specs.Counting.{Sofar, sofar-none, sofar-next, sofar-end, counting-here, sum-fits}
-use Rattle.class_block.specs.Scenes.{end-within}
+use Rattle.class_tally.specs.Counting.{Sofar, sofar-none, sofar-next, sofar-end, ends-here, counting-here, sum-fits}
 use denote.Ref.{now}
 use Rattle.class_tally.proofs.marks.tally.Statement.{statement}
 use Rattle.class_tally.proofs.marks.tally.Tie as tie
@@ -19,70 +18,61 @@ abbrev μ-loop : tie.MeasureT-loop
 loop-holds : tie.Need-loop-holds Inv-loop μ-loop
 loop-holds c = sofar-none _
 
-part-at-requires : tie.Need-part-at-requires Inv-loop μ-loop
-part-at-requires c κs = search needs
-
-sub-mark-of : tie.Need-sub-mark-of Inv-loop μ-loop
-sub-mark-of c =
-    let l = c .before .before .loop in
-    let w = end-within (now (c .before .before .before .before .args .block)) (l .at) (omega arith) (c .part-at .result)
-    (c .part-at .ensures) in
-    omega arith
-
-part-mark-of-start : tie.Need-part-mark-of-start Inv-loop μ-loop
-part-mark-of-start c =
-    let l = c .before .before .loop in
-    let w = end-within (now (c .before .before .before .before .args .block)) (l .at) (omega arith) (c .part-at .result)
-    (c .part-at .ensures) in
-    search needs
-
-part-mark-of-end : tie.Need-part-mark-of-end Inv-loop μ-loop
-part-mark-of-end c =
-    let l = c .before .before .loop in
-    let w = end-within (now (c .before .before .before .before .args .block)) (l .at) (omega arith) (c .part-at .result)
-    (c .part-at .ensures) in
-    search needs
+read-scene-requires : tie.Need-read-scene-requires Inv-loop μ-loop
+read-scene-requires c κs = search needs
 
 mark-of-requires : tie.Need-mark-of-requires Inv-loop μ-loop
 mark-of-requires c κs = search needs
 
 count-in-requires : tie.Need-count-in-requires Inv-loop μ-loop
 count-in-requires c κs =
-    let p = c .before .before .before in
-    let l = p .before .before .loop in
-    let a = p .before .before .before .before in
-    counting-here (now (a .args .block)) (l .at) (l .lines) (l .pairs) (l .inv) (omega arith) (p .part-at .result) (p .part-at .ensures)
-    (c .before .mark-of .result) (c .before .mark-of .ensures) (a .pre)
+    let m = c .before in
+    let r = m .before in
+    let l = r .before .before .loop in
+    let a = r .before .before .before .before in
+    counting-here (now (a .args .block)) (l .at) (l .lines) (l .pairs) (l .inv) (omega arith) (now (r .read-scene .result))
+    (r .read-scene .ensures) (m .mark-of .result) (m .mark-of .ensures) (a .pre)
 
 add-pairs : tie.Need-add-pairs Inv-loop μ-loop
 add-pairs c =
     let m = c .before .before .before in
-    let p = m .before .before in
-    let l = p .before .before .loop in
-    let a = p .before .before .before .before in
+    let r = m .before in
+    let l = r .before .before .loop in
+    let a = r .before .before .before .before in
     omega (
       arith,
-      sum-fits (now (a .args .block)) (l .at) (l .lines) (l .pairs) (l .inv) (omega arith) (p .part-at .result)
-          (p .part-at .ensures) (m .mark-of .result) (m .mark-of .ensures) (a .pre),
+      sum-fits (now (a .args .block)) (l .at) (l .lines) (l .pairs) (l .inv) (omega arith) (now (r .read-scene .result))
+          (r .read-scene .ensures) (m .mark-of .result) (m .mark-of .ensures) (a .pre),
     )
+
+add-at : tie.Need-add-at Inv-loop μ-loop
+add-at c =
+    let m = c .before .before .before in
+    let r = m .before in
+    let l = r .before .before .loop in
+    let a = r .before .before .before .before in
+    let w = ends-here (now (a .args .block)) (l .at) (l .lines) (l .pairs) (l .inv) (omega arith) (now (r .read-scene .result))
+    (r .read-scene .ensures) in
+    omega (arith, w, a .pre)
 
 loop-less : tie.Need-loop-less Inv-loop μ-loop
 loop-less c =
     let m = c .before .before .before in
-    let p = m .before .before in
-    let l = p .before .before .loop in
-    let a = p .before .before .before .before in
-    let w = end-within (now (a .args .block)) (l .at) (omega arith) (p .part-at .result) (p .part-at .ensures) in
-    omega arith
+    let r = m .before in
+    let l = r .before .before .loop in
+    let a = r .before .before .before .before in
+    let w = ends-here (now (a .args .block)) (l .at) (l .lines) (l .pairs) (l .inv) (omega arith) (now (r .read-scene .result))
+    (r .read-scene .ensures) in
+    omega (arith, w, a .pre)
 
 loop-again : tie.Need-loop-again Inv-loop μ-loop
 loop-again c =
     let m = c .before .before .before in
-    let p = m .before .before in
-    let l = p .before .before .loop in
-    let a = p .before .before .before .before in
-    sofar-next (now (a .args .block)) (l .at) (l .lines) (l .pairs) (l .inv) (omega arith) (p .part-at .result) (p .part-at .ensures)
-    (m .mark-of .result) (m .mark-of .ensures) (c .before .count-in .ensures)
+    let r = m .before in
+    let l = r .before .before .loop in
+    let a = r .before .before .before .before in
+    sofar-next (now (a .args .block)) (l .at) (l .lines) (l .pairs) (l .inv) (omega arith) (now (r .read-scene .result))
+    (r .read-scene .ensures) (m .mark-of .result) (m .mark-of .ensures) (c .before .count-in .ensures)
 
 told-requires : tie.Need-told-requires Inv-loop μ-loop
 told-requires c κs = search needs
@@ -96,5 +86,5 @@ returns c =
 pub tally-spec : {M : Type 1} → statement M
 tally-spec =
     tie.close
-    (tie.spec Inv-loop μ-loop loop-holds part-at-requires sub-mark-of part-mark-of-start part-mark-of-end mark-of-requires count-in-requires
-    add-pairs loop-less loop-again told-requires returns)
+    (tie.spec Inv-loop μ-loop loop-holds read-scene-requires mark-of-requires count-in-requires add-pairs add-at loop-less loop-again
+    told-requires returns)
