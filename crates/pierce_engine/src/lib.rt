@@ -8,10 +8,9 @@ ghost use Rattle.orient.specs.Weighted.{Weighted};
 ghost use Rattle.pierce.specs.Formula.{pierced};
 ghost use Rattle.pierce.specs.Beside.{Beside, BesideAll};
 ghost use Rattle.pierce_masks.specs.Faces.{valueOf};
-ghost use Rattle.pierce.specs.Against.{maskAgainst, enclosed};
+ghost use Rattle.pierce.specs.Against.{maskAgainst};
 use pierce_masks::Mask;
 use pierce_masks::WORD;
-use pierce_masks::is_odd;
 use scene::Corners;
 use scene::Face;
 use scene::Rows;
@@ -77,25 +76,6 @@ fn word(
         k += 1;
     }
     word
-}
-
-// The point u is enclosed by the solid: its mask toward the far point, point n, has an odd number of ones.
-pub fn enclosed(
-    engine: Engine,
-    rows: &Rows,
-    corners: &Corners,
-    n: usize,
-    u: usize,
-    first: usize,
-    count: usize,
-) -> bool
-    requires rows { ⌜ AllWithin limits (rowIn (now rows)) × FacesWithin limits (faceIn (now corners)) ⌝ }
-    requires points { ⌜ (6 ≤ n) × (n ≤ mostPoints limits) × (u ≤ mostPoints limits) ⌝ }
-    requires faces { ⌜ (first + count ≤ 2 * limits .mostFaces) × (count ≤ limits .mostFaces) ⌝ }
-    requires edge { ⌜ Weighted n (rowIn (now rows)) × BesideAll n u n (faceIn (now corners)) first count ⌝ }
-    ensures { λ r. ⌜ r ≡ enclosed n (rowIn (now (rows .entry))) (faceIn (now (corners .entry))) u first count ⌝ }
-{
-    is_odd(mask(engine, rows, corners, n, u, n, first, count))
 }
 
 // The edge from u to v pierces the face, in a scene of n points.

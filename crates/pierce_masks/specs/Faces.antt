@@ -1,9 +1,9 @@
--- The faces of a solid that pass a test, as one number and as a mask of two words: the oddness of its ones, its digits and its first face.
+-- The faces of a solid that pass a test, as one number and as a mask of two words: the oddness of its ones and its first face.
 -- Assumes nothing.
 use mathlib.Core.Path.{_≡_, sym, ap, ap₂, _∙_}
 use mathlib.Core.Logic.{_≢_}
 use mathlib.Core.Bool.{Bool, true, false, not, _||_}
-use Prim.Native.Nat.{ℕ, _+_, _*_, _-_, _%_, _^_, _≤_, _<_}
+use Prim.Native.Nat.{ℕ, _+_, _*_, _-_, _%_, _^_, _<_}
 use native.Mathlib.Omega.{arith}
 use native.Mathlib.Decide.{ℕ-discrete}
 use borrow.Author.Tests.{eq-eqb, ne-eqb, eqb-true, eqb-false, not-true, not-false}
@@ -11,7 +11,7 @@ use lib.Count.{ones, trailingZeros}
 use lib.Dec.{eqb}
 use Rattle.laws.specs.Even.{odd}
 use Rattle.laws.specs.Lists.{run}
-use Rattle.laws.specs.Mask.{digit-one, maskOf, testBit, mask-odd, mask-join, ones-join, test-low, test-high}
+use Rattle.laws.specs.Mask.{digit-one, maskOf, mask-odd, mask-join, ones-join}
 use Rattle.laws.specs.Walk.{trailing-low, trailing-high}
 use Rattle.scene.specs.declared.Face.{Face}
 use Rattle.pierce_masks.specs.declared.Mask.{Mask}
@@ -79,14 +79,6 @@ module _ (m : Mask) where
     pub both-ones : ones (m .low) + ones (m .high) ≡ ones (valueOf m)
     unfolding valueOf
     both-ones = sym (ones-join 64 (m .low) (m .high) fits)
-
-    pub bit-low : (k : ℕ) → k < 64 → testBit (m .low) k ≡ testBit (valueOf m) k
-    unfolding valueOf
-    bit-low k h = sym (test-low 64 (m .low) (m .high) k h)
-
-    pub bit-high : (k : ℕ) → 64 ≤ k → testBit (m .high) (k - 64) ≡ testBit (valueOf m) k
-    unfolding valueOf
-    bit-high k h = sym (test-high 64 (m .low) (m .high) k fits h)
 
     pub first-low : m .low ≢ 0 → trailingZeros 64 (m .low) ≡ firstFace (valueOf m)
     unfolding valueOf

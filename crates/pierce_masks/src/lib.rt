@@ -1,9 +1,7 @@
 // A mask: a set of faces of one solid, as those that an edge pierces, in two words.
 ghost use mathlib.Core.Path.{_≡_};
-ghost use Prim.Native.Nat.{_<_};
 ghost use lib.Count.{ones};
-ghost use Rattle.laws.specs.Mask.{testBit};
-ghost use Rattle.pierce_masks.specs.Faces.{width, isOdd, valueOf, hasFace, firstFace};
+ghost use Rattle.pierce_masks.specs.Faces.{isOdd, valueOf, hasFace, firstFace};
 
 // Bit k - 1 of the first word stands for the solid's k-th face, up to the 64th; the second word goes on from there.
 pub struct Mask {
@@ -35,17 +33,6 @@ pub fn has_face(m: Mask) -> bool
     ensures { λ r. ⌜ r ≡ hasFace (valueOf m) ⌝ }
 {
     (m.low != 0) | (m.high != 0)
-}
-
-// Whether face k + 1 is one of them.
-pub fn has(m: Mask, k: usize) -> bool
-    requires { ⌜ k < width ⌝ }
-    ensures { λ r. ⌜ r ≡ testBit (valueOf m) k ⌝ }
-{
-    if k < WORD {
-        return (m.low >> k) % 2 == 1;
-    }
-    (m.high >> (k - WORD)) % 2 == 1
 }
 
 // k - 1 for the first face k.
