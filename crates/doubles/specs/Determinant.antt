@@ -1,5 +1,5 @@
--- c0 worked out in doubles, and that for four vertices that are taken it is the c0 of their rows, exactly: each product and sum on the way
--- is a whole number below 2 ^ 53, by the limits of a scene. Assumes nothing.
+-- c0 worked out in doubles. Of any four points of a scene, the far point with weight 0 too, it is the c0 of their rows, exactly: each
+-- product and sum on the way is a whole number below 2 ^ 53, by the limits of a scene. Assumes nothing.
 use mathlib.Core.Path.{_≡_, sym, ap, _∙_, subst}
 use mathlib.Core.List.{List, [], _∷_}
 use Prim.Native.Nat.{ℕ}
@@ -9,16 +9,19 @@ use mathlib.Core.Bool.{false}
 use Rattle.laws.specs.Ring.{Expr, eval, ring}
 use Rattle.laws.specs.Ring.Expr.{_⊕_, _⊖_, _⊗_}
 use Rattle.scene.specs.Limits.{limits}
+use Rattle.scene.specs.Tables.{row, tablesOf}
 use Rattle.scene.specs.declared.Row.{Row}
+use Rattle.judge.specs.Judge.{judged}
+use Rattle.judge.specs.declared.Judged.the-variants.{Accepted}
+use Rattle.rules.specs.Given.{rows-within}
 use Rattle.orient.specs.Determinant.{Entries, det4}
 use Rattle.orient.specs.Terms.{termsAt, pointAt}
 use Rattle.orient.specs.Columns.{partOf, c0-parts}
-use Rattle.orient.specs.Variables.{row, rows, det}
+use Rattle.orient.specs.Variables as variables
+use Rattle.orient.specs.Variables.{rows, det}
 use Rattle.doubles.specs.Whole.{Is}
 use Rattle.doubles.specs.Exact.{Entry, settled, settled-is}
-use Rattle.doubles.specs.Taken.{takenOf}
-use Rattle.doubles.specs.Taking.{Takes, taken-takes}
-use Rattle.doubles.specs.declared.Taken.the-variants.{At}
+use Rattle.doubles.specs.Taking.{Are, rowOf, IsPoint, row-of, are-point}
 use Rattle.doubles.specs.declared.Vertex.{Vertex}
 
 module _ {R : Type 0} (_plus_ _minus_ _times_ : R → R → R) where
@@ -40,56 +43,88 @@ module _ {R : Type 0} (_plus_ _minus_ _times_ : R → R → R) where
 abbrev fields : Vertex → Entries Float
 fields v = record { x = v .x; y = v .y; z = v .z; w = v .w }
 
--- the double: zero is added last, so that a zero is never minus zero
-unfoldable pub c0Of : Vertex → Vertex → Vertex → Vertex → Float
-c0Of a b c d =
-    add binary64 (by-minors (add binary64) (sub binary64) (mul binary64) (fields a) (fields b) (fields c) (fields d)) (fin false 0 (pos 0))
+-- the expression in doubles
+unfoldable pub minorsOf : Vertex → Vertex → Vertex → Vertex → Float
+minorsOf a b c d = by-minors (add binary64) (sub binary64) (mul binary64) (fields a) (fields b) (fields c) (fields d)
 
--- ---- it is the determinant
+-- ---- what is asked and promised
+
+pub record Points (a b c d : Vertex) : Type 0 where
+  pub first : IsPoint a
+  pub second : IsPoint b
+  pub third : IsPoint c
+  pub fourth : IsPoint d
+
+-- the whole number c0 of the rows that these doubles are: their determinant
+abbrev pub wholeC0 : Vertex → Vertex → Vertex → Vertex → ℤ
+wholeC0 a b c d = det4 (rowOf a) (rowOf b) (rowOf c) (rowOf d)
+
+-- r is that number, and of the doubles that are it the number's own: a zero is never minus zero
+pub record IsC0 (a b c d : Vertex) (r : Float) : Type 0 where
+  pub is : Is r (wholeC0 a b c d)
+  pub own : r ≡ ofInt binary64 (wholeC0 a b c d)
+
+-- no second answer
+pub one-c0 : (a b c d : Vertex) (r q : Float) → IsC0 a b c d r → IsC0 a b c d q → r ≡ q
+one-c0 a b c d r q x y = x .own ∙ sym (y .own)
+
+-- ---- the expression is the determinant
 
 abbrev minors : Expr
-minors = by-minors _⊕_ _⊖_ _⊗_ (row 0) (row 1) (row 2) (row 3)
+minors = by-minors _⊕_ _⊖_ _⊗_ (variables.row 0) (variables.row 1) (variables.row 2) (variables.row 3)
 
 minors-are : (a b c d : Row) → eval (rows (a ∷ b ∷ c ∷ d ∷ [])) minors ≡ det4 a b c d
 unfolding det4
-minors-are a b c d = ring (rows (a ∷ b ∷ c ∷ d ∷ [])) minors (det (row 0) (row 1) (row 2) (row 3)) tt
+minors-are a b c d = ring (rows (a ∷ b ∷ c ∷ d ∷ [])) minors
+    (det (variables.row 0) (variables.row 1) (variables.row 2) (variables.row 3)) tt
 
-abbrev four : (v : Vertex) (r : Row) → Takes v r → List Entry → List Entry
-four v r t l =
-    record { double = v .x; value = r .x; most = limits .mostCoordinate; same = t .are .x; within = t .within .x }
-    ∷ record { double = v .y; value = r .y; most = limits .mostCoordinate; same = t .are .y; within = t .within .y }
-    ∷ record { double = v .z; value = r .z; most = limits .mostCoordinate; same = t .are .z; within = t .within .z }
-    ∷ record { double = v .w; value = r .w; most = limits .mostWeight; same = t .are .w; within = t .within .w }
+abbrev four : (v : Vertex) → IsPoint v → List Entry → List Entry
+four v p l =
+    record { double = v .x; value = rowOf v .x; most = limits .mostCoordinate; same = p .are .x; within = p .within .x }
+    ∷ record { double = v .y; value = rowOf v .y; most = limits .mostCoordinate; same = p .are .y; within = p .within .y }
+    ∷ record { double = v .z; value = rowOf v .z; most = limits .mostCoordinate; same = p .are .z; within = p .within .z }
+    ∷ record { double = v .w; value = rowOf v .w; most = limits .mostWeight; same = p .are .w; within = p .within .w }
     ∷ l
 
-module _ {a b c d : Vertex} {p q r s : Row} (t : Takes a p) (u : Takes b q) (v : Takes c r) (w : Takes d s) where
-  abbrev numbers : List Entry
-  numbers = four a p t (four b q u (four c r v (four d s w [])))
+-- with zero added
+pub c0-worked : {a b c d : Vertex} {m : Float} → Points a b c d → m ≡ minorsOf a b c d →
+    IsC0 a b c d (add binary64 m (fin false 0 (pos 0)))
+unfolding minorsOf
+c0-worked {a} {b} {c} {d} p q =
+    let numbers : List Entry = four a (p .first) (four b (p .second) (four c (p .third) (four d (p .fourth) []))) in
+    let e = minors-are (rowOf a) (rowOf b) (rowOf c) (rowOf d) in
+    let done : Float = add binary64 (minorsOf a b c d) (fin false 0 (pos 0)) in
+    let worked = ap (λ (x : Float). add binary64 x (fin false 0 (pos 0))) q in
+    record {
+      is = subst (λ (x : Float). Is x (wholeC0 a b c d)) (sym worked) (subst (Is done) e (settled-is numbers minors tt tt));
+      own = worked ∙ settled numbers minors tt ∙ ap (ofInt binary64) e;
+    }
 
-  det-exact : c0Of a b c d ≡ ofInt binary64 (det4 p q r s)
-  unfolding c0Of
-  det-exact = settled numbers minors tt ∙ ap (ofInt binary64) (minors-are p q r s)
+-- ---- any four points of an accepted scene, by their numbers i, j, k, l, each in doubles
 
-  det-is : Is (c0Of a b c d) (det4 p q r s)
-  unfolding c0Of
-  det-is = subst (Is (c0Of a b c d)) (minors-are p q r s) (settled-is numbers minors tt tt)
+module _ (s : List ℕ) (ok : judged s ≡ Accepted) where
+  point-of : (i : ℕ) (v : Vertex) → Are v (row (tablesOf s) i) → IsPoint v
+  point-of i v h = are-point v (row (tablesOf s) i) h (rows-within limits s ok i)
 
--- of any four points of any scene whose rows were taken from vertices, the double is the whole number c0, and the one double of that number
-module _ (points : ℕ → Row) (i j k l : ℕ) (a b c d : Vertex)
-    (p : takenOf a ≡ At (points i)) (q : takenOf b ≡ At (points j)) (r : takenOf c ≡ At (points k)) (s : takenOf d ≡ At (points l)) where
-  abbrev term : ℤ
-  term = termsAt points i j k l .c0
+  module _ (i j k l : ℕ) (a b c d : Vertex) (p : Are a (row (tablesOf s) i)) (q : Are b (row (tablesOf s) j))
+      (u : Are c (row (tablesOf s) k)) (v : Are d (row (tablesOf s) l)) where
+    is-term : wholeC0 a b c d ≡ termsAt (row (tablesOf s)) i j k l .c0
+    unfolding termsAt partOf
+    is-term =
+        let r = row (tablesOf s) in
+        let e1 = row-of a (r i) p in
+        let e2 = row-of b (r j) q in
+        let e3 = row-of c (r k) u in
+        let e4 = row-of d (r l) v in
+        (λ x. det4 (e1 x) (e2 x) (e3 x) (e4 x)) ∙ sym (c0-parts (pointAt r i) (pointAt r j) (pointAt r k) (pointAt r l))
 
-  is-det : det4 (points i) (points j) (points k) (points l) ≡ term
-  unfolding termsAt partOf
-  is-det = sym (c0-parts (pointAt points i) (pointAt points j) (pointAt points k) (pointAt points l))
+    -- c0 may be asked of them
+    pub scene-points : Points a b c d
+    scene-points = record { first = point-of i a p; second = point-of j b q; third = point-of k c u; fourth = point-of l d v }
 
-  pub c0-exact : c0Of a b c d ≡ ofInt binary64 (termsAt points i j k l .c0)
-  c0-exact =
-      det-exact (taken-takes a (points i) p) (taken-takes b (points j) q) (taken-takes c (points k) r) (taken-takes d (points l) s)
-      ∙ ap (ofInt binary64) is-det
+    -- and what is answered is the scene's c0: the whole number, and its own double
+    pub c0-is : (r : Float) → IsC0 a b c d r → Is r (termsAt (row (tablesOf s)) i j k l .c0)
+    c0-is r h = subst (Is r) is-term (h .is)
 
-  pub c0-is : Is (c0Of a b c d) (termsAt points i j k l .c0)
-  c0-is =
-      subst (Is (c0Of a b c d)) is-det
-      (det-is (taken-takes a (points i) p) (taken-takes b (points j) q) (taken-takes c (points k) r) (taken-takes d (points l) s))
+    pub c0-exact : (r : Float) → IsC0 a b c d r → r ≡ ofInt binary64 (termsAt (row (tablesOf s)) i j k l .c0)
+    c0-exact r h = h .own ∙ ap (ofInt binary64) is-term

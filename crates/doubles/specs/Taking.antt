@@ -1,6 +1,6 @@
 -- A vertex is taken exactly when its four doubles are whole numbers within the limits, its weight not 0; and then the row is theirs.
 -- Assumes nothing.
-use mathlib.Core.Path.{_≡_, refl, ap, _∙_, subst}
+use mathlib.Core.Path.{_≡_, refl, sym, ap, _∙_, subst}
 use mathlib.Core.Logic.{_↔_}
 use mathlib.Core.Bool.{Bool, true, false, cond}
 use Prim.Native.Nat.{ℕ, zero, suc, _≤_}
@@ -28,6 +28,15 @@ pub record Are (v : Vertex) (r : Row) : Type 0 where
   pub y : Is (v .y) (r .y)
   pub z : Is (v .z) (r .z)
   pub w : Is (v .w) (r .w)
+
+-- the whole numbers that its four doubles are
+abbrev pub rowOf : Vertex → Row
+rowOf v = record { x = valueOf (v .x); y = valueOf (v .y); z = valueOf (v .z); w = valueOf (v .w) }
+
+-- a point of a scene: four whole numbers within the limits. Its weight may be 0, as the far point's may.
+pub record IsPoint (v : Vertex) : Type 0 where
+  pub are : Are v (rowOf v)
+  pub within : RowWithin limits (rowOf v)
 
 -- and these are within the limits of a vertex
 pub record Takes (v : Vertex) (r : Row) : Type 0 where
@@ -114,3 +123,23 @@ module _ (v : Vertex) (r : Row) where
 
   pub taken-exactly : (takenOf v ≡ At r) ↔ Takes v r
   taken-exactly = (taken-takes, takes-taken)
+
+  -- ---- a point is its row's, and what is taken is a point
+
+  pub row-of : Are v r → rowOf v ≡ r
+  row-of h =
+      let x = is-whole (v .x) (r .x) (h .x) .1 in
+      let y = is-whole (v .y) (r .y) (h .y) .1 in
+      let z = is-whole (v .z) (r .z) (h .z) .1 in
+      let w = is-whole (v .w) (r .w) (h .w) .1 in
+      (λ i. record { x = x i; y = y i; z = z i; w = w i })
+
+  pub are-point : Are v r → RowWithin limits r → IsPoint v
+  are-point h b =
+      record {
+        are = subst (Are v) (sym (row-of h)) h;
+        within = subst (RowWithin limits) (sym (row-of h)) b;
+      }
+
+  pub taken-point : takenOf v ≡ At r → IsPoint v
+  taken-point e = let t = taken-takes e in are-point (t .are) (t .within)
