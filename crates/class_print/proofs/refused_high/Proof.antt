@@ -7,10 +7,14 @@ use Rattle.class_print.proofs.refused_high.Tie as tie
 returns : tie.Need-returns
 returns c =
     let r5 = c .before .before in
-    let r4 = r5 .before .before .before .before .before in
-    let r3 = r4 .before .before .before .before .before in
-    let r2 = r3 .before .before .before .before .before in
-    let r1 = r2 .before .before .before .before .before in
+    let back4 = r5 .before .before .before .before in
+    let r4 = back4 .before in
+    let back3 = r4 .before .before .before .before in
+    let r3 = back3 .before in
+    let back2 = r3 .before .before .before .before in
+    let r2 = back2 .before in
+    let back1 = r2 .before .before .before .before in
+    let r1 = back1 .before in
     end-to-end (r1 .counted .ensures)
     (end-to-end (r2 .counted2 .ensures) (end-to-end (r3 .counted3 .ensures) (end-to-end (r4 .counted4 .ensures) (r5 .counted5 .ensures))))
 

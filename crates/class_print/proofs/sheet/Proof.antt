@@ -4,14 +4,8 @@ use borrow.Author.Needs.{needs}
 use Rattle.class_print.proofs.sheet.Statement.{statement}
 use Rattle.class_print.proofs.sheet.Tie as tie
 
-returns : tie.Need-returns
-returns c = search longer-put
-
-returns-2 : tie.Need-returns-2
-returns-2 c = search tallied-put
-
 pub sheet-spec : {M : Type 1} → statement M
 sheet-spec =
     tie.close
-    (tie.spec (λ c. search needs) (λ c κs. search needs) (λ c. search needs) (λ c κs. search needs) (λ c. search needs) returns
-    (λ c. search needs) returns-2)
+    (tie.spec (λ c. search needs) (λ c κs. search needs) (λ c. search needs) (λ c κs. search needs) (λ c. search needs)
+    (λ c. search longer-put) (λ c. search needs) (λ c. search tallied-put))

@@ -8,9 +8,6 @@ use borrow.Author.Needs.{needs}
 use Rattle.class_read.proofs.add.Statement.{statement}
 use Rattle.class_read.proofs.add.Tie as tie
 
-returns : tie.Need-returns
-returns c = search plus-put
-
 returns-2 : tie.Need-returns-2
 unfolding plus
 returns-2 c = sym (set-out _ _ _ (omega arith))
@@ -19,4 +16,4 @@ pub add-spec : {M : Type 1} → statement M
 add-spec =
     tie.close
     (tie.spec (λ c. search needs) (λ c. search needs) (λ c κs. search needs) (λ c. search needs) (λ c. search needs) (λ c. search needs)
-    returns returns-2)
+    (λ c. search plus-put) returns-2)

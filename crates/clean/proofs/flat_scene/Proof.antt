@@ -9,9 +9,6 @@ use Rattle.clean.specs.Scene.{rows-fit, ready}
 use Rattle.clean.proofs.flat_scene.Statement.{statement}
 use Rattle.clean.proofs.flat_scene.Tie as tie
 
-rows-requires : tie.Need-rows-requires
-rows-requires c κs = search (rows-fit, rows-within)
-
 has-flat-requires : tie.Need-has-flat-requires
 has-flat-requires c κs =
     let d = c .before .before .before in
@@ -26,4 +23,5 @@ returns c =
 pub flat-scene-spec : {M : Type 1} → statement M
 flat-scene-spec =
     tie.close
-    (tie.spec rows-requires (λ c κs. search needs) (λ c κs. search needs) (λ c. search needs) (λ c. search needs) has-flat-requires returns)
+    (tie.spec (λ c κs. search (rows-fit, rows-within)) (λ c κs. search needs) (λ c κs. search needs) (λ c. search needs)
+    (λ c. search needs) has-flat-requires returns)

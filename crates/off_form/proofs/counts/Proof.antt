@@ -4,8 +4,5 @@ use borrow.Author.Needs.{needs}
 use Rattle.off_form.proofs.counts.Statement.{statement}
 use Rattle.off_form.proofs.counts.Tie as tie
 
-returns : tie.Need-returns
-returns c = search counts-from
-
 pub counts-spec : {M : Type 1} → statement M
-counts-spec = tie.close (tie.spec (λ c κs. search needs) returns)
+counts-spec = tie.close (tie.spec (λ c κs. search needs) (λ c. search counts-from))

@@ -7,17 +7,8 @@ use Rattle.off_form.proofs.counts_then.Tie as tie
 vertices-then-requires : tie.Need-vertices-then-requires
 vertices-then-requires c κs = (search (counts-within, needs), search needs, search needs)
 
-returns : tie.Need-returns
-returns c = search goes
-
-returns-2 : tie.Need-returns-2
-returns-2 c = search goes
-
-returns-3 : tie.Need-returns-3
-returns-3 c = search goes
-
 pub counts-then-spec : {M : Type 1} → statement M
 counts-then-spec =
     tie.close
     (tie.spec (λ c κs. search needs) (λ c. search needs) (λ c κs. search needs) vertices-then-requires (λ c. search needs)
-    (λ c. search needs) returns returns-2 returns-3)
+    (λ c. search needs) (λ c. search goes) (λ c. search goes) (λ c. search goes))

@@ -18,38 +18,11 @@ abbrev μ-loop : tie.MeasureT-loop
 loop-holds : tie.Need-loop-holds Inv-loop μ-loop
 loop-holds c = (faces-begin _ _ _, omega arith, omega arith)
 
-face-requires : tie.Need-face-requires Inv-loop μ-loop
-face-requires c κs = search reads
-
-enum-known-e : tie.Need-enum-known-e Inv-loop μ-loop
-enum-known-e c = search reads
-
-enum-known-p : tie.Need-enum-known-p Inv-loop μ-loop
-enum-known-p c = search reads
-
-returns : tie.Need-returns Inv-loop μ-loop
-returns c = search reads
-
-enum-known-p-2 : tie.Need-enum-known-p-2 Inv-loop μ-loop
-enum-known-p-2 c = search reads
-
-returns-2 : tie.Need-returns-2 Inv-loop μ-loop
-returns-2 c = search reads
-
-add-i : tie.Need-add-i Inv-loop μ-loop
-add-i c = search reads
-
-loop-less : tie.Need-loop-less Inv-loop μ-loop
-loop-less c = search reads
-
 loop-again : tie.Need-loop-again Inv-loop μ-loop
 loop-again c = (search reads, search (face-within, needs), omega arith)
-
-returns-3 : tie.Need-returns-3 Inv-loop μ-loop
-returns-3 c = search reads
 
 pub faces-spec : {M : Type 1} → statement M
 faces-spec =
     tie.close
-    (tie.spec Inv-loop μ-loop loop-holds face-requires enum-known-e enum-known-p returns enum-known-p-2 returns-2 add-i loop-less loop-again
-    returns-3)
+    (tie.spec Inv-loop μ-loop loop-holds (λ c κs. search reads) (λ c. search reads) (λ c. search reads) (λ c. search reads)
+    (λ c. search reads) (λ c. search reads) (λ c. search reads) (λ c. search reads) loop-again (λ c. search reads))

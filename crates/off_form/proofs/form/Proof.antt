@@ -4,16 +4,11 @@ use borrow.Author.Needs.{needs}
 use Rattle.off_form.proofs.form.Statement.{statement}
 use Rattle.off_form.proofs.form.Tie as tie
 
-returns : tie.Need-returns
-returns c = search form-outside
-
 counts-then-requires : tie.Need-counts-then-requires
 counts-then-requires c κs = (search needs, search needs, search keyword-first, search keyword-high)
-
-returns-2 : tie.Need-returns-2
-returns-2 c = search form-counts
 
 pub form-spec : {M : Type 1} → statement M
 form-spec =
     tie.close
-    (tie.spec (λ c κs. search needs) (λ c. search needs) (λ c κs. search needs) returns counts-then-requires returns-2)
+    (tie.spec (λ c κs. search needs) (λ c. search needs) (λ c κs. search needs) (λ c. search form-outside) counts-then-requires
+    (λ c. search form-counts))

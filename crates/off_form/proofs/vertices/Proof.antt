@@ -10,7 +10,7 @@ times-requires c κs = (omega arith, omega arith, numbers-low _ (c .before .befo
 
 returns : tie.Need-returns
 returns c =
-    let h = c .before .before .before .before .before .pre .2 in
+    let h = let after-times = c .before in after-times .before .before .before .before .pre .2 in
     numbers-few _ (omega arith) _ (omega arith) _ (h .vertices) (h .per) (omega arith) (c .before .times .ensures) (c .wholes .ensures)
 
 returns-2 : tie.Need-returns-2

@@ -7,17 +7,8 @@ use Rattle.off_form.proofs.vertices_then.Tie as tie
 faces-then-requires : tie.Need-faces-then-requires
 faces-then-requires c κs = (search (wholes-within, needs), search needs)
 
-returns : tie.Need-returns
-returns c = search goes
-
-returns-2 : tie.Need-returns-2
-returns-2 c = search goes
-
-returns-3 : tie.Need-returns-3
-returns-3 c = search goes
-
 pub vertices-then-spec : {M : Type 1} → statement M
 vertices-then-spec =
     tie.close
-    (tie.spec (λ c κs. search needs) (λ c. search needs) faces-then-requires (λ c. search needs) (λ c. search needs) returns returns-2
-    returns-3)
+    (tie.spec (λ c κs. search needs) (λ c. search needs) faces-then-requires (λ c. search needs) (λ c. search needs) (λ c. search goes)
+    (λ c. search goes) (λ c. search goes))

@@ -17,28 +17,8 @@ abbrev μ-loop : tie.MeasureT-loop
 loop-holds : tie.Need-loop-holds Inv-loop μ-loop
 loop-holds c = (wholes-begin _ _ _ _, omega arith, omega arith)
 
-next-requires : tie.Need-next-requires Inv-loop μ-loop
-next-requires c κs = search reads
-
-is-whole-requires : tie.Need-is-whole-requires Inv-loop μ-loop
-is-whole-requires c κs = search reads
-
-returns : tie.Need-returns Inv-loop μ-loop
-returns c = search reads
-
-add-i : tie.Need-add-i Inv-loop μ-loop
-add-i c = search reads
-
-loop-less : tie.Need-loop-less Inv-loop μ-loop
-loop-less c = search reads
-
-loop-again : tie.Need-loop-again Inv-loop μ-loop
-loop-again c = search reads
-
-returns-2 : tie.Need-returns-2 Inv-loop μ-loop
-returns-2 c = search reads
-
 pub wholes-spec : {M : Type 1} → statement M
 wholes-spec =
     tie.close
-    (tie.spec Inv-loop μ-loop loop-holds next-requires is-whole-requires returns add-i loop-less loop-again returns-2)
+    (tie.spec Inv-loop μ-loop loop-holds (λ c κs. search reads) (λ c κs. search reads) (λ c. search reads) (λ c. search reads)
+    (λ c. search reads) (λ c. search reads) (λ c. search reads))

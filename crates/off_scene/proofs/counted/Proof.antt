@@ -8,12 +8,6 @@ use borrow.Author.Needs.{needs}
 use Rattle.off_scene.proofs.counted.Statement.{statement}
 use Rattle.off_scene.proofs.counted.Tie as tie
 
-returns : tie.Need-returns
-returns c = search first-unfit
-
-returns-2 : tie.Need-returns-2
-returns-2 c = search second-unfit
-
 put-scene-requires : tie.Need-put-scene-requires
 put-scene-requires c κs =
     let g = c .before .before in
@@ -23,14 +17,9 @@ put-scene-requires c κs =
       omega (arith, length-replicate {A = ℕ} 1841 0),
     )
 
-slice-aggregate-judged : tie.Need-slice-aggregate-judged
-slice-aggregate-judged c = search own-count
-
-returns-3 : tie.Need-returns-3
-returns-3 c = search both-fit
-
 pub counted-spec : {M : Type 1} → statement M
 counted-spec =
     tie.close
-    (tie.spec (λ c κs. search needs) (λ c κs. search needs) (λ c κs. search needs) returns (λ c κs. search needs) returns-2
-    (λ c. search needs) put-scene-requires (λ c. search needs) slice-aggregate-judged (λ c κs. search needs) (λ c. search needs) returns-3)
+    (tie.spec (λ c κs. search needs) (λ c κs. search needs) (λ c κs. search needs) (λ c. search first-unfit) (λ c κs. search needs)
+    (λ c. search second-unfit) (λ c. search needs) put-scene-requires (λ c. search needs) (λ c. search own-count) (λ c κs. search needs)
+    (λ c. search needs) (λ c. search both-fit))

@@ -4,13 +4,8 @@ use borrow.Author.Needs.{needs}
 use Rattle.off_scene.proofs.judged.Statement.{statement}
 use Rattle.off_scene.proofs.judged.Tie as tie
 
-returns : tie.Need-returns
-returns c = search judge-accepts
-
-returns-2 : tie.Need-returns-2
-returns-2 c = search judge-refuses
-
 pub judged-spec : {M : Type 1} → statement M
 judged-spec =
     tie.close
-    (tie.spec (λ c κs. search needs) (λ c. search needs) (λ c κs. search needs) (λ c. search needs) (λ c. search needs) returns returns-2)
+    (tie.spec (λ c κs. search needs) (λ c. search needs) (λ c κs. search needs) (λ c. search needs) (λ c. search needs)
+    (λ c. search judge-accepts) (λ c. search judge-refuses))

@@ -8,11 +8,8 @@ use Rattle.off_scene.proofs.placed.Tie as tie
 returns : tie.Need-returns
 returns c = room-lacks _ _ (omega arith)
 
-copy-requires : tie.Need-copy-requires
-copy-requires c κs = omega arith
-
 returns-2 : tie.Need-returns-2
 returns-2 c = room-serves _ _ (omega arith) (c .before .before .copy .ensures)
 
 pub placed-spec : {M : Type 1} → statement M
-placed-spec = tie.close (tie.spec returns copy-requires (λ c. search needs) returns-2)
+placed-spec = tie.close (tie.spec returns (λ c κs. omega arith) (λ c. search needs) returns-2)

@@ -10,27 +10,18 @@ use Rattle.off_scene.proofs.second.Tie as tie
 
 add-t12 : tie.Need-add-t12
 add-t12 c =
-    let b = c .before .before .before .before .before .before .before .args .b in
+    let b = let after-form = c .before .before .before in after-form .before .before .before .before .args .b in
     let h : c .before .p .given .0 .0 ≤ length (now b) = search outside-within in
     omega arith
 
 add-t15 : tie.Need-add-t15
 add-t15 c =
-    let b = c .before .before .before .before .before .before .before .args .b in
+    let b = let after-form = c .before .before .before in after-form .before .before .before .before .args .b in
     let h : c .before .p2 .given .0 .0 ≤ length (now b) = search sides-within in
     omega arith
-
-returns : tie.Need-returns
-returns c = search text-goes-on
-
-returns-2 : tie.Need-returns-2
-returns-2 c = search text-outside
-
-returns-3 : tie.Need-returns-3
-returns-3 c = search text-sides
 
 pub second-spec : {M : Type 1} → statement M
 second-spec =
     tie.close
     (tie.spec (λ c κs. search needs) (λ c. search needs) (λ c κs. search needs) (λ c. search needs) add-t12 (λ c. search needs) add-t15
-    (λ c. search needs) returns returns-2 returns-3)
+    (λ c. search needs) (λ c. search text-goes-on) (λ c. search text-outside) (λ c. search text-sides))

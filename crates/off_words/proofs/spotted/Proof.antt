@@ -9,7 +9,8 @@ returns : tie.Need-returns
 returns c =
     let r4 = c .before .before in
     let r3 = r4 .before .before .before .before in
-    let r2 = r3 .before .before .before .before .before in
+    let back2 = r3 .before .before .before .before in
+    let r2 = back2 .before in
     let r1 = r2 .before .before .before .before in
     let spot = r1 .before .before .spot-of .ensures in
     end-to-end (r1 .word .ensures)

@@ -8,8 +8,10 @@ use Rattle.off_write.proofs.drawing.Tie as tie
 returns : tie.Need-returns
 returns c =
     let r4 = c .before .before in
-    let r3 = r4 .before .before .before .before .before in
-    let r2 = r3 .before .before .before .before .before in
+    let back3 = r4 .before .before .before .before in
+    let r3 = back3 .before in
+    let back2 = r3 .before .before .before .before in
+    let r2 = back2 .before in
     let r1 = r2 .before .before .before .before in
     let w = r1 .before .before in
     let o = w .before .before in

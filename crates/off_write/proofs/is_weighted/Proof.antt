@@ -22,15 +22,6 @@ loop-holds c =
     let a = c .before .args in
     (omega arith, weighted-start (row (tablesOf (a .s .now))) (a .first) (a .n))
 
-add-row : tie.Need-add-row Inv-loop μ-loop
-add-row c = search needs
-
-row-requires : tie.Need-row-requires Inv-loop μ-loop
-row-requires c κs = search needs
-
-is-one-requires : tie.Need-is-one-requires Inv-loop μ-loop
-is-one-requires c κs = search needs
-
 returns : tie.Need-returns Inv-loop μ-loop
 returns c =
     let l = c .before .before .before .before in
@@ -38,12 +29,6 @@ returns c =
     weighted-found (row (tablesOf (a .s .now))) (a .first) (a .n) (l .loop .i) (l .loop .inv .1)
     (c .before .before .before .loop-test .taken)
     (c .before .before .row .ensures) (c .before .is-one .ensures) (c .if1 .taken)
-
-add-i : tie.Need-add-i Inv-loop μ-loop
-add-i c = search needs
-
-loop-less : tie.Need-loop-less Inv-loop μ-loop
-loop-less c = search needs
 
 loop-again : tie.Need-loop-again Inv-loop μ-loop
 loop-again c =
@@ -64,4 +49,5 @@ returns-2 c =
 pub is-weighted-spec : {M : Type 1} → statement M
 is-weighted-spec =
     tie.close
-    (tie.spec Inv-loop μ-loop loop-holds add-row row-requires is-one-requires returns add-i loop-less loop-again returns-2)
+    (tie.spec Inv-loop μ-loop loop-holds (λ c. search needs) (λ c κs. search needs) (λ c κs. search needs) returns (λ c. search needs)
+    (λ c. search needs) loop-again returns-2)

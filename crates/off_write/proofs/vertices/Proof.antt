@@ -27,29 +27,11 @@ loop-holds c =
     let a = c .before .before .before .args in
     (omega arith, lines-none (rowWords (a .is-four)) (row (tablesOf (a .s .now))) (a .first) _ _ (omega arith))
 
-add-row : tie.Need-add-row Inv-loop μ-loop
-add-row c = search needs
-
-row-requires : tie.Need-row-requires Inv-loop μ-loop
-row-requires c κs = search needs
-
-vertex-requires : tie.Need-vertex-requires Inv-loop μ-loop
-vertex-requires c κs = search needs
-
-add-i : tie.Need-add-i Inv-loop μ-loop
-add-i c = search needs
-
-loop-less : tie.Need-loop-less Inv-loop μ-loop
-loop-less c = search needs
-
 loop-again : tie.Need-loop-again Inv-loop μ-loop
 loop-again c =
     let r = c .before .before in
     let l = r .before .before .before .before in
     (omega arith, lines-more _ _ _ (l .loop .i) (l .loop .inv .1) (r .before .row .ensures) (r .vertex .ensures))
-
-same-length : tie.Need-same-length Inv-loop μ-loop
-same-length c = search needs
 
 returns-2 : tie.Need-returns-2 Inv-loop μ-loop
 returns-2 c = let l = c .before .loop in lines-all _ _ _ (l .inv .0) (c .loop-test .left) (l .inv .1)
@@ -57,4 +39,5 @@ returns-2 c = let l = c .before .loop in lines-all _ _ _ (l .inv .0) (c .loop-te
 pub vertices-spec : {M : Type 1} → statement M
 vertices-spec =
     tie.close
-    (tie.spec Inv-loop μ-loop returns loop-holds add-row row-requires vertex-requires add-i loop-less loop-again same-length returns-2)
+    (tie.spec Inv-loop μ-loop returns loop-holds (λ c. search needs) (λ c κs. search needs) (λ c κs. search needs) (λ c. search needs)
+    (λ c. search needs) loop-again (λ c. search needs) returns-2)

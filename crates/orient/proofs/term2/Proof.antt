@@ -10,19 +10,22 @@ use Rattle.orient.specs.Bits.{part-held, sum-ask, summed}
 use Rattle.orient.proofs.term2.Statement.{statement}
 use Rattle.orient.proofs.term2.Tie as tie
 
+abbrev entry : tie.After-part3 → tie.Start
+entry c = let after-part = c .before in after-part .before .before .before .before
+
 term2-requires : tie.Need-term2-requires
 term2-requires c κs = let o = c .before in (o .before .pre, ones-are _ _ _ _ (sym (o .are-ones .ensures) ∙ c .if1 .taken))
 
 sum-requires : tie.Need-sum-requires
 sum-requires c κs =
-    let v = c .before .before .before .before .before .pre in
+    let v = entry c .pre in
     sum-ask (part-held true true false v (c .before .before .part .ensures)) (part-held true false true v (c .before .part2 .ensures))
     (part-held false true true v (c .part3 .ensures)) (lit≤ tt)
 
 returns-2 : tie.Need-returns-2
 returns-2 c =
     let d = c .before in
-    let v = d .before .before .before .before .before .pre in
+    let v = entry d .pre in
     summed (part-held true true false v (d .before .before .part .ensures)) (part-held true false true v (d .before .part2 .ensures))
     (part-held false true true v (d .part3 .ensures)) (c .sum .ok) (c .sum .ensures)
     ∙ sym (c2-parts _ _ _ _)
@@ -30,4 +33,5 @@ returns-2 c =
 pub term2-spec : {M : Type 1} → statement M
 term2-spec =
     tie.close
-    (tie.spec (λ c κs. search needs) term2-requires (λ c. search needs) (λ c κs. search needs) (λ c κs. search needs) (λ c κs. search needs) sum-requires returns-2)
+    (tie.spec (λ c κs. search needs) term2-requires (λ c. search needs) (λ c κs. search needs) (λ c κs. search needs)
+    (λ c κs. search needs) sum-requires returns-2)

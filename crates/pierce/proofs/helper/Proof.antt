@@ -18,19 +18,10 @@ loop-holds : tie.Need-loop-holds Inv-loop μ-loop
 unfolding helper
 loop-holds c = search needs
 
-can-help-requires : tie.Need-can-help-requires Inv-loop μ-loop
-can-help-requires c κs = search needs
-
 returns : tie.Need-returns Inv-loop μ-loop
 returns c =
     let i = c .before .before .before .loop in
     lowest-found (canHelp _ _ _) _ _ (i .inv .1) (omega arith) (c .before .can-help .ensures) (c .if1 .taken)
-
-add-h : tie.Need-add-h Inv-loop μ-loop
-add-h c = search needs
-
-loop-less : tie.Need-loop-less Inv-loop μ-loop
-loop-less c = search needs
 
 loop-again : tie.Need-loop-again Inv-loop μ-loop
 loop-again c =
@@ -45,4 +36,4 @@ returns-2 c =
 pub helper-spec : {M : Type 1} → statement M
 helper-spec =
     tie.close
-    (tie.spec Inv-loop μ-loop loop-holds can-help-requires returns add-h loop-less loop-again returns-2)
+    (tie.spec Inv-loop μ-loop loop-holds (λ c κs. search needs) returns (λ c. search needs) (λ c. search needs) loop-again returns-2)

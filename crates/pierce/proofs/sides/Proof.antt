@@ -6,7 +6,7 @@ use Rattle.pierce.proofs.sides.Statement.{statement}
 use Rattle.pierce.proofs.sides.Tie as tie
 
 side-requires-3 : tie.Need-side-requires-3
-side-requires-3 c κs = (search needs, ask-rp (c .before .before .before .before .before .pre .1))
+side-requires-3 c κs = let after-side = c .before in (search needs, ask-rp (after-side .before .before .before .before .pre .1))
 
 returns : tie.Need-returns
 returns c =

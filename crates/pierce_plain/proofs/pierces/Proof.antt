@@ -30,7 +30,8 @@ returns-2 c =
 
 positive-at-requires-5 : tie.Need-positive-at-requires-5
 positive-at-requires-5 c κs =
-    let s = c .before .before .before .before .before .before in (search needs, ask-rp (s .pre .1 .0) (s .pre .1 .1))
+    let after-positive-at3 = c .before .before in
+    let s = after-positive-at3 .before .before .before .before in (search needs, ask-rp (s .pre .1 .0) (s .pre .1 .1))
 
 returns-3 : tie.Need-returns-3
 returns-3 c =

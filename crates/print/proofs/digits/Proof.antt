@@ -24,23 +24,14 @@ sub-i c = omega (arith, decimal-some (c .before .args .n))
 loop-holds : tie.Need-loop-holds Inv-loop μ-loop
 loop-holds c = (refl, omega (arith, decimal-some (c .before .args .n)), refl)
 
-digit-requires : tie.Need-digit-requires Inv-loop μ-loop
-digit-requires c κs = search needs
-
-store-requires : tie.Need-store-requires Inv-loop μ-loop
-store-requires c κs = search needs
-
 sub-i-2 : tie.Need-sub-i-2 Inv-loop μ-loop
 sub-i-2 c =
-    let t = c .before .before .before .before .before in
+    let t = let after-store = c .before .before in after-store .before .before .before in
     omega (arith, t .before .loop .inv .1, decimal-length-more _ (t .loop-test .taken), decimal-some (t .before .loop .rest / 10))
-
-loop-less : tie.Need-loop-less Inv-loop μ-loop
-loop-less c = search needs
 
 loop-again : tie.Need-loop-again Inv-loop μ-loop
 loop-again c =
-    let t = c .before .before .before .before .before in
+    let t = let after-store = c .before .before in after-store .before .before .before in
     let v = t .before .loop .inv in
     let s = c .before .before in
     let f = decimal-length-more _ (t .loop-test .taken) in
@@ -50,25 +41,21 @@ loop-again c =
       ap length (s .store .ensures) ∙ simp length-set (v .2),
     )
 
-digit-requires-2 : tie.Need-digit-requires-2 Inv-loop μ-loop
-digit-requires-2 c κs = search needs
-
-store-requires-2 : tie.Need-store-requires-2 Inv-loop μ-loop
-store-requires-2 c κs = search needs
-
 same-length : tie.Need-same-length Inv-loop μ-loop
 same-length c =
-    let v = c .before .before .before .before .before .before .loop .inv in
-    ap length (c .before .before .store2 .ensures) ∙ simp length-set (v .2)
+    let after-store = c .before .before in
+    let v = after-store .before .before .before .before .loop .inv in
+    ap length (after-store .store2 .ensures) ∙ simp length-set (v .2)
 
 returns : tie.Need-returns Inv-loop μ-loop
 returns c =
-    let t = c .before .before .before .before .before in
-    digit-first _ _ _ 0 (t .loop-test .left) (c .before .before .before .digit2 .ensures) (c .before .before .store2 .ensures)
+    let after-store = c .before .before in
+    let t = after-store .before .before .before in
+    digit-first _ _ _ 0 (t .loop-test .left) (c .before .before .before .digit2 .ensures) (after-store .store2 .ensures)
     ∙ t .before .loop .inv .0
 
 pub digits-spec : {M : Type 1} → statement M
 digits-spec =
     tie.close
-    (tie.spec Inv-loop μ-loop sub-i loop-holds digit-requires store-requires sub-i-2 loop-less loop-again digit-requires-2 store-requires-2
-    same-length returns)
+    (tie.spec Inv-loop μ-loop sub-i loop-holds (λ c κs. search needs) (λ c κs. search needs) sub-i-2 (λ c. search needs) loop-again
+    (λ c κs. search needs) (λ c κs. search needs) same-length returns)

@@ -15,15 +15,6 @@ Inv-loop n k₀ left₀ k left = (k + length (decimal left) ≡ 1 + length (deci
 abbrev μ-loop : tie.MeasureT-loop
 μ-loop n k₀ left₀ k left = left
 
-loop-holds : tie.Need-loop-holds Inv-loop μ-loop
-loop-holds c = search needs
-
-add-k : tie.Need-add-k Inv-loop μ-loop
-add-k c = search needs
-
-loop-less : tie.Need-loop-less Inv-loop μ-loop
-loop-less c = search needs
-
 loop-again : tie.Need-loop-again Inv-loop μ-loop
 loop-again c = omega (arith, decimal-length-more _ (c .loop-test .taken))
 
@@ -31,4 +22,4 @@ returns : tie.Need-returns Inv-loop μ-loop
 returns c = omega (arith, decimal-length-small _ (c .loop-test .left))
 
 pub places-spec : {M : Type 1} → statement M
-places-spec = tie.close (tie.spec Inv-loop μ-loop loop-holds add-k loop-less loop-again returns)
+places-spec = tie.close (tie.spec Inv-loop μ-loop (λ c. search needs) (λ c. search needs) (λ c. search needs) loop-again returns)

@@ -7,9 +7,10 @@ use Rattle.print.proofs.signed.Tie as tie
 returns : tie.Need-returns
 returns c =
     let n = c .before .before in
-    let m = n .before .before .before .before .before in
+    let after-size = n .before in
+    let m = after-size .before .before .before .before in
     let t = m .before .before in
-    minus-put (t .before .before .fits .z) (n .before .size .ensures) (t .if1 .taken) (m .byte .ensures) (n .number .ensures)
+    minus-put (t .before .before .fits .z) (after-size .size .ensures) (t .if1 .taken) (m .byte .ensures) (n .number .ensures)
 
 returns-2 : tie.Need-returns-2
 returns-2 c =

@@ -8,7 +8,8 @@ use Rattle.print.proofs.three_digits.Tie as tie
 returns : tie.Need-returns
 returns c =
     let e = c .before .before in
-    digit-behind _ (omega arith) (e .before .digit .ensures) (e .before .before .before .before .before .two-digits .ensures)
+    let after-digit = e .before in
+    digit-behind _ (omega arith) (e .before .digit .ensures) (after-digit .before .before .before .before .two-digits .ensures)
     (e .byte .ensures)
 
 pub three-digits-spec : {M : Type 1} → statement M

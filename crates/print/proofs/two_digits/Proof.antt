@@ -8,7 +8,7 @@ use Rattle.print.proofs.two_digits.Tie as tie
 returns : tie.Need-returns
 returns c =
     let e = c .before .before in
-    let t = e .before .before .before .before .before in
+    let t = let after-digit = e .before in after-digit .before .before .before .before in
     digit-behind _ (omega arith) (e .before .digit2 .ensures) (one-digit _ (omega arith) (t .before .digit .ensures) (t .byte .ensures))
     (e .byte2 .ensures)
 

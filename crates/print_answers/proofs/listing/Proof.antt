@@ -8,13 +8,15 @@ use Rattle.print_answers.proofs.listing.Tie as tie
 
 returns : tie.Need-returns
 returns c =
-    let a = c .before .before .before .before .before in
-    by-case listingLine (sym (a .before .before .count .ensures) ∙ a .x .given .1) (c .before .before .refused .ensures)
+    let after-refused = c .before .before in
+    let a = after-refused .before .before .before in
+    by-case listingLine (sym (a .before .before .count .ensures) ∙ a .x .given .1) (after-refused .refused .ensures)
 
 returns-2 : tie.Need-returns-2
 returns-2 c =
-    let a = c .before .before .before .before .before in
-    by-case listingLine (sym (a .before .before .count .ensures) ∙ a .x2 .given .1) (c .before .before .pairs .ensures)
+    let after-pairs = c .before .before in
+    let a = after-pairs .before .before .before in
+    by-case listingLine (sym (a .before .before .count .ensures) ∙ a .x2 .given .1) (after-pairs .pairs .ensures)
 
 pub listing-spec : {M : Type 1} → statement M
 listing-spec =

@@ -9,13 +9,15 @@ use Rattle.print_answers.proofs.mask.Tie as tie
 
 returns : tie.Need-returns
 returns c =
-    let a = c .before .before .before .before .before in
-    by-case wordsLine (sym (a .before .before .mask .ensures) ∙ ap saidMask (a .x .given .1)) (c .before .before .refused .ensures)
+    let after-refused = c .before .before in
+    let a = after-refused .before .before .before in
+    by-case wordsLine (sym (a .before .before .mask .ensures) ∙ ap saidMask (a .x .given .1)) (after-refused .refused .ensures)
 
 returns-2 : tie.Need-returns-2
 returns-2 c =
-    let a = c .before .before .before .before .before in
-    by-case wordsLine (sym (a .before .before .mask .ensures) ∙ ap saidMask (a .x2 .given .1)) (c .before .before .faces .ensures)
+    let after-faces = c .before .before in
+    let a = after-faces .before .before .before in
+    by-case wordsLine (sym (a .before .before .mask .ensures) ∙ ap saidMask (a .x2 .given .1)) (after-faces .faces .ensures)
 
 pub mask-spec : {M : Type 1} → statement M
 mask-spec =

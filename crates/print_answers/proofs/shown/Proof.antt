@@ -6,8 +6,9 @@ use Rattle.print_answers.proofs.shown.Tie as tie
 
 returns : tie.Need-returns
 returns c =
-    let a = c .before .before .before .before .before in
-    shown-refused _ _ (a .before .before .record-refusal .ensures) (a .j .given .1) (c .before .before .refused .ensures)
+    let after-refused = c .before .before in
+    let a = after-refused .before .before .before in
+    shown-refused _ _ (a .before .before .record-refusal .ensures) (a .j .given .1) (after-refused .refused .ensures)
 
 returns-2 : tie.Need-returns-2
 returns-2 c =

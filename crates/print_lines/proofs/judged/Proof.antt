@@ -6,10 +6,10 @@ use Rattle.print_lines.proofs.judged.Statement.{statement}
 use Rattle.print_lines.proofs.judged.Tie as tie
 
 returns : tie.Need-returns
-returns c = by-case judgedLine (c .before .before .before .before .before .enum-told .given .1) (c .before .before .word .ensures)
+returns c = let done = c .before .before in by-case judgedLine (done .before .before .before .enum-told .given .1) (done .word .ensures)
 
 returns-2 : tie.Need-returns-2
-returns-2 c = by-case judgedLine (c .before .before .before .before .before .j .given .1) (c .before .before .refused .ensures)
+returns-2 c = let done = c .before .before in by-case judgedLine (done .before .before .before .j .given .1) (done .refused .ensures)
 
 pub judged-spec : {M : Type 1} → statement M
 judged-spec =

@@ -7,7 +7,8 @@ use Rattle.print_refusals.proofs.weight.Tie as tie
 returns : tie.Need-returns
 returns c =
     let r2 = c .before .before in
-    end-to-end (r2 .before .before .before .before .before .beyond .ensures) (r2 .word .ensures)
+    let back = r2 .before .before .before .before in
+    end-to-end (back .before .beyond .ensures) (r2 .word .ensures)
 
 pub weight-spec : {M : Type 1} → statement M
 weight-spec =

@@ -4,11 +4,8 @@ use borrow.Author.Needs.{needs}
 use Rattle.print_report.proofs.head_read.Statement.{statement}
 use Rattle.print_report.proofs.head_read.Tie as tie
 
-returns : tie.Need-returns
-returns c = search head-read
-
 pub head-read-spec : {M : Type 1} → statement M
 head-read-spec =
     tie.close
     (tie.spec (λ c κs. search needs) (λ c κs. search needs) (λ c κs. search needs) (λ c κs. search needs) (λ c κs. search needs)
-    (λ c κs. search needs) (λ c. search needs) returns)
+    (λ c κs. search needs) (λ c. search needs) (λ c. search head-read))

@@ -13,7 +13,8 @@ copy-requires c κs = accepted-short _ (sym (c .before .before .before .judge .e
 
 fresh-requires : tie.Need-fresh-requires
 fresh-requires c κs =
-    accepted-short _ (sym (c .before .before .before .before .before .judge .ensures) ∙ c .before .before .before .enum-told .given .1)
+    let accepted = c .before .before .before in
+    accepted-short _ (sym (accepted .before .before .judge .ensures) ∙ accepted .enum-told .given .1)
 
 returns-2 : tie.Need-returns-2
 returns-2 c =

@@ -13,7 +13,7 @@ use Rattle.survey.proofs.survey_part.Tie as tie
 fill-odds-requires : tie.Need-fill-odds-requires
 fill-odds-requires c κs =
     let f = c .before .before .before in
-    let s = f .before .before .before .before .before .before in
+    let s = let l = f .before .before .before .before in l .before .before in
     let v = seenIn (s .args .n) (now (s .args .rows)) (now (s .args .corners)) in
     let w = s .pre .0 .0 .within in (
       (

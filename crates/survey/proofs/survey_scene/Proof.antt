@@ -6,19 +6,27 @@ use borrow.Author.Needs.{needs}
 use Rattle.survey.proofs.survey_scene.Statement.{statement}
 use Rattle.survey.proofs.survey_scene.Tie as tie
 
+-- before the solids' planes are made, after A's words and after what is told of A's parts
+abbrev entry : tie.After-tell-sides → tie.Start
+entry t = let after-make-planes = t .before .before .before in after-make-planes .before .before
+
+abbrev first-told : tie.After-tell-sides2 → tie.After-tell-sides
+first-told d = let after-make-planes = d .before .before .before in after-make-planes .before .before
+
+abbrev first-parts : tie.After-survey-part → tie.After-tell-parts
+first-parts o = let lent = o .before .before .before .before in lent .before .before .before .before
+
 tell-parts-requires : tie.Need-tell-parts-requires
 tell-parts-requires c κs =
-    let d = c .before .before .before in
-    let m = d .before .before .before in
-    let s = m .before .before .before .before .before .before .before in
+    let s = entry (first-told (c .before .before .before)) in
     parts-asked _ (s .args .a) (s .pre .0 .0)
 
 survey-part-requires : tie.Need-survey-part-requires
 survey-part-requires c κs =
-    let p = c .before .before .before .before .before .before .before in
+    let p = let lent = c .before .before .before in lent .before .before .before .before in
     let d = p .before .before .before .before in
-    let t = d .before .before .before .before .before in
-    let s = t .before .before .before .before .before in
+    let t = first-told d in
+    let s = entry t in
     let v = seenIn (s .args .n) (now (s .args .rows)) (now (s .args .corners)) in
     let r = s .pre .0 in
     let e = p .tell-parts .ensures in
@@ -28,20 +36,19 @@ survey-part-requires c κs =
 
 tell-parts-requires-2 : tie.Need-tell-parts-requires-2
 tell-parts-requires-2 c κs =
-    let p = c .before .before .before .before .before .before .before .before .before .before .before .before in
-    let d = p .before .before .before in
-    let m = d .before .before .before in
-    let s = m .before .before .before .before .before .before .before in
+    let p = first-parts (c .before .before .before) in
+    let s = entry (first-told (p .before .before .before .before)) in
     parts-asked _ (s .args .b) (s .pre .0 .1)
 
 survey-part-requires-2 : tie.Need-survey-part-requires-2
 survey-part-requires-2 c κs =
-    let q = c .before .before .before .before .before .before .before in
+    let lent = c .before .before .before in
+    let q = lent .before .before .before .before in
     let o = q .before .before .before .before in
-    let p = o .before .before .before .before .before .before .before .before in
+    let p = first-parts o in
     let d = p .before .before .before .before in
-    let t = d .before .before .before .before .before in
-    let s = t .before .before .before .before .before in
+    let t = first-told d in
+    let s = entry t in
     let v = seenIn (s .args .n) (now (s .args .rows)) (now (s .args .corners)) in
     let r = s .pre .0 in
     let e = p .tell-parts .ensures in

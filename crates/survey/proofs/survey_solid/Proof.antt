@@ -8,8 +8,8 @@ use Rattle.survey.proofs.survey_solid.Tie as tie
 
 survey-part-requires : tie.Need-survey-part-requires
 survey-part-requires c κs =
-    let t = c .before .before .before .before .before .before .before in
-    let s = t .before .before .before .before .before in
+    let t = let lent = c .before .before .before in lent .before .before .before .before in
+    let s = let after-make-planes = t .before .before .before in after-make-planes .before .before in
     let v = seenIn (s .args .n) (now (s .args .rows)) (now (s .args .corners)) in
     (s .pre, ((t .tell-sides .ensures, parted-new v (s .args .k)), (search needs, search needs)))
 

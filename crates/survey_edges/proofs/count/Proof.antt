@@ -24,12 +24,6 @@ loop-holds : tie.Need-loop-holds Inv-loop μ-loop
 unfolding upTo
 loop-holds c = (omega arith, omega arith, λ first ends. refl)
 
-mask-at-requires : tie.Need-mask-at-requires Inv-loop μ-loop
-mask-at-requires c κs = search needs
-
-ones-requires : tie.Need-ones-requires Inv-loop μ-loop
-ones-requires c κs = search needs
-
 add-c : tie.Need-add-c Inv-loop μ-loop
 add-c c =
     let m = now (c .before .before .before .before .args .masks) in
@@ -40,12 +34,6 @@ add-c c =
           ∙ entry-ones 0 e (rw (← c .before .mask-at .ensures .0) (c .before .mask-at .ensures .1)),
       entry-most 0 e,
     )
-
-add-j : tie.Need-add-j Inv-loop μ-loop
-add-j c = search needs
-
-loop-less : tie.Need-loop-less Inv-loop μ-loop
-loop-less c = search needs
 
 loop-again : tie.Need-loop-again Inv-loop μ-loop
 loop-again c =
@@ -65,4 +53,5 @@ returns c = λ first ends. count-all _ (c .before .loop .inv .0) (c .loop-test .
 pub count-spec : {M : Type 1} → statement M
 count-spec =
     tie.close
-    (tie.spec Inv-loop μ-loop loop-holds mask-at-requires ones-requires add-c add-j loop-less loop-again returns)
+    (tie.spec Inv-loop μ-loop loop-holds (λ c κs. search needs) (λ c κs. search needs) add-c (λ c. search needs) (λ c. search needs)
+    loop-again returns)

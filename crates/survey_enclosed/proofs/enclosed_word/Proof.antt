@@ -31,7 +31,7 @@ start-requires c κs =
 
 step-requires : tie.Need-step-requires Inv-loop μ-loop
 step-requires c κs =
-    let s = c .before .before .before .before .before in
+    let s = let turn = c .before .before .before in turn .before .before in
     let r = c .start .ensures in
     let h = here (seenIn (s .args .n) (now (s .args .rows)) (now (s .args .corners))) (s .args .k) (s .pre .0 .0) (now (s .args .links))
     (now (s .args .odds)) (s .pre .0 .1) (s .pre .0 .2) (c .start .result) (r .reached) (r .some) in
@@ -39,7 +39,7 @@ step-requires c κs =
 
 loop-less : tie.Need-loop-less Inv-loop μ-loop
 loop-less c =
-    let s = c .before .before .before .before .before .before in
+    let s = let turn = c .before .before .before .before in turn .before .before in
     let r = c .before .start .ensures in
     let l = step-less (seenIn (s .args .n) (now (s .args .rows)) (now (s .args .corners))) (s .args .k) (s .pre .0 .0)
     (now (s .args .links)) (now (s .args .odds)) (s .pre .0 .1) (s .pre .0 .2) (c .before .start .result) (r .reached) (r .some) in
@@ -47,7 +47,7 @@ loop-less c =
 
 loop-again : tie.Need-loop-again Inv-loop μ-loop
 loop-again c =
-    let s = c .before .before .before .before .before .before in
+    let s = let turn = c .before .before .before .before in turn .before .before in
     let r = c .before .start .ensures in
     rw (c .step .ensures) (step-reached (seenIn (s .args .n) (now (s .args .rows)) (now (s .args .corners))) (s .args .k) (s .pre .0 .0)
     (now (s .args .links)) (now (s .args .odds)) (s .pre .0 .1) (s .pre .0 .2) (c .before .start .result) (r .reached) (r .some))

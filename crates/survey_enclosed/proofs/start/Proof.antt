@@ -39,14 +39,14 @@ is-inside-requires c κs =
 
 returns-2 : tie.Need-returns-2
 returns-2 c =
-    let s = c .before .before .before .before .before in
+    let s = let after-bit = c .before .before .before in after-bit .before .before in
     started-asked _ _ (s .args .t) _ (omega (arith, s .pre .0 .0 .within .sound .vertices .0)) (s .pre .0 .1) (s .pre .0 .2) refl
     (c .before .before .before .bit .ensures) (c .before .is-inside .ensures)
     (told-yes (bitOr (s .args .t .inside) (c .before .before .before .bit .result)) (s .args .t .inside) (c .if2 .taken))
 
 returns-3 : tie.Need-returns-3
 returns-3 c =
-    let s = c .before .before .before .before .before in
+    let s = let after-bit = c .before .before .before in after-bit .before .before in
     started-asked _ _ (s .args .t) _ (omega (arith, s .pre .0 .0 .within .sound .vertices .0)) (s .pre .0 .1) (s .pre .0 .2) refl
     (c .before .before .before .bit .ensures) (c .before .is-inside .ensures)
     (told-no (bitOr (s .args .t .inside) (c .before .before .before .bit .result)) (s .args .t .inside) (c .if2 .left))

@@ -18,21 +18,23 @@ look-requires c κs =
 returns : tie.Need-returns
 returns c =
     let l = c .before .before .before .before in
-    let s = l .before .before .before .before .before .before .before .before in
+    let s = let after-fill-links = l .before .before .before .before in after-fill-links .before .before .before .before in
     let v = seenIn (s .args .n) (now (s .args .rows)) (now (s .args .corners)) in
     sought-early v (s .args .a) (s .args .b) {x = l .look .result} (search needs) (c .crossed .ensures) (l .look .ensures .0)
 
 tell-lent-requires : tie.Need-tell-lent-requires
 tell-lent-requires c κs =
-    let l = c .before .before .before .before .before in
-    let m = l .before .before .before .before .before .before in
+    let l = let arm = c .before .before .before .before in arm .before in
+    let m = let after-links = l .before .before in after-links .before .before .before .before in
     let s = m .before .before in
     ((s .pre .0, search needs), (m .make-planes .ensures, l .look .ensures .1))
 
 seek-told-requires : tie.Need-seek-told-requires
 seek-told-requires c κs =
     let t = c .before .before .before .before in
-    let l = t .before .before .before .before .before .before .before .before .before .before in
+    let after-words = t .before .before in
+    let after-look = after-words .before .before .before .before in
+    let l = after-look .before .before .before .before in
     let m = l .before .before in
     let s = m .before .before in
     let b : Begun (seenIn (s .args .n) (now (s .args .rows)) (now (s .args .corners))) (s .args .a) (s .args .b) _ _ _ = record {

@@ -7,6 +7,21 @@ use borrow.Author.Needs.{needs}
 use Rattle.survey_first.proofs.seek_told.Statement.{statement}
 use Rattle.survey_first.proofs.seek_told.Tie as tie
 
+abbrev entry : tie.After-tell-lent → tie.Start
+entry c = let after-others = c .before .before in after-others .before .before .before .before
+
+abbrev after-tell-lent : tie.After-enum-told → tie.After-tell-lent
+after-tell-lent c =
+    let arm = c .before in
+    let after-tell-parts = arm .before .before .before .before in
+    after-tell-parts .before .before .before .before
+
+abbrev after-tell-lent2 : tie.After-fill-links → tie.After-tell-lent
+after-tell-lent2 c =
+    let arm = c .before .before .before in
+    let after-tell-parts = arm .before .before .before .before in
+    after-tell-parts .before .before .before .before
+
 make-planes-requires : tie.Need-make-planes-requires
 make-planes-requires c κs =
     let b = c .before .pre .0 in
@@ -22,14 +37,14 @@ tell-lent-requires c κs =
 tell-parts-requires : tie.Need-tell-parts-requires
 tell-parts-requires c κs =
     let t = c .before .before .before in
-    let s = t .before .before .before .before .before .before in
+    let s = entry t in
     parts-asked _ (s .args .a) (s .pre .0 .a-ready)
 
 first-of-requires : tie.Need-first-of-requires
 first-of-requires c κs =
     let p = c .before .before in
     let t = p .before .before .before .before in
-    let s = t .before .before .before .before .before .before in
+    let s = entry t in
     let v = seenIn (s .args .n) (now (s .args .rows)) (now (s .args .corners)) in
     let b = s .pre .0 in
     let e = p .tell-parts .ensures in
@@ -38,31 +53,29 @@ first-of-requires c κs =
       (b .told, parts-told v (s .args .a) (s .args .b) (b .a-ready) (b .b-ready) (t .tell-lent .ensures .0) (e .0) (e .1) z),
     )
 
-returns : tie.Need-returns
-returns c = search sought-in-a
-
 fill-links-requires : tie.Need-fill-links-requires
 fill-links-requires c κs =
     let n = c .before in
-    let t = n .before .before .before .before .before .before .before .before .before in
-    let s = t .before .before .before .before .before .before in
+    let t = after-tell-lent n in
+    let s = entry t in
     let o = s .pre .0 .b-ready .within .sound in
     ((o .corners, o .own), (search needs, o .vertices .0, o .vertices .1))
 
 tell-parts-requires-2 : tie.Need-tell-parts-requires-2
 tell-parts-requires-2 c κs =
     let l = c .before .before in
-    let t = l .before .before .before .before .before .before .before .before .before .before .before in
-    let s = t .before .before .before .before .before .before in
+    let t = after-tell-lent2 l in
+    let s = entry t in
     parts-asked _ (s .args .b) (s .pre .0 .b-ready)
 
 first-of-requires-2 : tie.Need-first-of-requires-2
 first-of-requires-2 c κs =
     let q = c .before .before .before .before in
     let l = q .before .before .before in
-    let p = l .before .before .before .before .before .before .before in
+    let arm = l .before .before .before in
+    let p = arm .before .before .before .before in
     let t = p .before .before .before .before in
-    let s = t .before .before .before .before .before .before in
+    let s = entry t in
     let v = seenIn (s .args .n) (now (s .args .rows)) (now (s .args .corners)) in
     let b = s .pre .0 in
     let e = p .tell-parts .ensures in
@@ -73,16 +86,14 @@ first-of-requires-2 c κs =
       (t .tell-lent .ensures .0, parts-told v (s .args .b) (s .args .a) (b .b-ready) (b .a-ready) (b .told) (f .0) (f .1) z),
     )
 
-returns-2 : tie.Need-returns-2
-returns-2 c = search sought-in-b
-
 inside-still-requires : tie.Need-inside-still-requires
 inside-still-requires c κs =
-    let q = c .before .before .before .before .before .before .before in
+    let after-cuts = c .before .before .before in
+    let q = after-cuts .before .before .before .before in
     let l = q .before .before .before in
     let n = l .before .before in
-    let t = n .before .before .before .before .before .before .before .before .before in
-    let s = t .before .before .before .before .before .before in
+    let t = after-tell-lent n in
+    let s = entry t in
     let v = seenIn (s .args .n) (now (s .args .rows)) (now (s .args .corners)) in (
       (s .pre .0 .a-ready, s .pre .0 .linked),
       (s .pre .0 .told, none-first (solidHits v (s .args .a)) (n .before .before .first-of .ensures) (n .enum-told .given .1)),
@@ -92,9 +103,10 @@ inside-still-requires-2 : tie.Need-inside-still-requires-2
 inside-still-requires-2 c κs =
     let n = c .before .before .before in
     let f = n .before .before in
-    let l = f .before .before .before .before .before .before .before .before in
-    let t = l .before .before .before .before .before .before .before .before .before .before .before in
-    let s = t .before .before .before .before .before .before in
+    let after-blinks = f .before .before .before .before in
+    let l = after-blinks .before .before .before .before in
+    let t = after-tell-lent2 l in
+    let s = entry t in
     let v = seenIn (s .args .n) (now (s .args .rows)) (now (s .args .corners)) in (
       (s .pre .0 .b-ready, l .fill-links .ensures .own),
       (t .tell-lent .ensures .0, none-first (solidHits v (s .args .b)) (f .first-of2 .ensures) (n .enum-told2 .given .1)),
@@ -104,9 +116,11 @@ returns-3 : tie.Need-returns-3
 returns-3 c =
     let i = c .before .before .before in
     let n = i .before in
-    let m = n .before .before .before .before .before .before .before .before .before .before .before .before in
-    let t = m .before .before .before .before .before .before .before .before .before in
-    let s = t .before .before .before .before .before .before in
+    let after-own = n .before .before .before .before in
+    let after-cuts = after-own .before .before .before .before in
+    let m = after-cuts .before .before .before .before in
+    let t = after-tell-lent m in
+    let s = entry t in
     let v = seenIn (s .args .n) (now (s .args .rows)) (now (s .args .corners)) in
     sought-none v (s .args .a) (s .args .b) (m .before .before .first-of .ensures) (m .enum-told .given .1)
     (n .before .before .first-of2 .ensures) (n .enum-told2 .given .1) (i .inside-still .ensures) (c .inside-still2 .ensures)
@@ -115,5 +129,5 @@ pub seek-told-spec : {M : Type 1} → statement M
 seek-told-spec =
     tie.close
     (tie.spec make-planes-requires tell-lent-requires tell-parts-requires first-of-requires (λ c. search needs) (λ c κs. search needs)
-    returns (λ c. search needs) fill-links-requires tell-parts-requires-2 first-of-requires-2 (λ c. search needs) (λ c κs. search needs)
-    returns-2 (λ c. search needs) inside-still-requires inside-still-requires-2 returns-3)
+    (λ c. search sought-in-a) (λ c. search needs) fill-links-requires tell-parts-requires-2 first-of-requires-2 (λ c. search needs)
+    (λ c κs. search needs) (λ c. search sought-in-b) (λ c. search needs) inside-still-requires inside-still-requires-2 returns-3)

@@ -33,12 +33,6 @@ fill-vertex-requires c κs =
       ((omega (arith, f .ends-size), omega (arith, f .masks-size), omega (arith, f .count, r)), s .pre .1 .1),
     )
 
-add-i : tie.Need-add-i Inv-loop μ-loop
-add-i c = search needs
-
-loop-less : tie.Need-loop-less Inv-loop μ-loop
-loop-less c = search needs
-
 loop-again : tie.Need-loop-again Inv-loop μ-loop
 loop-again c =
     let l = c .before .before .before .before in
@@ -50,4 +44,4 @@ returns c = let e : c .before .loop .i ≡ c .before .before .args .k .verts = o
 
 pub fill-solid-spec : {M : Type 1} → statement M
 fill-solid-spec =
-    tie.close (tie.spec Inv-loop μ-loop loop-holds fill-vertex-requires add-i loop-less loop-again returns)
+    tie.close (tie.spec Inv-loop μ-loop loop-holds fill-vertex-requires (λ c. search needs) (λ c. search needs) loop-again returns)

@@ -25,9 +25,6 @@ Inv-loop engine rows corners n k links words own cuts i at ends₀ masks₀ u le
 abbrev μ-loop : tie.MeasureT-loop
 μ-loop engine rows corners n k links words own cuts i at ends₀ masks₀ u left₀ c₀ ends masks left c = left
 
-add-u : tie.Need-add-u Inv-loop μ-loop
-add-u c = search needs
-
 add-u-2 : tie.Need-add-u-2 Inv-loop μ-loop
 add-u-2 c = omega (arith, c .before .pre .0 .0 .vertices .1)
 
@@ -36,9 +33,6 @@ mul-left c = omega (arith, c .before .pre .0 .0 .vertices .1)
 
 element-copy-out-left : tie.Need-element-copy-out-left Inv-loop μ-loop
 element-copy-out-left c = omega (arith, c .before .pre .0 .0 .vertices .1)
-
-add-left : tie.Need-add-left Inv-loop μ-loop
-add-left c = search needs
 
 shr-left : tie.Need-shr-left Inv-loop μ-loop
 shr-left c = omega (arith, c .before .before .pre .0 .0 .vertices .0)
@@ -52,9 +46,6 @@ loop-holds c =
     let h = higher v (s .k) (p .0) (s .i) (p .2) (p .1 u (omega arith, omega arith)) in
     let few = pow-mono {i = s .k .low + s .k .verts - u} {j = 64} (omega (arith, p .0 .vertices .0)) in
     (lt-of-lt-of-le (h .small) few, h .small, filling-start v (s .k) u _ (s .at) _ _ (h .edges))
-
-add-v : tie.Need-add-v Inv-loop μ-loop
-add-v c = search needs
 
 cast-v : tie.Need-cast-v Inv-loop μ-loop
 cast-v c = omega (arith, trailing-le 64 (c .before .loop .left))
@@ -73,32 +64,33 @@ edge-mask-requires c κs =
     ((o, (omega arith, omega arith), (omega arith, omega (arith, t)), omega arith), s .pre .1 .1)
 
 narrow-requires : tie.Need-narrow-requires Inv-loop μ-loop
-narrow-requires c κs = omega (arith, c .before .before .before .before .before .before .before .pre .0 .0 .vertices .1)
+narrow-requires c κs =
+    let l = c .before .before .before .before in
+    omega (arith, l .before .before .before .pre .0 .0 .vertices .1)
 
 narrow-requires-2 : tie.Need-narrow-requires-2 Inv-loop μ-loop
 narrow-requires-2 c κs =
-    let l = c .before .before .before .before .before in
+    let l = let m = c .before .before .before in m .before .before in
     omega (arith, trailing-le 64 (l .loop .left), l .before .before .before .pre .0 .0 .vertices .1)
 
 put-edge-requires : tie.Need-put-edge-requires Inv-loop μ-loop
 put-edge-requires c κs =
-    let l = c .before .before .before .before .before .before in
+    let l = let m = c .before .before .before .before in m .before .before in
     omega (arith, filling-room _ _ _ (l .loop .left) (omega arith) (l .loop .inv .0) (l .loop .inv .2))
 
 add-c : tie.Need-add-c Inv-loop μ-loop
 add-c c =
-    let l = c .before .before .before .before .before .before .before in
+    let l = let after-narrow = c .before .before in let m = after-narrow .before .before .before in m .before .before in
     omega (arith, filling-room _ _ _ (l .loop .left) (omega arith) (l .loop .inv .0) (l .loop .inv .2))
 
-sub-left : tie.Need-sub-left Inv-loop μ-loop
-sub-left c = search needs
-
 loop-less : tie.Need-loop-less Inv-loop μ-loop
-loop-less c = walk-less (c .before .before .before .before .before .before .before .loop .left) (omega arith)
+loop-less c =
+    let l = let after-narrow = c .before .before in let m = after-narrow .before .before .before in m .before .before in
+    walk-less (l .loop .left) (omega arith)
 
 loop-again : tie.Need-loop-again Inv-loop μ-loop
 loop-again c =
-    let m = c .before .before .before .before .before in
+    let m = let after-narrow = c .before .before in after-narrow .before .before .before in
     let l = m .before .before in
     let s = l .before .before .before in
     let r = filling-room _ _ _ (l .loop .left) (omega arith) (l .loop .inv .0) (l .loop .inv .2) in
@@ -117,5 +109,6 @@ returns c = filling-end _ _ _ (omega arith) (c .before .loop .inv .2)
 pub fill-vertex-spec : {M : Type 1} → statement M
 fill-vertex-spec =
     tie.close
-    (tie.spec Inv-loop μ-loop add-u add-u-2 mul-left element-copy-out-left add-left shr-left loop-holds add-v cast-v add-v-2
-    edge-mask-requires narrow-requires narrow-requires-2 put-edge-requires add-c sub-left loop-less loop-again returns)
+    (tie.spec Inv-loop μ-loop (λ c. search needs) add-u-2 mul-left element-copy-out-left (λ c. search needs) shr-left loop-holds
+    (λ c. search needs) cast-v add-v-2 edge-mask-requires narrow-requires narrow-requires-2 put-edge-requires add-c (λ c. search needs)
+    loop-less loop-again returns)

@@ -25,6 +25,13 @@ face s = faceIn (now (s .args .corners))
 abbrev cut : tie.Start → ℕ → Mask
 cut s = maskIn (now (s .args .cuts))
 
+-- from where both words of candidates are narrowed: after the ends' words, and before them
+abbrev ends : tie.After-narrowed2 → tie.After-mask-at2
+ends d = let after-narrowed = d .before .before .before in after-narrowed .before .before .before
+
+abbrev entry : tie.After-narrowed2 → tie.Start
+entry d = ends d .before .before
+
 -- the words of the two ends
 a-is : (c : tie.After-mask-at) → let s = c .before in c .mask-at .result ≡ sidesOf (row s) (face s) (s .args .first) (s .args .count)
     (s .args .u)
@@ -47,7 +54,7 @@ narrowed-requires c κs =
 
 narrowed-requires-2 : tie.Need-narrowed-requires-2
 narrowed-requires-2 c κs =
-    let b = c .before .before .before .before .before in
+    let b = let after-narrowed = c .before .before in after-narrowed .before .before .before in
     let s = b .before .before in
     let a = s .args in
     let p = s .pre .1 .0 in (
@@ -56,21 +63,15 @@ narrowed-requires-2 c κs =
       omega (arith, p),
     )
 
-row-in-requires : tie.Need-row-in-requires
-row-in-requires c κs = c .before .before .before .before .before .before .before .before .pre .1 .0 .2
-
-row-in-requires-2 : tie.Need-row-in-requires-2
-row-in-requires-2 c κs = c .before .before .before .before .before .before .before .before .before .pre .1 .0 .3
-
 join-requires : tie.Need-join-requires
 join-requires c κs =
     let d = c .before .before in
-    let p = d .before .before .before .before .before .before .before .before .pre in
+    let p = entry d .pre in
     rw (c .before .row-in .ensures, c .row-in2 .ensures) (join-formed (p .0 .0 _) (p .0 .0 _))
 
 -- the edge's line
 line : (c : tie.After-join) → let d = c .before .before .before in
-    let s = d .before .before .before .before .before .before .before .before in
+    let s = entry d in
     c .join .result ≡ joinOf (row s (s .args .u)) (row s (s .args .v))
 line c = c .join .ensures ∙ (λ i. joinOf (c .before .before .row-in .ensures i) (c .before .row-in2 .ensures i))
 
@@ -97,13 +98,13 @@ crossed-requires c κs =
 add-crossed : tie.Need-add-crossed
 add-crossed c =
     let d = c .before .before .before .before in
-    omega (arith, d .before .before .before .before .before .before .before .before .pre .1 .0)
+    omega (arith, entry d .pre .1 .0)
 
 crossed-requires-2 : tie.Need-crossed-requires-2
 crossed-requires-2 c κs =
     let j = c .before in
     let d = j .before .before .before in
-    let b = d .before .before .before .before .before .before in
+    let b = ends d in
     let s = b .before .before in
     let a = s .args in
     let p = s .pre in
@@ -121,7 +122,8 @@ crossed-requires-2 c κs =
 
 returns : tie.Need-returns
 returns c =
-    let d = c .before .before .before .before .before in
+    let j = c .before .before in
+    let d = j .before .before .before in
     let o = d .before .before .before in
     let b = o .before .before .before in
     let s = b .before .before in
@@ -134,5 +136,5 @@ returns c =
 pub mask-parted-spec : {M : Type 1} → statement M
 mask-parted-spec =
     tie.close
-    (tie.spec (λ c κs. search needs) (λ c κs. search needs) narrowed-requires narrowed-requires-2 row-in-requires row-in-requires-2
-    join-requires crossed-requires add-crossed crossed-requires-2 returns)
+    (tie.spec (λ c κs. search needs) (λ c κs. search needs) narrowed-requires narrowed-requires-2 (λ c κs. entry c .pre .1 .0 .2)
+    (λ c κs. entry (c .before) .pre .1 .0 .3) join-requires crossed-requires add-crossed crossed-requires-2 returns)

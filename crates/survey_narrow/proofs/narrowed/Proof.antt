@@ -37,21 +37,6 @@ here c =
     each-turn (c .before .loop .left) (omega arith) (omega (arith, c .before .before .fits .candidates))
     (Numbered (c .before .before .args .from)) (c .before .loop .inv .1) .0
 
-add-cut-at : tie.Need-add-cut-at Inv-loop μ-loop
-add-cut-at c = search needs
-
-add-cut-at-2 : tie.Need-add-cut-at-2 Inv-loop μ-loop
-add-cut-at-2 c = omega (arith, here c)
-
-cut-at-requires : tie.Need-cut-at-requires Inv-loop μ-loop
-cut-at-requires c κs = omega (arith, here c)
-
-has-all-requires : tie.Need-has-all-requires Inv-loop μ-loop
-has-all-requires c κs = search needs
-
-bit-requires : tie.Need-bit-requires Inv-loop μ-loop
-bit-requires c κs = search needs
-
 shl-word : tie.Need-shl-word Inv-loop μ-loop
 shl-word c = here (c .before .before .before) .small
 
@@ -71,12 +56,9 @@ rest c =
 
 add-word : tie.Need-add-word Inv-loop μ-loop
 add-word c =
-    let s = c .before .before .before .before .before in
+    let s = let t = c .before .before .before in t .before .before in
     let a = s .args in
     omega (arith, rest c, kept-le (λ k. covers (maskIn (now (a .cuts)) (a .from + 1 + k)) (a .at)) (a .candidates), s .fits .candidates)
-
-sub-left : tie.Need-sub-left Inv-loop μ-loop
-sub-left c = omega arith
 
 loop-less : tie.Need-loop-less Inv-loop μ-loop
 loop-less c = walk-less _ (omega arith)
@@ -102,5 +84,5 @@ returns c =
 pub narrowed-spec : {M : Type 1} → statement M
 narrowed-spec =
     tie.close
-    (tie.spec Inv-loop μ-loop loop-holds cast-k add-cut-at add-cut-at-2 cut-at-requires has-all-requires bit-requires shl-word add-word
-    sub-left loop-less loop-again returns)
+    (tie.spec Inv-loop μ-loop loop-holds cast-k (λ c. search needs) (λ c. omega (arith, here c)) (λ c κs. omega (arith, here c))
+    (λ c κs. search needs) (λ c κs. search needs) shl-word add-word (λ c. omega arith) loop-less loop-again returns)

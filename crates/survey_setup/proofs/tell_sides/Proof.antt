@@ -22,9 +22,10 @@ fill-requires-2 c κs =
 
 returns : tie.Need-returns
 returns c =
-    let s = c .before .before .before .before .before in
+    let after-fill = c .before .before in
+    let s = after-fill .before .before .before in
     let v = seenIn (s .args .n) (now (s .args .rows)) (now (s .args .corners)) in
-    told v (s .args .k) (s .pre .0 .0) _ (s .pre .0 .1) (c .before .before .before .before .far .ensures) (c .before .before .fill .ensures)
+    told v (s .args .k) (s .pre .0 .0) _ (s .pre .0 .1) (c .before .before .before .before .far .ensures) (after-fill .fill .ensures)
     (c .fill2 .ensures)
 
 pub tell-sides-spec : {M : Type 1} → statement M

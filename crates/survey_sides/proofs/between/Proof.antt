@@ -43,7 +43,7 @@ crossed-requires c κs =
 
 crossed-requires-2 : tie.Need-crossed-requires-2
 crossed-requires-2 c κs =
-    let d = c .before .before .before .before .before in
+    let d = let after-crossed = c .before .before in after-crossed .before .before .before in
     let s = d .before .before .before in
     let p = s .pre in
     let a = s .args in
@@ -62,7 +62,8 @@ crossed-requires-2 c κs =
 returns : tie.Need-returns
 returns c =
     let d = c .before .before .before in
-    let s = d .before .before .before .before .before .before in
+    let after-join = d .before .before .before in
+    let s = after-join .before .before .before in
     let p = s .pre in
     let a = s .args in
     let m = p .1 .1 .1 .1 in

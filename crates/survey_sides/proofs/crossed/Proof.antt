@@ -39,15 +39,6 @@ here c =
     let s = c .before .before in
     each-turn (c .before .loop .left) (omega arith) (omega (arith, s .fits .candidates)) _ (c .before .loop .inv .1) .0
 
-add-face-in : tie.Need-add-face-in Inv-loop μ-loop
-add-face-in c = search needs
-
-add-face-in-2 : tie.Need-add-face-in-2 Inv-loop μ-loop
-add-face-in-2 c = omega (arith, here c)
-
-face-in-requires : tie.Need-face-in-requires Inv-loop μ-loop
-face-in-requires c κs = omega (arith, here c)
-
 crosses-requires : tie.Need-crosses-requires Inv-loop μ-loop
 crosses-requires c κs =
     let t = c .before in
@@ -61,9 +52,6 @@ crosses-requires c κs =
             (c .face-in .ensures) (here t .differs),
       ),
     )
-
-bit-requires : tie.Need-bit-requires Inv-loop μ-loop
-bit-requires c κs = search needs
 
 shl-word : tie.Need-shl-word Inv-loop μ-loop
 shl-word c = here (c .before .before .before) .small
@@ -83,7 +71,7 @@ rest c =
 
 add-word : tie.Need-add-word Inv-loop μ-loop
 add-word c =
-    let s = c .before .before .before .before .before in
+    let s = let inside = c .before .before .before in inside .before .before in
     omega (
       arith,
       rest c,
@@ -91,9 +79,6 @@ add-word c =
           (faceIn (now (s .args .corners)) (s .args .first + 1 + k))) (s .args .candidates),
       s .fits .candidates,
     )
-
-sub-left : tie.Need-sub-left Inv-loop μ-loop
-sub-left c = omega arith
 
 loop-less : tie.Need-loop-less Inv-loop μ-loop
 loop-less c = walk-less _ (omega arith)
@@ -118,5 +103,5 @@ returns c =
 pub crossed-spec : {M : Type 1} → statement M
 crossed-spec =
     tie.close
-    (tie.spec Inv-loop μ-loop loop-holds cast-k add-face-in add-face-in-2 face-in-requires crosses-requires bit-requires shl-word add-word
-    sub-left loop-less loop-again returns)
+    (tie.spec Inv-loop μ-loop loop-holds cast-k (λ c. search needs) (λ c. omega (arith, here c)) (λ c κs. omega (arith, here c))
+    crosses-requires (λ c κs. search needs) shl-word add-word (λ c. omega arith) loop-less loop-again returns)

@@ -16,4 +16,6 @@ returns-2 c =
     ∙ crosses-pierced (a .n) (rowIn (now (a .rows))) (p .1 .0 .0) (p .0 .1) (a .u) (a .v) (a .f) (p .1 .0 .1) (p .1 .1)
 
 pub crosses-spec : {M : Type 1} → statement M
-crosses-spec = tie.close (tie.spec (λ c. search needs) (λ c κs. search needs) (λ c. search needs) (λ c κs. search needs) (λ c. search needs) returns-2)
+crosses-spec =
+    tie.close
+    (tie.spec (λ c. search needs) (λ c κs. search needs) (λ c. search needs) (λ c κs. search needs) (λ c. search needs) returns-2)

@@ -4,31 +4,15 @@ use Rattle.clean.specs.Sizes.{dot-x, dot-y, dot-z, dot-w, dot-xy, dot-xy
 use Rattle.clean.proofs.planes.dot.Statement.{statement}
 use Rattle.clean.proofs.planes.dot.Tie as tie
 
-mul-result : tie.Need-mul-result
-mul-result c = let h = c .before .before .before .before .before .before .before .before .pre in fit (dot-x h)
-
-mul-result-2 : tie.Need-mul-result-2
-mul-result-2 c = let h = c .before .before .before .before .before .before .before .before .pre in fit (dot-y h)
-
-add-result : tie.Need-add-result
-add-result c = let h = c .before .before .before .before .before .before .before .before .pre in fit (dot-xy h)
-
-mul-result-3 : tie.Need-mul-result-3
-mul-result-3 c = let h = c .before .before .before .before .before .before .before .before .pre in fit (dot-z h)
-
-add-result-2 : tie.Need-add-result-2
-add-result-2 c = let h = c .before .before .before .before .before .before .before .before .pre in fit (dot-xyz h)
-
-mul-result-4 : tie.Need-mul-result-4
-mul-result-4 c = let h = c .before .before .before .before .before .before .before .before .pre in fit (dot-w h)
-
-add-result-3 : tie.Need-add-result-3
-add-result-3 c = let h = c .before .before .before .before .before .before .before .before .pre in fit (dotted h)
-
-returns : tie.Need-returns
-returns c = let h = c .before .before .before .before .before .before .before .before .pre in kept (dotted h)
+-- before the entries of the plane and then those of the row are read
+abbrev entry : tie.After-struct-told8 → tie.Start
+entry c =
+    let plane-read = c .before .before .before .before in
+    plane-read .before .before .before .before
 
 pub dot-spec : {M : Type 1} → statement M
 dot-spec =
     tie.close
-    (tie.spec mul-result mul-result-2 add-result mul-result-3 add-result-2 mul-result-4 add-result-3 returns)
+    (tie.spec (λ c. fit (dot-x (entry c .pre))) (λ c. fit (dot-y (entry c .pre))) (λ c. fit (dot-xy (entry c .pre)))
+    (λ c. fit (dot-z (entry c .pre))) (λ c. fit (dot-xyz (entry c .pre))) (λ c. fit (dot-w (entry c .pre)))
+    (λ c. fit (dotted (entry c .pre))) (λ c. kept (dotted (entry c .pre))))

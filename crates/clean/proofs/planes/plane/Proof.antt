@@ -2,64 +2,26 @@
 use mathlib.Core.Path.{_∙_}
 use Rattle.laws.specs.Size.{called}
 use Rattle.clean.specs.Planes.{volumeOf}
+use borrow.Author.Needs.{needs}
 use Rattle.clean.proofs.planes.plane.Statement.{statement}
 use Rattle.clean.proofs.planes.plane.Tie as tie
 
-but-x-requires : tie.Need-but-x-requires
-but-x-requires c κs = c .pre .0
+-- the entry, from after the volume for x, for y and for z
+abbrev x-entry : tie.After-volume → tie.Start
+x-entry c = c .before .before .before .before
 
-but-x-requires-2 : tie.Need-but-x-requires-2
-but-x-requires-2 c κs = c .before .pre .1
+abbrev y-entry : tie.After-volume2 → tie.Start
+y-entry c = x-entry (c .before .before .before .before)
 
-but-x-requires-3 : tie.Need-but-x-requires-3
-but-x-requires-3 c κs = c .before .before .pre .2
-
-volume-requires : tie.Need-volume-requires
-volume-requires c κs = (c .before .before .but-x .ensures .1, c .before .but-x2 .ensures .1, c .but-x3 .ensures .1)
-
-but-y-requires : tie.Need-but-y-requires
-but-y-requires c κs = c .before .before .before .before .pre .0
-
-but-y-requires-2 : tie.Need-but-y-requires-2
-but-y-requires-2 c κs = c .before .before .before .before .before .pre .1
-
-but-y-requires-3 : tie.Need-but-y-requires-3
-but-y-requires-3 c κs = c .before .before .before .before .before .before .pre .2
-
-volume-requires-2 : tie.Need-volume-requires-2
-volume-requires-2 c κs = (c .before .before .but-y .ensures .1, c .before .but-y2 .ensures .1, c .but-y3 .ensures .1)
-
-but-z-requires : tie.Need-but-z-requires
-but-z-requires c κs = c .before .before .before .before .before .before .before .before .pre .0
-
-but-z-requires-2 : tie.Need-but-z-requires-2
-but-z-requires-2 c κs = c .before .before .before .before .before .before .before .before .before .pre .1
-
-but-z-requires-3 : tie.Need-but-z-requires-3
-but-z-requires-3 c κs = c .before .before .before .before .before .before .before .before .before .before .pre .2
-
-volume-requires-3 : tie.Need-volume-requires-3
-volume-requires-3 c κs = (c .before .before .but-z .ensures .1, c .before .but-z2 .ensures .1, c .but-z3 .ensures .1)
-
-but-w-requires : tie.Need-but-w-requires
-but-w-requires c κs = c .before .before .before .before .before .before .before .before .before .before .before .before .pre .0
-
-but-w-requires-2 : tie.Need-but-w-requires-2
-but-w-requires-2 c κs = c .before .before .before .before .before .before .before .before .before .before .before .before .before .pre .1
-
-but-w-requires-3 : tie.Need-but-w-requires-3
-but-w-requires-3 c κs =
-    c .before .before .before .before .before .before .before .before .before .before .before .before .before .before .pre .2
-
-volume-requires-4 : tie.Need-volume-requires-4
-volume-requires-4 c κs = (c .before .before .but-w .ensures .1, c .before .but-w2 .ensures .1, c .but-w3 .ensures .1)
+abbrev z-entry : tie.After-volume3 → tie.Start
+z-entry c = y-entry (c .before .before .before .before)
 
 returns : tie.Need-returns
 returns c =
-    let x = c .before .before .before .before .before .before .before .before .before .before .before .before in
-    let y = c .before .before .before .before .before .before .before .before in
-    let z = c .before .before .before .before in
     let w = c in
+    let z = w .before .before .before .before in
+    let y = z .before .before .before .before in
+    let x = y .before .before .before .before in
     λ i.
     record {
       x =
@@ -87,6 +49,10 @@ returns c =
 pub plane-spec : {M : Type 1} → statement M
 plane-spec =
     tie.close
-    (tie.spec but-x-requires but-x-requires-2 but-x-requires-3 volume-requires but-y-requires but-y-requires-2 but-y-requires-3
-    volume-requires-2 but-z-requires but-z-requires-2 but-z-requires-3 volume-requires-3 but-w-requires but-w-requires-2 but-w-requires-3
-    volume-requires-4 returns)
+    (tie.spec (λ c κs. search needs) (λ c κs. search needs) (λ c κs. search needs) (λ c κs. search needs) (λ c κs. x-entry c .pre .0)
+    (λ c κs. x-entry (c .before) .pre .1) (λ c κs. x-entry (c .before .before) .pre .2)
+    (λ c κs. (c .before .before .but-y .ensures .1, c .before .but-y2 .ensures .1, c .but-y3 .ensures .1)) (λ c κs. y-entry c .pre .0)
+    (λ c κs. y-entry (c .before) .pre .1) (λ c κs. y-entry (c .before .before) .pre .2)
+    (λ c κs. (c .before .before .but-z .ensures .1, c .before .but-z2 .ensures .1, c .but-z3 .ensures .1)) (λ c κs. z-entry c .pre .0)
+    (λ c κs. z-entry (c .before) .pre .1) (λ c κs. z-entry (c .before .before) .pre .2)
+    (λ c κs. (c .before .before .but-w .ensures .1, c .before .but-w2 .ensures .1, c .but-w3 .ensures .1)) returns)

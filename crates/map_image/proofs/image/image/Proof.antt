@@ -4,16 +4,11 @@ use Rattle.map_image.specs.Faults.{image-refused, image-written, fill-re
 use Rattle.map_image.proofs.image.image.Statement.{statement}
 use Rattle.map_image.proofs.image.image.Tie as tie
 
-returns : tie.Need-returns
-returns c = search image-refused
-
 fill-requires : tie.Need-fill-requires
 fill-requires c κs = fill-ready (c .before .before .before .image-fault .ensures) (search needs)
-
-returns-2 : tie.Need-returns-2
-returns-2 c = search image-written
 
 pub image-spec : {M : Type 1} → statement M
 image-spec =
     tie.close
-    (tie.spec (λ c κs. search needs) (λ c. search needs) returns (λ c. search needs) fill-requires (λ c. search needs) returns-2)
+    (tie.spec (λ c κs. search needs) (λ c. search needs) (λ c. search image-refused) (λ c. search needs) fill-requires (λ c. search needs)
+    (λ c. search image-written))

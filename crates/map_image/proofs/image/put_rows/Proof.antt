@@ -20,38 +20,20 @@ Inv-loop s m out₀ e j₀ out j = (j ≤ e) × (e ≡ verts s + 1) × (out ≡ 
 abbrev μ-loop : tie.MeasureT-loop
 μ-loop s m out₀ e j₀ out j = e - j
 
-byte-requires : tie.Need-byte-requires Inv-loop μ-loop
-byte-requires c κs = search needs
-
-byte-requires-2 : tie.Need-byte-requires-2 Inv-loop μ-loop
-byte-requires-2 c κs = search needs
-
-add-e : tie.Need-add-e Inv-loop μ-loop
-add-e c = search needs
-
-add-e-2 : tie.Need-add-e-2 Inv-loop μ-loop
-add-e-2 c = search needs
-
 loop-holds : tie.Need-loop-holds Inv-loop μ-loop
 unfolding filled
 loop-holds c = (omega arith, omega arith, refl, refl)
 
 image-row-requires : tie.Need-image-row-requires Inv-loop μ-loop
-image-row-requires c κs = (c .before .before .before .before .before .before .before .pre .0, omega arith)
+image-row-requires c κs = let after-byte2 = c .before .before .before in (after-byte2 .before .before .before .before .pre .0, omega arith)
 
 put-row-requires : tie.Need-put-row-requires Inv-loop μ-loop
 put-row-requires c κs =
     let l = c .before .before .before in
-    let s = l .before .before .before .before .before in
+    let s = let after-byte2 = l .before in after-byte2 .before .before .before .before in
     let p = s .pre in
     let r = point-room (now (s .args .s)) (p .0 .accepted) (l .loop .j) (omega arith) in
     (row-fits _ _ (p .1) (l .loop .j) (omega arith) (c .image-row .ensures), omega arith)
-
-add-j : tie.Need-add-j Inv-loop μ-loop
-add-j c = omega arith
-
-loop-less : tie.Need-loop-less Inv-loop μ-loop
-loop-less c = omega arith
 
 loop-again : tie.Need-loop-again Inv-loop μ-loop
 loop-again c =
@@ -73,5 +55,5 @@ returns c = all-stored _ _ (c .before .loop .inv .2) (omega arith)
 pub put-rows-spec : {M : Type 1} → statement M
 put-rows-spec =
     tie.close
-    (tie.spec Inv-loop μ-loop byte-requires byte-requires-2 add-e add-e-2 loop-holds image-row-requires put-row-requires add-j loop-less
-    loop-again same-length returns)
+    (tie.spec Inv-loop μ-loop (λ c κs. search needs) (λ c κs. search needs) (λ c. search needs) (λ c. search needs) loop-holds
+    image-row-requires put-row-requires (λ c. omega arith) (λ c. omega arith) loop-again same-length returns)

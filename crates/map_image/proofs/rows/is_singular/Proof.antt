@@ -10,12 +10,15 @@ use Rattle.map_image.proofs.rows.is_singular.Tie as tie
 
 dot-requires : tie.Need-dot-requires
 dot-requires c κs =
-    let s = c .before .before .before .before .before .pre in (rw (c .plane .ensures) (plane-size (s .x) (s .y) (s .z)), s .w)
+    let read = c .before in
+    let s = read .before .before .before .before .pre in (rw (c .plane .ensures) (plane-size (s .x) (s .y) (s .z)), s .w)
 
 returns : tie.Need-returns
 returns c =
+    let after-plane = c .before in
+    let read = after-plane .before in
     zero-test (c .dot .ok)
-    (c .dot .ensures ∙ ap (λ (p : Row). dotOf p (c .before .before .before .before .before .before .args .m .w)) (c .before .plane .ensures)
+    (c .dot .ensures ∙ ap (λ (p : Row). dotOf p (read .before .before .before .before .args .m .w)) (after-plane .plane .ensures)
     ∙ plane-det _ _ _ _)
 
 pub is-singular-spec : {M : Type 1} → statement M

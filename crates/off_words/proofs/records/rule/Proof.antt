@@ -47,22 +47,24 @@ returns-6 : tie.Need-returns-6
 returns-6 c =
     let r = c .before .before in
     let t = r .before .before .before in
-    passed _ _ _ _ (t .before .before .before .before .before .if1 .left)
+    let fifth = t .before in
+    passed _ _ _ _ (fifth .before .before .before .before .if1 .left)
     (passed _ _ _ _ (t .before .before .before .before .if2 .left)
     (passed _ _ _ _ (t .before .before .before .if3 .left)
     (passed _ _ _ _ (t .before .before .if4 .left)
-    (passed _ _ _ _ (t .before .if5 .left)
+    (passed _ _ _ _ (fifth .if5 .left)
     (picked _ _ _ _ (t .if6 .taken) (r .word6 .ensures))))))
 
 returns-7 : tie.Need-returns-7
 returns-7 c =
     let r = c .before .before in
     let t = r .before .before .before in
-    passed _ _ _ _ (t .before .before .before .before .before .before .if1 .left)
-    (passed _ _ _ _ (t .before .before .before .before .before .if2 .left)
+    let fifth = t .before .before in
+    passed _ _ _ _ (fifth .before .before .before .before .if1 .left)
+    (passed _ _ _ _ (fifth .before .before .before .if2 .left)
     (passed _ _ _ _ (t .before .before .before .before .if3 .left)
     (passed _ _ _ _ (t .before .before .before .if4 .left)
-    (passed _ _ _ _ (t .before .before .if5 .left)
+    (passed _ _ _ _ (fifth .if5 .left)
     (passed _ _ _ _ (t .before .if6 .left)
     (picked _ _ _ _ (t .if7 .taken) (r .word7 .ensures)))))))
 
@@ -70,11 +72,12 @@ returns-8 : tie.Need-returns-8
 returns-8 c =
     let r = c .before .before in
     let t = r .before .before .before in
-    passed _ _ _ _ (t .before .before .before .before .before .before .if1 .left)
-    (passed _ _ _ _ (t .before .before .before .before .before .if2 .left)
+    let fifth = t .before .before in
+    passed _ _ _ _ (fifth .before .before .before .before .if1 .left)
+    (passed _ _ _ _ (fifth .before .before .before .if2 .left)
     (passed _ _ _ _ (t .before .before .before .before .if3 .left)
     (passed _ _ _ _ (t .before .before .before .if4 .left)
-    (passed _ _ _ _ (t .before .before .if5 .left)
+    (passed _ _ _ _ (fifth .if5 .left)
     (passed _ _ _ _ (t .before .if6 .left)
     (passed _ _ _ _ (t .if7 .left) (r .word8 .ensures)))))))
 

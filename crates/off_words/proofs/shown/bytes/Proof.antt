@@ -21,7 +21,7 @@ loop-holds c = (omega arith, put-nothing _ _ (omega arith))
 loop-again : tie.Need-loop-again Inv-loop μ-loop
 loop-again c =
     let r = c .before .before in
-    let l = r .before .before .before .before .before in
+    let l = let after-shown-byte = r .before in after-shown-byte .before .before .before .before in
     let w = l .before .before .before .before .args .w .now in
     (omega arith, shown-more w (l .loop .i) (l .loop .inv .1) (omega arith) (r .before .shown-byte .ensures) (r .byte .ensures))
 

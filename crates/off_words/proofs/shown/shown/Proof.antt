@@ -15,13 +15,14 @@ returns c =
 
 slice-aggregate-bytes : tie.Need-slice-aggregate-bytes
 slice-aggregate-bytes c =
-    let w = c .before .before .before .before .before .args .w .now in
+    let w = let passed = c .before .before in passed .before .before .before .args .w .now in
     sym (length-take-le 24 w (omega arith))
 
 returns-2 : tie.Need-returns-2
 returns-2 c =
     let r2 = c .before .before in
-    let r1 = r2 .before .before .before .before .before in
+    let back1 = r2 .before .before .before .before in
+    let r1 = back1 .before in
     shown-long _ (r1 .before .before .before .if1 .left) (end-to-end (r1 .bytes2 .ensures) (r2 .word .ensures))
 
 pub shown-spec : {M : Type 1} → statement M

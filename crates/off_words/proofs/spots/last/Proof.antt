@@ -18,28 +18,8 @@ abbrev μ-loop : tie.MeasureT-loop
 loop-holds : tie.Need-loop-holds Inv-loop μ-loop
 loop-holds c = (refl, refl, omega arith, omega arith, omega arith)
 
-shared-slice-read-c : tie.Need-shared-slice-read-c Inv-loop μ-loop
-shared-slice-read-c c = search turns
-
-line-behind-requires : tie.Need-line-behind-requires Inv-loop μ-loop
-line-behind-requires c κs = search turns
-
-column-behind-requires : tie.Need-column-behind-requires Inv-loop μ-loop
-column-behind-requires c κs = search turns
-
-add-i : tie.Need-add-i Inv-loop μ-loop
-add-i c = search turns
-
-loop-less : tie.Need-loop-less Inv-loop μ-loop
-loop-less c = search turns
-
-loop-again : tie.Need-loop-again Inv-loop μ-loop
-loop-again c = search turns
-
-returns : tie.Need-returns Inv-loop μ-loop
-returns c = search turns
-
 pub last-spec : {M : Type 1} → statement M
 last-spec =
     tie.close
-    (tie.spec Inv-loop μ-loop loop-holds shared-slice-read-c line-behind-requires column-behind-requires add-i loop-less loop-again returns)
+    (tie.spec Inv-loop μ-loop loop-holds (λ c. search turns) (λ c κs. search turns) (λ c κs. search turns) (λ c. search turns)
+    (λ c. search turns) (λ c. search turns) (λ c. search turns))

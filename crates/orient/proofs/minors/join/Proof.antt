@@ -12,7 +12,10 @@ b-fits c = search needs
 
 cross-requires-6 : tie.Need-cross-requires-6
 cross-requires-6 c κs =
-    let s = c .before .before .before .before .before .before .before .before .before .before .before .before .before in
+    let after-cross = c .before in
+    let read = after-cross .before .before .before .before in
+    let read2 = read .before .before .before .before in
+    let s = read2 .before .before .before .before in
     cross-ask (a-fits s .z) (a-fits s .w) (b-fits s .z) (b-fits s .w) (s .pre .zw)
 
 returns : tie.Need-returns
@@ -22,7 +25,9 @@ returns c =
     let c3 = c4 .before in
     let c2 = c3 .before in
     let c1 = c2 .before in
-    let s = c1 .before .before .before .before .before .before .before .before .before in
+    let read = c1 .before in
+    let read2 = read .before .before .before .before in
+    let s = read2 .before .before .before .before in
     let a = a-fits s in
     let b = b-fits s in
     λ i.

@@ -6,6 +6,12 @@ use Rattle.orient.specs.Bits.{RowFits, room}
 use Rattle.orient.proofs.minors.less.Statement.{statement}
 use Rattle.orient.proofs.minors.less.Tie as tie
 
+abbrev entry : tie.After-struct-told6 → tie.Start
+entry c =
+    let read = c .before .before .before .before in
+    let read2 = read .before .before .before .before in
+    read2 .before .before .before .before
+
 a-fits : (c : tie.Start) → RowFits (c .args .a)
 a-fits c = search needs
 
@@ -19,17 +25,18 @@ sub-t3 c =
 
 sub-t4 : tie.Need-sub-t4
 sub-t4 c =
-    let s = c .before .before .before .before .before .before .before .before in
+    let read = c .before .before .before .before in
+    let s = read .before .before .before .before in
     fit (less (var (a-fits s .y)) (var (b-fits s .y)) (room (s .pre .y)))
 
 sub-t5 : tie.Need-sub-t5
 sub-t5 c =
-    let s = c .before .before .before .before .before .before .before .before .before .before .before .before in
+    let s = entry c in
     fit (less (var (a-fits s .z)) (var (b-fits s .z)) (room (s .pre .z)))
 
 returns : tie.Need-returns
 returns c =
-    let s = c .before .before .before .before .before .before .before .before .before .before .before .before in
+    let s = entry c in
     λ i.
     record {
       x = kept (less (var (a-fits s .x)) (var (b-fits s .x)) (room (s .pre .x))) i;

@@ -5,6 +5,12 @@ use Rattle.orient.specs.Bits.{LineFits, ask-one, ask-two, met}
 use Rattle.orient.proofs.minors.meet.Statement.{statement}
 use Rattle.orient.proofs.minors.meet.Tie as tie
 
+abbrev after-three : tie.After-three2 → tie.After-three
+after-three c = let read = c .before .before .before in read .before .before .before .before
+
+abbrev entry : tie.After-three → tie.Start
+entry c = let read = c .before .before .before in read .before .before .before .before
+
 l-fits : (c : tie.Start) → LineFits (c .args .l)
 l-fits c = search needs
 
@@ -12,23 +18,28 @@ m-fits : (c : tie.Start) → LineFits (c .args .m)
 m-fits c = search needs
 
 three-requires : tie.Need-three-requires
-three-requires c κs = let s = c .before .before .before .before .before .before in ask-one (l-fits s) (m-fits s) (s .pre)
+three-requires c κs =
+    let read = c .before .before in
+    let s = read .before .before .before .before in ask-one (l-fits s) (m-fits s) (s .pre)
 
 three-requires-2 : tie.Need-three-requires-2
 three-requires-2 c κs =
-    let s = c .before .before .before .before .before .before .before .before .before .before .before .before .before in
+    let read = c .before .before in
+    let after-three2 = read .before .before .before .before in
+    let read2 = after-three2 .before .before .before in
+    let s = read2 .before .before .before .before in
     ask-two (l-fits s) (m-fits s) (s .pre)
 
 add-result : tie.Need-add-result
 add-result c =
-    let d = c .before .before .before .before .before .before .before in
-    let s = d .before .before .before .before .before .before .before in
+    let d = after-three c in
+    let s = entry d in
     fit (met (l-fits s) (m-fits s) (s .pre) (d .three .ensures) (c .three2 .ensures))
 
 returns : tie.Need-returns
 returns c =
-    let d = c .before .before .before .before .before .before .before in
-    let s = d .before .before .before .before .before .before .before in
+    let d = after-three c in
+    let s = entry d in
     kept (met (l-fits s) (m-fits s) (s .pre) (d .three .ensures) (c .three2 .ensures))
 
 pub meet-spec : {M : Type 1} → statement M

@@ -9,6 +9,15 @@ use Rattle.orient.specs.Bits.{RowFits, cross-ask, triple-read}
 use Rattle.orient.proofs.minors.triple.Statement.{statement}
 use Rattle.orient.proofs.minors.triple.Tie as tie
 
+abbrev entry : tie.After-cross → tie.Start
+entry c = let read = c .before in read .before .before .before .before
+
+abbrev after-cross : tie.After-cross2 → tie.After-cross
+after-cross c = let read = c .before in read .before .before .before .before
+
+abbrev after-cross2 : tie.After-cross3 → tie.After-cross2
+after-cross2 c = let read = c .before in read .before .before .before .before
+
 p-fits : (c : tie.Start) → RowFits (c .args .p)
 p-fits c = search needs
 
@@ -26,22 +35,22 @@ cross-requires c κs =
 cross-requires-2 : tie.Need-cross-requires-2
 cross-requires-2 c κs =
     let c1 = c .before .before .before .before in
-    let s = c1 .before .before .before .before .before in
+    let s = entry c1 in
     cross-ask (q-fits s .x) (q-fits s .z) (r-fits s .x) (r-fits s .z) (s .pre .y)
 
 cross-requires-3 : tie.Need-cross-requires-3
 cross-requires-3 c κs =
     let c2 = c .before .before .before .before in
-    let c1 = c2 .before .before .before .before .before in
-    let s = c1 .before .before .before .before .before in
+    let c1 = after-cross c2 in
+    let s = entry c1 in
     cross-ask (q-fits s .x) (q-fits s .y) (r-fits s .x) (r-fits s .y) (s .pre .z)
 
 three-requires : tie.Need-three-requires
 three-requires c κs =
     let c3 = c .before .before .before in
-    let c2 = c3 .before .before .before .before .before in
-    let c1 = c2 .before .before .before .before .before in
-    let s = c1 .before .before .before .before .before in
+    let c2 = after-cross2 c3 in
+    let c1 = after-cross c2 in
+    let s = entry c1 in
     subst (λ (n : ℕ). n ≤ mostFormed)
     (sym
     (triple-read (p-fits s) (q-fits s) (r-fits s) threeSize (c1 .cross .ok) (c1 .cross .ensures) (c2 .cross2 .ok) (c2 .cross2 .ensures)
@@ -51,9 +60,9 @@ three-requires c κs =
 returns : tie.Need-returns
 returns c =
     let c3 = c .before .before .before .before in
-    let c2 = c3 .before .before .before .before .before in
-    let c1 = c2 .before .before .before .before .before in
-    let s = c1 .before .before .before .before .before in
+    let c2 = after-cross2 c3 in
+    let c1 = after-cross c2 in
+    let s = entry c1 in
     called (c .three .ok)
     (c .three .ensures
     ∙ triple-read (p-fits s) (q-fits s) (r-fits s) threeOf (c1 .cross .ok) (c1 .cross .ensures) (c2 .cross2 .ok) (c2 .cross2 .ensures)

@@ -16,10 +16,14 @@ q-fits : (c : tie.Start) → SFits w64 (c .args .q .n)
 q-fits c = search needs
 
 returns : tie.Need-returns
-returns c = let s = c .before .before .before .before .before in (ap digit (less-read (q-fits s) (p-fits s) (c .if1 .taken)), lit≤ tt)
+returns c =
+    let read = c .before in
+    let s = read .before .before .before .before in (ap digit (less-read (q-fits s) (p-fits s) (c .if1 .taken)), lit≤ tt)
 
 returns-2 : tie.Need-returns-2
-returns-2 c = let s = c .before .before .before .before .before in (ap digit (less-read (q-fits s) (p-fits s) (c .if1 .left)), lit≤ tt)
+returns-2 c =
+    let read = c .before in
+    let s = read .before .before .before .before in (ap digit (less-read (q-fits s) (p-fits s) (c .if1 .left)), lit≤ tt)
 
 pub swapped-spec : {M : Type 1} → statement M
 swapped-spec = tie.close (tie.spec returns returns-2)

@@ -6,19 +6,23 @@ use Rattle.print_answers.proofs.found.verdict.Statement.{statement}
 use Rattle.print_answers.proofs.found.verdict.Tie as tie
 
 returns : tie.Need-returns
-returns c = by-case foundLine (c .before .before .before .before .before .v .given .1) (c .before .before .refused .ensures)
+returns c = let done = c .before .before in by-case foundLine (done .before .before .before .v .given .1) (done .refused .ensures)
 
 returns-2 : tie.Need-returns-2
-returns-2 c = by-case foundLine (c .before .before .before .before .before .v2 .given .1) (c .before .before .cross .ensures)
+returns-2 c = let done = c .before .before in by-case foundLine (done .before .before .before .v2 .given .1) (done .cross .ensures)
 
 returns-3 : tie.Need-returns-3
-returns-3 c = by-case foundLine (c .before .before .before .before .before .before .v3 .given .1) (c .before .before .enclosed .ensures)
+returns-3 c =
+    let done = c .before .before in
+    by-case foundLine (done .before .before .before .before .v3 .given .1) (done .enclosed .ensures)
 
 returns-4 : tie.Need-returns-4
-returns-4 c = by-case foundLine (c .before .before .before .before .before .before .v4 .given .1) (c .before .before .enclosed2 .ensures)
+returns-4 c =
+    let done = c .before .before in
+    by-case foundLine (done .before .before .before .before .v4 .given .1) (done .enclosed2 .ensures)
 
 returns-5 : tie.Need-returns-5
-returns-5 c = by-case foundLine (c .before .before .before .before .before .enum-told .given .1) (c .before .before .word .ensures)
+returns-5 c = let done = c .before .before in by-case foundLine (done .before .before .before .enum-told .given .1) (done .word .ensures)
 
 pub verdict-spec : {M : Type 1} → statement M
 verdict-spec =

@@ -17,25 +17,8 @@ loop-holds : tie.Need-loop-holds Inv-loop μ-loop
 unfolding areTouched
 loop-holds c = search loops
 
-is-touched-requires : tie.Need-is-touched-requires Inv-loop μ-loop
-is-touched-requires c κs = search loops
-
-returns : tie.Need-returns Inv-loop μ-loop
-returns c = search loops
-
-add-i : tie.Need-add-i Inv-loop μ-loop
-add-i c = search loops
-
-loop-less : tie.Need-loop-less Inv-loop μ-loop
-loop-less c = search loops
-
-loop-again : tie.Need-loop-again Inv-loop μ-loop
-loop-again c = search loops
-
-returns-2 : tie.Need-returns-2 Inv-loop μ-loop
-returns-2 c = search loops
-
 pub are-touched-spec : {M : Type 1} → statement M
 are-touched-spec =
     tie.close
-    (tie.spec Inv-loop μ-loop loop-holds is-touched-requires returns add-i loop-less loop-again returns-2)
+    (tie.spec Inv-loop μ-loop loop-holds (λ c κs. search loops) (λ c. search loops) (λ c. search loops) (λ c. search loops)
+    (λ c. search loops) (λ c. search loops))

@@ -15,35 +15,12 @@ Inv-loop l₀ i₀ l i = (i ≤ length l) × (length l ≡ length l₀) × (take
 abbrev μ-loop : tie.MeasureT-loop
 μ-loop l₀ i₀ l i = length l - i
 
-loop-holds : tie.Need-loop-holds Inv-loop μ-loop
-loop-holds c = search (needs, fill-none)
-
-pattern-requires : tie.Need-pattern-requires Inv-loop μ-loop
-pattern-requires c κs = search needs
-
-mul-l : tie.Need-mul-l Inv-loop μ-loop
-mul-l c = search needs
-
-slice-write-l : tie.Need-slice-write-l Inv-loop μ-loop
-slice-write-l c = search needs
-
-add-i : tie.Need-add-i Inv-loop μ-loop
-add-i c = search needs
-
-loop-less : tie.Need-loop-less Inv-loop μ-loop
-loop-less c = simp length-set (omega arith)
-
 loop-again : tie.Need-loop-again Inv-loop μ-loop
 loop-again c =
     (simp length-set (omega arith), simp length-set (omega arith), search (needs, fill-more))
 
-same-length : tie.Need-same-length Inv-loop μ-loop
-same-length c = search needs
-
-returns : tie.Need-returns Inv-loop μ-loop
-returns c = search (needs, fill-all)
-
 pub fill-spec : {M : Type 1} → statement M
 fill-spec =
     tie.close
-    (tie.spec Inv-loop μ-loop loop-holds pattern-requires mul-l slice-write-l add-i loop-less loop-again same-length returns)
+    (tie.spec Inv-loop μ-loop (λ c. search (needs, fill-none)) (λ c κs. search needs) (λ c. search needs) (λ c. search needs)
+    (λ c. search needs) (λ c. simp length-set (omega arith)) loop-again (λ c. search needs) (λ c. search (needs, fill-all)))

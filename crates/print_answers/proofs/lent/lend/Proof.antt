@@ -6,14 +6,8 @@ use borrow.Author.Needs.{needs}
 use Rattle.print_answers.proofs.lent.lend.Statement.{statement}
 use Rattle.print_answers.proofs.lent.lend.Tie as tie
 
-slice-aggregate-listing : tie.Need-slice-aggregate-listing
-slice-aggregate-listing c = simp length-take (omega arith)
-
-returns : tie.Need-returns
-returns c = search (needs, lent-is)
-
 pub lend-spec : {M : Type 1} → statement M
 lend-spec =
     tie.close
-    (tie.spec (λ c κs. search needs) (λ c κs. search needs) (λ c. search needs) slice-aggregate-listing (λ c κs. search needs)
-    (λ c. search needs) returns)
+    (tie.spec (λ c κs. search needs) (λ c κs. search needs) (λ c. search needs) (λ c. simp length-take (omega arith))
+    (λ c κs. search needs) (λ c. search needs) (λ c. search (needs, lent-is)))

@@ -4,11 +4,8 @@ use borrow.Author.Needs.{needs}
 use Rattle.print_answers.proofs.lent.listed.Statement.{statement}
 use Rattle.print_answers.proofs.lent.listed.Tie as tie
 
-returns : tie.Need-returns
-returns c = search (needs, lent-put)
-
 pub listed-spec : {M : Type 1} → statement M
 listed-spec =
     tie.close
     (tie.spec (λ c κs. search needs) (λ c κs. search needs) (λ c. search needs) (λ c κs. search needs) (λ c κs. search needs)
-    (λ c κs. search needs) (λ c κs. search needs) (λ c. search needs) returns)
+    (λ c κs. search needs) (λ c κs. search needs) (λ c. search needs) (λ c. search (needs, lent-put)))

@@ -6,10 +6,10 @@ use Rattle.print_answers.proofs.lent.listed_line.Statement.{statement}
 use Rattle.print_answers.proofs.lent.listed_line.Tie as tie
 
 returns : tie.Need-returns
-returns c = by-case listedLine (c .before .before .before .before .before .a .given .1) (c .before .before .refused .ensures)
+returns c = let done = c .before .before in by-case listedLine (done .before .before .before .a .given .1) (done .refused .ensures)
 
 returns-2 : tie.Need-returns-2
-returns-2 c = by-case listedLine (c .before .before .before .before .before .a2 .given .1) (c .before .before .pairs .ensures)
+returns-2 c = let done = c .before .before in by-case listedLine (done .before .before .before .a2 .given .1) (done .pairs .ensures)
 
 pub listed-line-spec : {M : Type 1} → statement M
 listed-line-spec =

@@ -5,14 +5,8 @@ use borrow.Author.Needs.{needs}
 use Rattle.print_answers.proofs.reports.head.Statement.{statement}
 use Rattle.print_answers.proofs.reports.head.Tie as tie
 
-returns : tie.Need-returns
-returns c = search head-refused
-
-survey-head-requires : tie.Need-survey-head-requires
-survey-head-requires c κs = search accepted-so
-
 pub head-spec : {M : Type 1} → statement M
 head-spec =
     tie.close
-    (tie.spec (λ c κs. search needs) (λ c. search needs) (λ c κs. search needs) (λ c. search needs) returns (λ c. search needs)
-    survey-head-requires (λ c. search needs) (λ c. search needs))
+    (tie.spec (λ c κs. search needs) (λ c. search needs) (λ c κs. search needs) (λ c. search needs) (λ c. search head-refused)
+    (λ c. search needs) (λ c κs. search accepted-so) (λ c. search needs) (λ c. search needs))

@@ -6,15 +6,17 @@ use Rattle.print_answers.proofs.reports.part.Tie as tie
 
 returns : tie.Need-returns
 returns c =
-    let e = c .before .before .before .before .before in
+    let after-rows = c .before .before in
+    let e = after-rows .before .before .before in
     let p = e .before .before .before .before .listing-part .ensures in
-    (rows-refused _ _ p (e .enum-told .given .1) (c .before .before .rows .ensures), lent-is p)
+    (rows-refused _ _ p (e .enum-told .given .1) (after-rows .rows .ensures), lent-is p)
 
 returns-2 : tie.Need-returns-2
 returns-2 c =
-    let e = c .before .before .before .before .before .before .before in
+    let after-left = c .before .before .before in
+    let e = after-left .before .before .before .before in
     let p = e .before .before .before .before .listing-part .ensures in (
-      rows-listed _ _ p (e .answer .given .1) (c .before .before .before .left .ensures) (c .before .before .rows2 .ensures),
+      rows-listed _ _ p (e .answer .given .1) (after-left .left .ensures) (c .before .before .rows2 .ensures),
       lent-is p,
     )
 

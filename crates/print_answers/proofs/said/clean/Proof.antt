@@ -6,13 +6,15 @@ use Rattle.print_answers.proofs.said.clean.Statement.{statement}
 use Rattle.print_answers.proofs.said.clean.Tie as tie
 
 returns : tie.Need-returns
-returns c = by-case cleanLine (c .before .before .before .before .before .a .given .1) (c .before .before .refused .ensures)
+returns c = let done = c .before .before in by-case cleanLine (done .before .before .before .a .given .1) (done .refused .ensures)
 
 returns-2 : tie.Need-returns-2
-returns-2 c = by-case cleanLine (c .before .before .before .before .before .enum-told .given .1) (c .before .before .word .ensures)
+returns-2 c = let done = c .before .before in by-case cleanLine (done .before .before .before .enum-told .given .1) (done .word .ensures)
 
 returns-3 : tie.Need-returns-3
-returns-3 c = by-case cleanLine (c .before .before .before .before .before .enum-told2 .given .1) (c .before .before .word2 .ensures)
+returns-3 c =
+    let done = c .before .before in
+    by-case cleanLine (done .before .before .before .enum-told2 .given .1) (done .word2 .ensures)
 
 pub clean-spec : {M : Type 1} → statement M
 clean-spec =

@@ -6,10 +6,10 @@ use Rattle.print_answers.proofs.said.mask.Statement.{statement}
 use Rattle.print_answers.proofs.said.mask.Tie as tie
 
 returns : tie.Need-returns
-returns c = by-case maskLine (c .before .before .before .before .before .a .given .1) (c .before .before .refused .ensures)
+returns c = let done = c .before .before in by-case maskLine (done .before .before .before .a .given .1) (done .refused .ensures)
 
 returns-2 : tie.Need-returns-2
-returns-2 c = by-case maskLine (c .before .before .before .before .before .a2 .given .1) (c .before .before .faces .ensures)
+returns-2 c = let done = c .before .before in by-case maskLine (done .before .before .before .a2 .given .1) (done .faces .ensures)
 
 pub mask-spec : {M : Type 1} → statement M
 mask-spec =

@@ -9,13 +9,15 @@ use Rattle.print_answers.proofs.said.plus_or_minus.Tie as tie
 
 returns : tie.Need-returns
 returns c =
+    let after-next-word = c .before .before in
     by (λ (b : Bool). 32 ∷ cond b (ascii "+") (ascii "-"))
-    (c .before .before .before .before .before .if1 .taken) (c .before .before .next-word .ensures)
+    (after-next-word .before .before .before .if1 .taken) (after-next-word .next-word .ensures)
 
 returns-2 : tie.Need-returns-2
 returns-2 c =
+    let after-next-word = c .before .before in
     by (λ (b : Bool). 32 ∷ cond b (ascii "+") (ascii "-"))
-    (c .before .before .before .before .before .if1 .left) (c .before .before .next-word2 .ensures)
+    (after-next-word .before .before .before .if1 .left) (after-next-word .next-word2 .ensures)
 
 pub plus-or-minus-spec : {M : Type 1} → statement M
 plus-or-minus-spec =

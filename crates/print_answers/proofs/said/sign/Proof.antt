@@ -6,10 +6,10 @@ use Rattle.print_answers.proofs.said.sign.Statement.{statement}
 use Rattle.print_answers.proofs.said.sign.Tie as tie
 
 returns : tie.Need-returns
-returns c = by-case signLine (c .before .before .before .before .before .a .given .1) (c .before .before .refused .ensures)
+returns c = let done = c .before .before in by-case signLine (done .before .before .before .a .given .1) (done .refused .ensures)
 
 returns-2 : tie.Need-returns-2
-returns-2 c = by-case signLine (c .before .before .before .before .before .a2 .given .1) (c .before .before .sign-line .ensures)
+returns-2 c = let done = c .before .before in by-case signLine (done .before .before .before .a2 .given .1) (done .sign-line .ensures)
 
 pub sign-spec : {M : Type 1} → statement M
 sign-spec =

@@ -6,13 +6,17 @@ use Rattle.print_answers.proofs.said.yes_or_no.Statement.{statement}
 use Rattle.print_answers.proofs.said.yes_or_no.Tie as tie
 
 returns : tie.Need-returns
-returns c = by-case (answerLine _) (c .before .before .before .before .before .a .given .1) (c .before .before .refused .ensures)
+returns c = let done = c .before .before in by-case (answerLine _) (done .before .before .before .a .given .1) (done .refused .ensures)
 
 returns-2 : tie.Need-returns-2
-returns-2 c = by-case (answerLine _) (c .before .before .before .before .before .enum-told .given .1) (c .before .before .said .ensures)
+returns-2 c =
+    let done = c .before .before in
+    by-case (answerLine _) (done .before .before .before .enum-told .given .1) (done .said .ensures)
 
 returns-3 : tie.Need-returns-3
-returns-3 c = by-case (answerLine _) (c .before .before .before .before .before .enum-told2 .given .1) (c .before .before .said2 .ensures)
+returns-3 c =
+    let done = c .before .before in
+    by-case (answerLine _) (done .before .before .before .enum-told2 .given .1) (done .said2 .ensures)
 
 pub yes-or-no-spec : {M : Type 1} → statement M
 yes-or-no-spec =

@@ -6,10 +6,10 @@ use Rattle.print_lines.proofs.counts.counts.Statement.{statement}
 use Rattle.print_lines.proofs.counts.counts.Tie as tie
 
 returns : tie.Need-returns
-returns c = by-case countsLine (c .before .before .before .before .before .a .given .1) (c .before .before .refused .ensures)
+returns c = let done = c .before .before in by-case countsLine (done .before .before .before .a .given .1) (done .refused .ensures)
 
 returns-2 : tie.Need-returns-2
-returns-2 c = by-case countsLine (c .before .before .before .before .before .a2 .given .1) (c .before .before .counted .ensures)
+returns-2 c = let done = c .before .before in by-case countsLine (done .before .before .before .a2 .given .1) (done .counted .ensures)
 
 pub counts-spec : {M : Type 1} → statement M
 counts-spec =

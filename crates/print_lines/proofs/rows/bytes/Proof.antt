@@ -20,28 +20,13 @@ returns c = put-full _ _ _ (omega arith)
 loop-holds : tie.Need-loop-holds Inv-loop μ-loop
 loop-holds c = (omega arith, spaced-none (c .before .before .before .args .t .now) (omega arith))
 
-shared-slice-read-next-number : tie.Need-shared-slice-read-next-number Inv-loop μ-loop
-shared-slice-read-next-number c = search needs
-
 cast-next-number : tie.Need-cast-next-number Inv-loop μ-loop
 cast-next-number c = omega (arith, c .shared-slice-known2 .given (c .before .before .before .loop .i))
 
-next-number-requires : tie.Need-next-number-requires Inv-loop μ-loop
-next-number-requires c κs = search needs
-
-add-i : tie.Need-add-i Inv-loop μ-loop
-add-i c = search needs
-
-loop-less : tie.Need-loop-less Inv-loop μ-loop
-loop-less c = search needs
-
 loop-again : tie.Need-loop-again Inv-loop μ-loop
 loop-again c =
-    let l = c .before .before .before .before .before .before in
+    let l = let after-next-number = c .before .before in after-next-number .before .before .before .before in
     (omega arith, spaced-more _ (l .loop .i) (l .loop .inv .1) (omega arith) (c .before .before .next-number .ensures))
-
-same-length : tie.Need-same-length Inv-loop μ-loop
-same-length c = search needs
 
 returns-2 : tie.Need-returns-2 Inv-loop μ-loop
 returns-2 c = spaced-all _ _ (c .before .loop .inv .1) (c .loop-test .left)
@@ -49,5 +34,5 @@ returns-2 c = spaced-all _ _ (c .before .loop .inv .1) (c .loop-test .left)
 pub bytes-spec : {M : Type 1} → statement M
 bytes-spec =
     tie.close
-    (tie.spec Inv-loop μ-loop returns loop-holds shared-slice-read-next-number cast-next-number next-number-requires add-i loop-less
-    loop-again same-length returns-2)
+    (tie.spec Inv-loop μ-loop returns loop-holds (λ c. search needs) cast-next-number (λ c κs. search needs) (λ c. search needs)
+    (λ c. search needs) loop-again (λ c. search needs) returns-2)

@@ -6,10 +6,10 @@ use Rattle.print_lines.proofs.rows.kept.Statement.{statement}
 use Rattle.print_lines.proofs.rows.kept.Tie as tie
 
 returns : tie.Need-returns
-returns c = by-case keptLine (c .before .before .before .before .before .if1 .taken) (c .before .before .word .ensures)
+returns c = let done = c .before .before in by-case keptLine (done .before .before .before .if1 .taken) (done .word .ensures)
 
 returns-2 : tie.Need-returns-2
-returns-2 c = by-case keptLine (c .before .before .before .before .before .if1 .left) (c .before .before .word2 .ensures)
+returns-2 c = let done = c .before .before in by-case keptLine (done .before .before .before .if1 .left) (done .word2 .ensures)
 
 pub kept-spec : {M : Type 1} → statement M
 kept-spec =

@@ -6,19 +6,19 @@ use Rattle.print_lines.proofs.verdicts.verdict_word.Statement.{statemen
 use Rattle.print_lines.proofs.verdicts.verdict_word.Tie as tie
 
 returns : tie.Need-returns
-returns c = by wordOf (c .before .before .before .before .before .enum-told .given .1) (c .before .before .word .ensures)
+returns c = let done = c .before .before in by wordOf (done .before .before .before .enum-told .given .1) (done .word .ensures)
 
 returns-2 : tie.Need-returns-2
-returns-2 c = by wordOf (c .before .before .before .before .before .enum-told2 .given .1) (c .before .before .word2 .ensures)
+returns-2 c = let done = c .before .before in by wordOf (done .before .before .before .enum-told2 .given .1) (done .word2 .ensures)
 
 returns-3 : tie.Need-returns-3
-returns-3 c = by wordOf (c .before .before .before .before .before .enum-told3 .given .1) (c .before .before .word3 .ensures)
+returns-3 c = let done = c .before .before in by wordOf (done .before .before .before .enum-told3 .given .1) (done .word3 .ensures)
 
 returns-4 : tie.Need-returns-4
-returns-4 c = by wordOf (c .before .before .before .before .before .enum-told4 .given .1) (c .before .before .word4 .ensures)
+returns-4 c = let done = c .before .before in by wordOf (done .before .before .before .enum-told4 .given .1) (done .word4 .ensures)
 
 returns-5 : tie.Need-returns-5
-returns-5 c = by wordOf (c .before .before .before .before .before .enum-told5 .given .1) (c .before .before .word5 .ensures)
+returns-5 c = let done = c .before .before in by wordOf (done .before .before .before .enum-told5 .given .1) (done .word5 .ensures)
 
 pub verdict-word-spec : {M : Type 1} → statement M
 verdict-word-spec =

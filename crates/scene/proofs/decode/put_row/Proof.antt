@@ -9,7 +9,8 @@ use Rattle.scene.proofs.decode.put_row.Tie as tie
 
 returns : tie.Need-returns
 returns c =
-    let s = c .before .before .before .before .before .before .before .before in
+    let read = c .before .before .before .before in
+    let s = read .before .before .before .before in
     ap (rowSet (now (s .args .a)) (s .args .i)) (row-stored (s .args .p) (s .pre .1))
 
 pub put-row-spec : {M : Type 1} → statement M

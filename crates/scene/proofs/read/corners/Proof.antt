@@ -13,7 +13,8 @@ returns c =
 
 returns-2 : tie.Need-returns-2
 returns-2 c =
-    let a = c .before .before .before .before .before .args in sym (face-none (now (a .s)) (a .k) (omega arith))
+    let after-byte = c .before in
+    let a = after-byte .before .before .before .before .args in sym (face-none (now (a .s)) (a .k) (omega arith))
 
 returns-3 : tie.Need-returns-3
 returns-3 c = c .before .face-at .ensures .0 ∙ sym (face-a _ _ (omega arith) (omega arith))
@@ -22,7 +23,7 @@ returns-4 : tie.Need-returns-4
 returns-4 c =
     let c3 = c .before .before .before in
     let c5 = c3 .before .before in
-    let c11 = c5 .before .before .before .before .before .before in
+    let c11 = let after-byte = c5 .before .before in after-byte .before .before .before .before in
     let a = c11 .args in
     ap₂ raise (c3 .byte3 .ensures .0) (c5 .face-at .ensures .0) ∙ sym (face-b (now (a .s)) (a .k) (omega arith) (omega arith))
 

@@ -11,11 +11,13 @@ returns c = c .row-at .ensures ∙ sym (far-is _ (omega arith))
 
 returns-2 : tie.Need-returns-2
 returns-2 c =
-    let a = c .before .before .before .before .before .args in sym (row-none (now (a .s)) (a .i) (omega arith))
+    let after-byte = c .before .before in
+    let a = after-byte .before .before .before .args in sym (row-none (now (a .s)) (a .i) (omega arith))
 
 returns-3 : tie.Need-returns-3
 returns-3 c =
-    let a = c .before .before .before .before .before .before .args in sym (row-zero (now (a .s)) {i = a .i} (omega arith))
+    let after-byte = c .before .before .before in
+    let a = after-byte .before .before .before .args in sym (row-zero (now (a .s)) {i = a .i} (omega arith))
 
 returns-4 : tie.Need-returns-4
 returns-4 c = c .row-at2 .ensures ∙ sym (row-is _ _ (omega arith) (omega arith))

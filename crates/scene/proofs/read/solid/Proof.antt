@@ -4,11 +4,5 @@ use borrow.Author.Needs.{needs}
 use Rattle.scene.proofs.read.solid.Statement.{statement}
 use Rattle.scene.proofs.read.solid.Tie as tie
 
-returns : tie.Need-returns
-returns c = search (counted-a, needs)
-
-returns-2 : tie.Need-returns-2
-returns-2 c = search (counted-b, needs)
-
 pub solid-spec : {M : Type 1} → statement M
-solid-spec = tie.close (tie.spec (λ c κs. search needs) returns returns-2)
+solid-spec = tie.close (tie.spec (λ c κs. search needs) (λ c. search (counted-a, needs)) (λ c. search (counted-b, needs)))

@@ -7,19 +7,23 @@ use borrow.Author.Needs.{needs}
 use Rattle.scene.proofs.write.put_header.Statement.{statement}
 use Rattle.scene.proofs.write.put_header.Tie as tie
 
+abbrev after-put-two : tie.After-struct-known4 → tie.After-put-two
+after-put-two c = let read = c .before .before in read .before .before .before .before
+
 slice-write-out-2 : tie.Need-slice-write-out-2
 slice-write-out-2 c = simp length-set (omega (arith, ap length (c .before .before .before .before .put-two .ensures) ∙ two-length _ _ _))
 
 slice-write-out-3 : tie.Need-slice-write-out-3
 slice-write-out-3 c =
-    simp length-set (omega (arith, ap length (c .before .before .before .before .before .put-two .ensures) ∙ two-length _ _ _))
+    let back = c .before .before .before .before in
+    simp length-set (omega (arith, ap length (back .before .put-two .ensures) ∙ two-length _ _ _))
 
 slice-write-out-4 : tie.Need-slice-write-out-4
 slice-write-out-4 c =
-    simp length-set (omega (arith, ap length (c .before .before .before .before .before .before .put-two .ensures) ∙ two-length _ _ _))
+    simp length-set (omega (arith, ap length (after-put-two c .put-two .ensures) ∙ two-length _ _ _))
 
 returns : tie.Need-returns
-returns c = header-stored _ _ (c .before .before .before .before .before .before .put-two .ensures)
+returns c = header-stored _ _ (after-put-two c .put-two .ensures)
 
 pub put-header-spec : {M : Type 1} → statement M
 put-header-spec =

@@ -10,23 +10,33 @@ use borrow.Author.Needs.{needs}
 use Rattle.scene.proofs.write.put_row.Statement.{statement}
 use Rattle.scene.proofs.write.put_row.Tie as tie
 
+-- after the first, the second and the third number of two bytes, and before them all
+abbrev third : tie.After-unsigned4 → tie.After-put-two3
+third c = c .before .before .before .before
+
+abbrev second : tie.After-put-two3 → tie.After-put-two2
+second c = let read = c .before .before in read .before .before .before .before
+
+abbrev first : tie.After-put-two2 → tie.After-put-two
+first c = let read = c .before .before in read .before .before .before .before
+
+abbrev entry : tie.After-put-two → tie.Start
+entry c = let after-unsigned = c .before in after-unsigned .before .before .before .before
+
 returns : tie.Need-returns
 returns c =
-    let p =
-    c .before .before .before .before .before .before .before .before .before .before .before .before .before .before .before
-    .before .before .before .before .before .before .args .p in
+    let p = entry (first (second (third c))) .args .p in
     let fx : SFits w64 (p .x) = search needs in
     let fy : SFits w64 (p .y) = search needs in
     let fz : SFits w64 (p .z) = search needs in
     let fw : SFits w64 (p .w) = search needs in
-    let c4 = c .before .before .before .before in
-    let c5 = c4 .before in
-    let c10 = c5 .before .before .before .before .before in
-    let c11 = c10 .before in
-    let c16 = c11 .before .before .before .before .before in
+    let c4 = third c in
+    let c10 = second c4 in
+    let c16 = first c10 in
     row-stored _ _ p (c16 .put-two .ensures) (c10 .put-two2 .ensures) (c4 .put-two3 .ensures)
-    (c16 .before .unsigned .ensures .0 ∙ ap (unsigned 32768) (toZ-ofZ fx)) (c11 .unsigned2 .ensures .0 ∙ ap (unsigned 32768) (toZ-ofZ fy))
-    (c5 .unsigned3 .ensures .0 ∙ ap (unsigned 32768) (toZ-ofZ fz)) (c .unsigned4 .ensures .0 ∙ ap (unsigned 128) (toZ-ofZ fw))
+    (c16 .before .unsigned .ensures .0 ∙ ap (unsigned 32768) (toZ-ofZ fx))
+    (c10 .before .unsigned2 .ensures .0 ∙ ap (unsigned 32768) (toZ-ofZ fy))
+    (c4 .before .unsigned3 .ensures .0 ∙ ap (unsigned 32768) (toZ-ofZ fz)) (c .unsigned4 .ensures .0 ∙ ap (unsigned 128) (toZ-ofZ fw))
 
 same-length : tie.Need-same-length
 same-length c = ap length (returns c) ∙ row-length _ _ _

@@ -7,9 +7,6 @@ use borrow.Author.Needs.{needs}
 use Rattle.scene.proofs.write.put_two.Statement.{statement}
 use Rattle.scene.proofs.write.put_two.Tie as tie
 
-slice-write-out-2 : tie.Need-slice-write-out-2
-slice-write-out-2 c = simp length-set (omega arith)
-
 returns : tie.Need-returns
 unfolding twoPut
 returns c = simp towards-suc
@@ -17,4 +14,5 @@ returns c = simp towards-suc
 pub put-two-spec : {M : Type 1} → statement M
 put-two-spec =
     tie.close
-    (tie.spec (λ c. search needs) (λ c. search needs) (λ c. search needs) (λ c. search needs) slice-write-out-2 (λ c. search needs) returns)
+    (tie.spec (λ c. search needs) (λ c. search needs) (λ c. search needs) (λ c. search needs) (λ c. simp length-set (omega arith))
+    (λ c. search needs) returns)

@@ -12,7 +12,7 @@ slice-aggregate-far-fault c = sym (length-take-le _ _ (c .before .before .size .
 
 with-row-requires : tie.Need-with-row-requires
 with-row-requires c κs =
-    let c5 = c .before .before .before .before .before in
+    let c5 = let after-far-fault = c .before .before in after-far-fault .before .before .before in
     let c6 = c5 .before in
     let w = c5 .size .ensures in
     let l = length-take-le (c5 .size .result) (c6 .args .self .bytes) (w .within) in
@@ -29,8 +29,9 @@ returns c =
 returns-2 : tie.Need-returns-2
 unfolding farMovedOf
 returns-2 c =
-    let w = c .before .before .before .before .before .before .size .ensures in
-    changed-so _ _ (rw (w .same) at (c .before .before .before .far-fault .ensures)) (c .before .enum-told .given .1) (w .long)
+    let after-far-fault = c .before .before .before in
+    let w = after-far-fault .before .before .before .size .ensures in
+    changed-so _ _ (rw (w .same) at (after-far-fault .far-fault .ensures)) (c .before .enum-told .given .1) (w .long)
     (c .with-row .ensures)
 
 pub move-far-spec : {M : Type 1} → statement M

@@ -12,7 +12,7 @@ slice-aggregate-vertex-fault c = sym (length-take-le _ _ (c .before .before .siz
 
 with-row-requires : tie.Need-with-row-requires
 with-row-requires c κs =
-    let c5 = c .before .before .before .before .before in
+    let c5 = let after-vertex-fault = c .before .before in after-vertex-fault .before .before .before in
     let c6 = c5 .before in
     let w = c5 .size .ensures in
     let l = length-take-le (c5 .size .result) (c6 .args .self .bytes) (w .within) in
@@ -29,8 +29,9 @@ returns c =
 returns-2 : tie.Need-returns-2
 unfolding movedOf
 returns-2 c =
-    let w = c .before .before .before .before .before .before .size .ensures in
-    changed-so _ _ (rw (w .same) at (c .before .before .before .vertex-fault .ensures)) (c .before .enum-told .given .1) (w .long)
+    let after-vertex-fault = c .before .before .before in
+    let w = after-vertex-fault .before .before .before .size .ensures in
+    changed-so _ _ (rw (w .same) at (after-vertex-fault .vertex-fault .ensures)) (c .before .enum-told .given .1) (w .long)
     (c .with-row .ensures)
 
 pub move-vertex-spec : {M : Type 1} → statement M

@@ -15,7 +15,7 @@ sub-with-face c = let f = turn-free _ _ (sym (c .before .before .turn-fault .ens
 
 with-face-requires : tie.Need-with-face-requires
 with-face-requires c κs =
-    let c5 = c .before .before .before .before .before in
+    let c5 = let after-turn-fault = c .before .before in after-turn-fault .before .before .before in
     let c6 = c5 .before in
     let w = c5 .size .ensures in
     let l = length-take-le (c5 .size .result) (c6 .args .self .bytes) (w .within) in

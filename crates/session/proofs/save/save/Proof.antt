@@ -10,7 +10,9 @@ slice-aggregate-save-fault : tie.Need-slice-aggregate-save-fault
 slice-aggregate-save-fault c = sym (length-take-le _ _ (c .before .before .size .ensures .within))
 
 slice-aggregate-copy : tie.Need-slice-aggregate-copy
-slice-aggregate-copy c = sym (length-take-le _ _ (c .before .before .before .before .before .before .size .ensures .within))
+slice-aggregate-copy c =
+    let after-save-fault = c .before .before .before in
+    sym (length-take-le _ _ (after-save-fault .before .before .before .size .ensures .within))
 
 copy-requires : tie.Need-copy-requires
 copy-requires c κs = save-room _ _ (sym (c .before .before .before .before .save-fault .ensures) ∙ c .before .before .enum-told .given .1)
@@ -23,11 +25,12 @@ returns c =
 
 returns-2 : tie.Need-returns-2
 returns-2 c =
-    let c5 = c .before .before .before .before .before in
+    let after-copy = c .before .before in
+    let c5 = after-copy .before .before .before in
     let c7 = c5 .before .before in
     let c10 = c7 .before .before .before in
     let same = c10 .size .ensures .same in
-    saved-so _ _ (rw same at (c7 .save-fault .ensures)) refl (c5 .enum-told .given .1) (rw same at (c .before .before .copy .ensures))
+    saved-so _ _ (rw same at (c7 .save-fault .ensures)) refl (c5 .enum-told .given .1) (rw same at (after-copy .copy .ensures))
 
 pub save-spec : {M : Type 1} → statement M
 save-spec =

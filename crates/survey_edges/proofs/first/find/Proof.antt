@@ -18,24 +18,6 @@ abbrev μ-loop : tie.MeasureT-loop
 loop-holds : tie.Need-loop-holds Inv-loop μ-loop
 loop-holds c = (omega arith, first-start _)
 
-find-entry-requires : tie.Need-find-entry-requires Inv-loop μ-loop
-find-entry-requires c κs = search needs
-
-enum-known-u : tie.Need-enum-known-u Inv-loop μ-loop
-enum-known-u c = search needs
-
-returns : tie.Need-returns Inv-loop μ-loop
-returns c = search first-found
-
-enum-told : tie.Need-enum-told Inv-loop μ-loop
-enum-told c = search needs
-
-add-j : tie.Need-add-j Inv-loop μ-loop
-add-j c = search needs
-
-loop-less : tie.Need-loop-less Inv-loop μ-loop
-loop-less c = search needs
-
 loop-again : tie.Need-loop-again Inv-loop μ-loop
 loop-again c = (omega arith, search first-more)
 
@@ -45,4 +27,5 @@ returns-2 c = first-end _ (c .before .loop .inv .0) (c .loop-test .left) (c .bef
 pub find-spec : {M : Type 1} → statement M
 find-spec =
     tie.close
-    (tie.spec Inv-loop μ-loop loop-holds find-entry-requires enum-known-u returns enum-told add-j loop-less loop-again returns-2)
+    (tie.spec Inv-loop μ-loop loop-holds (λ c κs. search needs) (λ c. search needs) (λ c. search first-found) (λ c. search needs)
+    (λ c. search needs) (λ c. search needs) loop-again returns-2)

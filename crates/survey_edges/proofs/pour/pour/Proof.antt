@@ -28,15 +28,10 @@ pour-entry-requires c κs =
     (λ i. entry-most (s .first) (entryIn (now (s .ends)) (now (s .masks)) i)) (l .loop .inv .1) in
     (omega arith, omega arith, omega (arith, r))
 
-add-j : tie.Need-add-j Inv-loop μ-loop
-add-j c = search needs
-
-loop-less : tie.Need-loop-less Inv-loop μ-loop
-loop-less c = search needs
-
 loop-again : tie.Need-loop-again Inv-loop μ-loop
 loop-again c =
-    (omega arith, pours-next _ _ (c .before .before .before .before .before .loop .inv .1) (c .before .before .pour-entry .ensures))
+    let after-pour-entry = c .before .before in
+    (omega arith, pours-next _ _ (after-pour-entry .before .before .before .loop .inv .1) (after-pour-entry .pour-entry .ensures))
 
 same-length : tie.Need-same-length Inv-loop μ-loop
 same-length c = c .before .loop .inv .1 .long
@@ -47,4 +42,4 @@ returns c = pours-all _ (c .before .loop .inv .0) (c .loop-test .left) (c .befor
 pub pour-spec : {M : Type 1} → statement M
 pour-spec =
     tie.close
-    (tie.spec Inv-loop μ-loop loop-holds pour-entry-requires add-j loop-less loop-again same-length returns)
+    (tie.spec Inv-loop μ-loop loop-holds pour-entry-requires (λ c. search needs) (λ c. search needs) loop-again same-length returns)

@@ -13,7 +13,7 @@ use Rattle.survey_edges.proofs.pour.pour_entry.Tie as tie
 pour-word-requires-2 : tie.Need-pour-word-requires-2
 pour-word-requires-2 c κs =
     let w = c .before .before .before in
-    let s = w .before .before .before .before .before .before .args in
+    let s = let after-mask-at = w .before .before .before .before in after-mask-at .before .before .args in
     let m = w .before .before .before .before .mask-at .result in (
       search needs,
       omega (
@@ -28,7 +28,7 @@ returns c =
     let w2 = c .before .before in
     let w1 = w2 .before .before .before .before in
     let m = w1 .before .before .before .before .mask-at in
-    let s = w1 .before .before .before .before .before .before .args in
+    let s = let after-mask-at = w1 .before .before .before .before in after-mask-at .before .before .args in
     pours-same (entry-words (s .first) (entryIn (now (s .ends)) (now (s .masks)) (s .j)) (m .result) (m .ensures .0) (search needs))
     (pours-more (w1 .pour-word .ensures) (w2 .pour-word2 .ensures))
 

@@ -26,9 +26,6 @@ loop-holds c = (omega arith, rest-start _ _ _ _ (omega arith))
 cast-t : tie.Need-cast-t Inv-loop μ-loop
 cast-t c = omega (arith, trailing-le 64 (c .before .loop .left))
 
-add-narrow : tie.Need-add-narrow Inv-loop μ-loop
-add-narrow c = search needs
-
 add-narrow-2 : tie.Need-add-narrow-2 Inv-loop μ-loop
 add-narrow-2 c = omega (arith, trailing-le 64 (c .before .before .loop .left))
 
@@ -45,19 +42,18 @@ put-requires c κs =
 
 add-n : tie.Need-add-n Inv-loop μ-loop
 add-n c =
-    let l = c .before .before .before .before .before .before in
+    let l = let after-narrow = c .before .before .before in after-narrow .before .before .before in
     let s = l .before .before .args in
     omega (arith, l .loop .inv .1 .count, hits-most (s .u) (s .v) (s .first) (s .w) 64)
 
-sub-left : tie.Need-sub-left Inv-loop μ-loop
-sub-left c = search needs
-
 loop-less : tie.Need-loop-less Inv-loop μ-loop
-loop-less c = walk-less (c .before .before .before .before .before .before .loop .left) (omega arith)
+loop-less c =
+    let l = let after-narrow = c .before .before .before in after-narrow .before .before .before in
+    walk-less (l .loop .left) (omega arith)
 
 loop-again : tie.Need-loop-again Inv-loop μ-loop
 loop-again c =
-    let l = c .before .before .before .before .before .before in (
+    let l = let after-narrow = c .before .before .before in after-narrow .before .before .before in (
       omega (arith, and-le-r (l .loop .left) (l .loop .left - 1)),
       rest-turn _ _ _ (l .loop .left) (omega arith) (l .loop .inv .0) (c .before .before .before .narrow .ensures) (l .loop .inv .1)
           (c .before .before .put .ensures) (c .before .before .put .kept .0),
@@ -72,5 +68,5 @@ returns c = rest-end _ _ _ (omega arith) (c .before .loop .inv .1)
 pub pour-word-spec : {M : Type 1} → statement M
 pour-word-spec =
     tie.close
-    (tie.spec Inv-loop μ-loop loop-holds cast-t add-narrow add-narrow-2 narrow-requires put-requires add-n sub-left loop-less loop-again
-    same-length returns)
+    (tie.spec Inv-loop μ-loop loop-holds cast-t (λ c. search needs) add-narrow-2 narrow-requires put-requires add-n (λ c. search needs)
+    loop-less loop-again same-length returns)

@@ -9,12 +9,6 @@ use borrow.Author.Needs.{needs}
 use Rattle.survey_edges.proofs.pour.put.Statement.{statement}
 use Rattle.survey_edges.proofs.pour.put.Tie as tie
 
-slice-write-out-2 : tie.Need-slice-write-out-2
-slice-write-out-2 c = simp length-set (omega arith)
-
-slice-write-out-3 : tie.Need-slice-write-out-3
-slice-write-out-3 c = simp length-set (omega arith)
-
 returns : tie.Need-returns
 unfolding stepped
 returns c = rw (le-leb _ _ (c .before .if1 .taken), le-leb _ _ (c .if2 .taken)) (simp towards-suc)
@@ -31,4 +25,5 @@ pub put-spec : {M : Type 1} → statement M
 put-spec =
     tie.close
     (tie.spec (λ c. search needs) (λ c. search needs) (λ c. search needs) (λ c. search needs) (λ c. search needs) (λ c. search needs)
-    slice-write-out-2 (λ c. search needs) (λ c. search needs) slice-write-out-3 (λ c. search needs) returns returns-2 returns-3)
+    (λ c. simp length-set (omega arith)) (λ c. search needs) (λ c. search needs) (λ c. simp length-set (omega arith)) (λ c. search needs)
+    returns returns-2 returns-3)

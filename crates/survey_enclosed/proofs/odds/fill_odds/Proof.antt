@@ -14,9 +14,6 @@ Inv-loop ends masks n low verts odds₀ j₀ odds j = (j ≤ n) × Marked low ve
 abbrev μ-loop : tie.MeasureT-loop
 μ-loop ends masks n low verts odds₀ j₀ odds j = n - j
 
-clear-requires : tie.Need-clear-requires Inv-loop μ-loop
-clear-requires c κs = search needs
-
 loop-holds : tie.Need-loop-holds Inv-loop μ-loop
 loop-holds c = (omega arith, marked-none _ _ _ _ (c .before .before .pre .0 .3) (c .clear .ensures))
 
@@ -25,12 +22,6 @@ mark-entry-requires c κs =
     let l = c .before .before in
     let s = l .before .before .before in
     (omega arith, s .pre .0 .1, s .pre .0 .2, l .loop .inv .1 .size, s .pre .1 (l .loop .j) (omega arith))
-
-add-j : tie.Need-add-j Inv-loop μ-loop
-add-j c = search needs
-
-loop-less : tie.Need-loop-less Inv-loop μ-loop
-loop-less c = search needs
 
 loop-again : tie.Need-loop-again Inv-loop μ-loop
 loop-again c = (omega arith, marked-more _ _ _ _ _ (c .before .before .before .loop .inv .1) (c .mark-entry .ensures))
@@ -41,4 +32,5 @@ returns c = let e : c .before .loop .j ≡ c .before .before .before .before .ar
 pub fill-odds-spec : {M : Type 1} → statement M
 fill-odds-spec =
     tie.close
-    (tie.spec Inv-loop μ-loop clear-requires loop-holds mark-entry-requires add-j loop-less loop-again returns)
+    (tie.spec Inv-loop μ-loop (λ c κs. search needs) loop-holds mark-entry-requires (λ c. search needs) (λ c. search needs) loop-again
+    returns)

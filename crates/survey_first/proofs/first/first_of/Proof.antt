@@ -21,9 +21,6 @@ abbrev μ-loop : tie.MeasureT-loop
 loop-holds : tie.Need-loop-holds Inv-loop μ-loop
 loop-holds c = (omega arith, first-start _)
 
-add-u : tie.Need-add-u Inv-loop μ-loop
-add-u c = search needs
-
 add-u-2 : tie.Need-add-u-2 Inv-loop μ-loop
 add-u-2 c = omega (arith, c .before .before .pre .0 .0 .vertices .1)
 
@@ -32,9 +29,6 @@ mul-higher c = omega (arith, c .before .before .pre .0 .0 .vertices .1)
 
 element-copy-out-higher : tie.Need-element-copy-out-higher Inv-loop μ-loop
 element-copy-out-higher c = omega (arith, c .before .before .pre .0 .0 .vertices .1)
-
-add-higher : tie.Need-add-higher Inv-loop μ-loop
-add-higher c = search needs
 
 shr-higher : tie.Need-shr-higher Inv-loop μ-loop
 shr-higher c = omega (arith, c .before .before .before .pre .0 .0 .vertices .0)
@@ -49,29 +43,12 @@ first-of-vertex-requires c κs =
     let own : Own v (s .args .k) (s .args .k .low + 1 + i) = (omega arith, omega arith) in
     ((o, own, higher v (s .args .k) o i (omega arith) (s .pre .0 .1 _ own)), s .pre .1)
 
-enum-known-found : tie.Need-enum-known-found Inv-loop μ-loop
-enum-known-found c = search needs
-
-returns : tie.Need-returns Inv-loop μ-loop
-returns c = search all-found
-
-enum-told : tie.Need-enum-told Inv-loop μ-loop
-enum-told c = search needs
-
-add-i : tie.Need-add-i Inv-loop μ-loop
-add-i c = search needs
-
-loop-less : tie.Need-loop-less Inv-loop μ-loop
-loop-less c = search needs
-
 loop-again : tie.Need-loop-again Inv-loop μ-loop
 loop-again c = (omega arith, search first-more)
-
-returns-2 : tie.Need-returns-2 Inv-loop μ-loop
-returns-2 c = search all-end
 
 pub first-of-spec : {M : Type 1} → statement M
 first-of-spec =
     tie.close
-    (tie.spec Inv-loop μ-loop loop-holds add-u add-u-2 mul-higher element-copy-out-higher add-higher shr-higher first-of-vertex-requires
-    enum-known-found returns enum-told add-i loop-less loop-again returns-2)
+    (tie.spec Inv-loop μ-loop loop-holds (λ c. search needs) add-u-2 mul-higher element-copy-out-higher (λ c. search needs) shr-higher
+    first-of-vertex-requires (λ c. search needs) (λ c. search all-found) (λ c. search needs) (λ c. search needs) (λ c. search needs)
+    loop-again (λ c. search all-end))

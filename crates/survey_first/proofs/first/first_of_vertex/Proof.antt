@@ -28,9 +28,6 @@ loop-holds c =
     let v = seenIn (s .n) (now (s .rows)) (now (s .corners)) in
     (search needs, omega arith, ap (λ (l : List Entry). firstOf (hitsOf v (s .k) l)) (c .pre .0 .2 .edges))
 
-add-v : tie.Need-add-v Inv-loop μ-loop
-add-v c = search needs
-
 cast-v : tie.Need-cast-v Inv-loop μ-loop
 cast-v c = omega (arith, trailing-le 64 (c .before .loop .left))
 
@@ -46,9 +43,6 @@ first-of-edge-requires c κs =
     let t = left-own v (s .args .k) (s .args .u) (l .loop .left) (p .0) (p .1) (p .2) (l .loop .inv .1) (omega arith) in
     (p .0, ((p .1, t, omega arith), s .pre .1))
 
-enum-known-found : tie.Need-enum-known-found Inv-loop μ-loop
-enum-known-found c = search needs
-
 returns : tie.Need-returns Inv-loop μ-loop
 returns c =
     let f = c .before .before .before in
@@ -58,12 +52,6 @@ returns c =
     search
     (left-found v (s .args .k) (s .args .u) (l .loop .left) (omega arith) (l .loop .inv .0) refl (f .first-of-edge .ensures)
     (l .loop .inv .2))
-
-enum-told : tie.Need-enum-told Inv-loop μ-loop
-enum-told c = search needs
-
-sub-left : tie.Need-sub-left Inv-loop μ-loop
-sub-left c = search needs
 
 loop-less : tie.Need-loop-less Inv-loop μ-loop
 loop-less c = walk-less (c .before .before .before .before .loop .left) (omega arith)
@@ -81,11 +69,8 @@ loop-again c =
           (l .loop .inv .2)),
     )
 
-returns-2 : tie.Need-returns-2 Inv-loop μ-loop
-returns-2 c = search left-end
-
 pub first-of-vertex-spec : {M : Type 1} → statement M
 first-of-vertex-spec =
     tie.close
-    (tie.spec Inv-loop μ-loop loop-holds add-v cast-v add-v-2 first-of-edge-requires enum-known-found returns enum-told sub-left loop-less
-    loop-again returns-2)
+    (tie.spec Inv-loop μ-loop loop-holds (λ c. search needs) cast-v add-v-2 first-of-edge-requires (λ c. search needs) returns
+    (λ c. search needs) (λ c. search needs) loop-less loop-again (λ c. search left-end))

@@ -21,7 +21,7 @@ sides-requires c κs =
 look-from-requires : tie.Need-look-from-requires
 look-from-requires c κs =
     let d = c .before in
-    let s = d .before .before .before .before .before .before in
+    let s = let passed = d .before .before .before .before in passed .before .before in
     let v = seenIn (s .args .n) (now (s .args .rows)) (now (s .args .corners)) in
     let o = s .pre .0 .0 in
     let own : Own v (s .args .k) (s .args .k .low + 1) = (omega arith, omega arith) in
@@ -29,7 +29,7 @@ look-from-requires c κs =
 
 returns-2 : tie.Need-returns-2
 returns-2 c =
-    let s = c .before .before .before .before .before .before .before .before in
+    let s = let asked-sides = c .before .before .before .before in asked-sides .before .before .before .before in
     let v = seenIn (s .args .n) (now (s .args .rows)) (now (s .args .corners)) in
     (glimpsed-first v (s .args .k) (s .pre .0 .0) (omega arith) (c .look-from .result) (c .look-from .ensures .0), c .look-from .ensures .1)
 

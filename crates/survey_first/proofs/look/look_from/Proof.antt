@@ -32,9 +32,6 @@ loop-holds c =
 returns : tie.Need-returns Inv-loop μ-loop
 returns c = (search needs, c .before .before .loop .inv .3)
 
-add-v : tie.Need-add-v Inv-loop μ-loop
-add-v c = search needs
-
 cast-v : tie.Need-cast-v Inv-loop μ-loop
 cast-v c = omega (arith, trailing-le 64 (c .before .before .loop .left))
 
@@ -51,9 +48,6 @@ look-at-requires c κs =
     let t = left-own v (s .args .k) (s .args .u) (l .loop .left) (p .0 .0) (a .0) (a .1) (l .loop .inv .1) (omega arith) in
     (p .0, ((a .0, t, omega arith), (p .1 .1 .0, l .loop .inv .3)))
 
-enum-known-found : tie.Need-enum-known-found Inv-loop μ-loop
-enum-known-found c = search needs
-
 returns-2 : tie.Need-returns-2 Inv-loop μ-loop
 returns-2 c =
     let f = c .before .before .before in
@@ -64,18 +58,6 @@ returns-2 c =
           (l .loop .inv .2)),
       f .look-at .ensures .1,
     )
-
-enum-told : tie.Need-enum-told Inv-loop μ-loop
-enum-told c = search needs
-
-sub-left : tie.Need-sub-left Inv-loop μ-loop
-sub-left c = search needs
-
-add-i : tie.Need-add-i Inv-loop μ-loop
-add-i c = search needs
-
-loop-less : tie.Need-loop-less Inv-loop μ-loop
-loop-less c = search needs
 
 loop-again : tie.Need-loop-again Inv-loop μ-loop
 loop-again c =
@@ -97,5 +79,5 @@ returns-3 c = (search needs, c .before .loop .inv .3)
 pub look-from-spec : {M : Type 1} → statement M
 look-from-spec =
     tie.close
-    (tie.spec Inv-loop μ-loop loop-holds returns add-v cast-v add-v-2 look-at-requires enum-known-found returns-2 enum-told sub-left add-i
-    loop-less loop-again returns-3)
+    (tie.spec Inv-loop μ-loop loop-holds returns (λ c. search needs) cast-v add-v-2 look-at-requires (λ c. search needs) returns-2
+    (λ c. search needs) (λ c. search needs) (λ c. search needs) (λ c. search needs) loop-again returns-3)

@@ -7,7 +7,8 @@ use Rattle.survey_narrow.proofs.cuts.cut.Tie as tie
 returns : tie.Need-returns
 unfolding cutIn
 returns c =
-    let d = c .before .before .before .before .before .before .before .before in
+    let read = c .before .before .before .before in
+    let d = read .before .before .before .before in
     λ i. cutOf (d .before .before .mask-at .ensures i) (d .before .mask-at2 .ensures i) (d .mask-at3 .ensures i)
 
 pub cut-spec : {M : Type 1} → statement M

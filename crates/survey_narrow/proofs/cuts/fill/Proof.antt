@@ -23,29 +23,8 @@ loop-holds : tie.Need-loop-holds Inv-loop μ-loop
 unfolding masksFrom filled unionOf
 loop-holds c = search needs
 
-add-j : tie.Need-add-j Inv-loop μ-loop
-add-j c = search needs
-
-add-face-in : tie.Need-add-face-in Inv-loop μ-loop
-add-face-in c = search needs
-
-face-in-requires : tie.Need-face-in-requires Inv-loop μ-loop
-face-in-requires c κs = search needs
-
 cut-requires : tie.Need-cut-requires Inv-loop μ-loop
 cut-requires c κs = rw (c .face-in .ensures) (c .before .before .before .pre .0 _)
-
-put-requires : tie.Need-put-requires Inv-loop μ-loop
-put-requires c κs = search needs
-
-either-requires : tie.Need-either-requires Inv-loop μ-loop
-either-requires c κs = search needs
-
-add-i : tie.Need-add-i Inv-loop μ-loop
-add-i c = search needs
-
-loop-less : tie.Need-loop-less Inv-loop μ-loop
-loop-less c = search needs
 
 loop-again : tie.Need-loop-again Inv-loop μ-loop
 loop-again c =
@@ -55,9 +34,6 @@ loop-again c =
     let e = d .cut .ensures ∙ ap (cutIn _) (d .before .face-in .ensures) in
     (omega arith, p .put .ensures ∙ masks-more _ _ _ _ (v .1) e, c .either .ensures ∙ union-more _ _ (v .2) e)
 
-put-requires-2 : tie.Need-put-requires-2 Inv-loop μ-loop
-put-requires-2 c κs = search needs
-
 returns : tie.Need-returns Inv-loop μ-loop
 returns c =
     let l = c .before .before .before in
@@ -66,5 +42,5 @@ returns c =
 pub fill-spec : {M : Type 1} → statement M
 fill-spec =
     tie.close
-    (tie.spec Inv-loop μ-loop loop-holds add-j add-face-in face-in-requires cut-requires put-requires either-requires add-i loop-less
-    loop-again put-requires-2 returns)
+    (tie.spec Inv-loop μ-loop loop-holds (λ c. search needs) (λ c. search needs) (λ c κs. search needs) cut-requires
+    (λ c κs. search needs) (λ c κs. search needs) (λ c. search needs) (λ c. search needs) loop-again (λ c κs. search needs) returns)

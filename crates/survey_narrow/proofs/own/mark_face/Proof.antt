@@ -3,8 +3,5 @@ use borrow.Author.Needs.{needs}
 use Rattle.survey_narrow.proofs.own.mark_face.Statement.{statement}
 use Rattle.survey_narrow.proofs.own.mark_face.Tie as tie
 
-returns : tie.Need-returns
-returns c = cc
-
 pub mark-face-spec : {M : Type 1} → statement M
-mark-face-spec = tie.close (tie.spec (λ c κs. search needs) (λ c κs. search needs) (λ c κs. search needs) returns)
+mark-face-spec = tie.close (tie.spec (λ c κs. search needs) (λ c κs. search needs) (λ c κs. search needs) (λ c. cc))

@@ -17,25 +17,10 @@ abbrev μ-loop : tie.MeasureT-loop
 loop-holds : tie.Need-loop-holds Inv-loop μ-loop
 loop-holds c = (omega arith, none-marked _ _ _ _)
 
-add-face-in : tie.Need-add-face-in Inv-loop μ-loop
-add-face-in c = search needs
-
-add-face-in-2 : tie.Need-add-face-in-2 Inv-loop μ-loop
-add-face-in-2 c = search needs
-
-face-in-requires : tie.Need-face-in-requires Inv-loop μ-loop
-face-in-requires c κs = search needs
-
 mark-face-requires : tie.Need-mark-face-requires Inv-loop μ-loop
 mark-face-requires c κs =
     let d = c .before in
     (rw (d .face-in .ensures) (d .before .before .before .pre .0 _), search needs, search needs)
-
-add-i : tie.Need-add-i Inv-loop μ-loop
-add-i c = search needs
-
-loop-less : tie.Need-loop-less Inv-loop μ-loop
-loop-less c = search needs
 
 loop-again : tie.Need-loop-again Inv-loop μ-loop
 loop-again c =
@@ -50,4 +35,5 @@ returns c =
 pub mark-faces-spec : {M : Type 1} → statement M
 mark-faces-spec =
     tie.close
-    (tie.spec Inv-loop μ-loop loop-holds add-face-in add-face-in-2 face-in-requires mark-face-requires add-i loop-less loop-again returns)
+    (tie.spec Inv-loop μ-loop loop-holds (λ c. search needs) (λ c. search needs) (λ c κs. search needs) mark-face-requires
+    (λ c. search needs) (λ c. search needs) loop-again returns)

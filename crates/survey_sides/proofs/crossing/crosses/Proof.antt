@@ -15,6 +15,12 @@ use Rattle.survey_sides.proofs.crossing.crosses.Tie as tie
 abbrev row : tie.Start → ℕ → Row
 row s = rowIn (now (s .args .rows))
 
+abbrev after-span : tie.After-span2 → tie.After-span
+after-span c = let after-sign-by = c .before .before in after-sign-by .before .before .before .before
+
+abbrev entry : tie.After-span2 → tie.Start
+entry c = after-span c .before .before .before .before
+
 span-requires : tie.Need-span-requires
 span-requires c κs =
     let s = c .before .before .before in
@@ -72,30 +78,31 @@ returns c =
 
 span-requires-2 : tie.Need-span-requires-2
 span-requires-2 c κs =
-    let d = c .before .before .before .before .before in
+    let after-sign-by = c .before in
+    let d = after-sign-by .before .before .before .before in
     let s = d .before .before .before .before in
     let p = s .pre in
     span-asked (row s) (s .args .u) (s .args .v) (s .args .f .p) (p .1 .0) (d .before .before .before .row-in .ensures) (p .0 .0)
 
 -- the plane of the edge and p
-at-p : (c : tie.After-span2) → let s = c .before .before .before .before .before .before .before .before .before .before in
+at-p : (c : tie.After-span2) → let s = entry c in
     c .span2 .result ≡ planeOf (row s (s .args .u)) (row s (s .args .v)) (row s (s .args .f .p))
 at-p c =
-    let d = c .before .before .before .before .before .before in
+    let d = after-span c in
     let s = d .before .before .before .before in
     spanned (row s) (s .args .u) (s .args .v) (s .args .f .p) (s .pre .1 .0) (d .before .before .before .row-in .ensures)
     (c .span2 .ensures)
 
 dot-requires-3 : tie.Need-dot-requires-3
 dot-requires-3 c κs =
-    let d = c .before .before .before .before .before .before in
+    let d = after-span c in
     let s = d .before .before .before .before in
     dot-asked (row s) (s .args .u) (s .args .v) (s .args .f .p) (s .args .f .r) (at-p c) (d .before .row-in3 .ensures) (s .pre .0 .0)
 
 sign-by-requires-3 : tie.Need-sign-by-requires-3
 sign-by-requires-3 c κs =
     let d2 = c .before in
-    let d = d2 .before .before .before .before .before .before in
+    let d = after-span d2 in
     let s = d .before .before .before .before in
     let a = s .args in (
       search needs,

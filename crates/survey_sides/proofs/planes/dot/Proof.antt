@@ -7,6 +7,12 @@ use Rattle.survey_sides.specs.Bits.{dot-held}
 use Rattle.survey_sides.proofs.planes.dot.Statement.{statement}
 use Rattle.survey_sides.proofs.planes.dot.Tie as tie
 
+abbrev after-cross : tie.After-cross2 → tie.After-cross
+after-cross c = let read = c .before in read .before .before .before .before
+
+abbrev entry : tie.After-cross → tie.Start
+entry c = let read = c .before in read .before .before .before .before
+
 p-fits : (c : tie.Start) → RowFits (c .args .p)
 p-fits c = search needs
 
@@ -20,19 +26,19 @@ cross-requires c κs =
 
 cross-requires-2 : tie.Need-cross-requires-2
 cross-requires-2 c κs =
-    let s = c .before .before .before .before .before .before .before .before .before in
+    let s = entry (c .before .before .before .before) in
     cross-ask (p-fits s .y) (p-fits s .x) (t-fits s .x) (t-fits s .y) (omega (arith, s .pre))
 
 add-result : tie.Need-add-result
 add-result c =
-    let d = c .before .before .before .before .before in
-    let s = d .before .before .before .before .before in
+    let d = after-cross c in
+    let s = entry d in
     fit (dot-held (p-fits s) (t-fits s) (s .pre) (d .cross .ok) (d .cross .ensures) (c .cross2 .ok) (c .cross2 .ensures))
 
 returns : tie.Need-returns
 returns c =
-    let d = c .before .before .before .before .before in
-    let s = d .before .before .before .before .before in
+    let d = after-cross c in
+    let s = entry d in
     kept (dot-held (p-fits s) (t-fits s) (s .pre) (d .cross .ok) (d .cross .ensures) (c .cross2 .ok) (c .cross2 .ensures))
 
 pub dot-spec : {M : Type 1} → statement M

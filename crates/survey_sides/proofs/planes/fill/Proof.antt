@@ -20,31 +20,10 @@ loop-holds : tie.Need-loop-holds Inv-loop μ-loop
 unfolding planesFrom filled
 loop-holds c = search needs
 
-add-put : tie.Need-add-put Inv-loop μ-loop
-add-put c = search needs
-
-add-face-in : tie.Need-add-face-in Inv-loop μ-loop
-add-face-in c = search needs
-
-add-face-in-2 : tie.Need-add-face-in-2 Inv-loop μ-loop
-add-face-in-2 c = search needs
-
-face-in-requires : tie.Need-face-in-requires Inv-loop μ-loop
-face-in-requires c κs = search needs
-
 plane-requires : tie.Need-plane-requires Inv-loop μ-loop
 plane-requires c κs =
     let p = c .before .before .before .before .pre in
     (p .0 .0, rw (c .face-in .ensures) (p .0 .1 _))
-
-put-requires : tie.Need-put-requires Inv-loop μ-loop
-put-requires c κs = search needs
-
-add-i : tie.Need-add-i Inv-loop μ-loop
-add-i c = search needs
-
-loop-less : tie.Need-loop-less Inv-loop μ-loop
-loop-less c = search needs
 
 loop-again : tie.Need-loop-again Inv-loop μ-loop
 loop-again c =
@@ -62,5 +41,5 @@ returns c =
 pub fill-spec : {M : Type 1} → statement M
 fill-spec =
     tie.close
-    (tie.spec Inv-loop μ-loop loop-holds add-put add-face-in add-face-in-2 face-in-requires plane-requires put-requires add-i loop-less
-    loop-again returns)
+    (tie.spec Inv-loop μ-loop loop-holds (λ c. search needs) (λ c. search needs) (λ c. search needs) (λ c κs. search needs) plane-requires
+    (λ c κs. search needs) (λ c. search needs) (λ c. search needs) loop-again returns)

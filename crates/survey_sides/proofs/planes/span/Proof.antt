@@ -4,6 +4,12 @@ use Rattle.orient.specs.Bits.{RowFits, LineFits, three-ask, three-got}
 use Rattle.survey_sides.proofs.planes.span.Statement.{statement}
 use Rattle.survey_sides.proofs.planes.span.Tie as tie
 
+abbrev entry : tie.After-three → tie.Start
+entry c =
+    let read = c .before .before .before in
+    let read2 = read .before .before .before .before in
+    read2 .before .before .before .before
+
 l-fits : (c : tie.Start) → LineFits (c .args .l)
 l-fits c = search needs
 
@@ -12,21 +18,21 @@ r-fits c = search needs
 
 three-requires-2 : tie.Need-three-requires-2
 three-requires-2 c κs =
-    let s = c .before .before .before .before .before .before .before .before .before .before .before in
+    let s = entry c in
     let l = l-fits s in
     let r = r-fits s in
     three-ask (l .xz, r .w, l .xw, r .z, l .zw, r .x) (s .pre .y)
 
 three-requires-3 : tie.Need-three-requires-3
 three-requires-3 c κs =
-    let s = c .before .before .before .before .before .before .before .before .before .before .before .before in
+    let s = entry (c .before) in
     let l = l-fits s in
     let r = r-fits s in
     three-ask (l .xy, r .w, l .xw, r .y, l .yw, r .x) (s .pre .z)
 
 three-requires-4 : tie.Need-three-requires-4
 three-requires-4 c κs =
-    let s = c .before .before .before .before .before .before .before .before .before .before .before .before .before in
+    let s = entry (c .before .before) in
     let l = l-fits s in
     let r = r-fits s in
     three-ask (l .xy, r .z, l .xz, r .y, l .yz, r .x) (s .pre .w)
@@ -36,7 +42,7 @@ returns c =
     let c3 = c .before in
     let c2 = c3 .before in
     let c1 = c2 .before in
-    let s = c1 .before .before .before .before .before .before .before .before .before .before .before in
+    let s = entry c1 in
     let l = l-fits s in
     let r = r-fits s in
     λ i.

@@ -35,7 +35,8 @@ through-requires c κs =
 
 through-requires-2 : tie.Need-through-requires-2
 through-requires-2 c κs =
-    let r3 = c .before .before .before .before .before in
+    let after-through = c .before in
+    let r3 = after-through .before .before .before .before in
     let r2 = r3 .before in
     let s = r2 .before .before in
     let f = s .args .f in
@@ -45,12 +46,15 @@ through-requires-2 c κs =
 
 shift-at-requires-3 : tie.Need-shift-at-requires-3
 shift-at-requires-3 c κs =
-    let s = c .before .before .before .before .before .before .before .before .before in
+    let after-shift-at = c .before in
+    let after-are-units = after-shift-at .before .before .before .before in
+    let s = after-are-units .before .before .before .before in
     (s .pre .0, s .pre .1 .r)
 
 through-requires-3 : tie.Need-through-requires-3
 through-requires-3 c κs =
-    let r2 = c .before .before .before .before .before .before .before .before in
+    let after-shift-at = c .before .before .before .before in
+    let r2 = after-shift-at .before .before .before .before in
     let r1 = r2 .before in
     let s = r1 .before in
     let f = s .args .f in

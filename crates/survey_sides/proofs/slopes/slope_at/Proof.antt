@@ -9,13 +9,15 @@ use Rattle.survey_sides.proofs.slopes.slope_at.Tie as tie
 
 slope-requires : tie.Need-slope-requires
 slope-requires c κs =
-    let p = c .before .before .before .before .before .pre in
+    let after-is-blank = c .before .before in
+    let p = after-is-blank .before .before .before .pre in
     (p .0 .0, rw (c .face-in .ensures) (p .0 .1 _))
 
 returns : tie.Need-returns
 returns c =
     let d = c .before .before in
-    let s = d .before .before .before .before .before .before in
+    let after-is-blank = d .before .before .before in
+    let s = after-is-blank .before .before .before in
     let a = s .args in
     let row = rowIn (now (a .rows)) in
     let e = d .slope .ensures ∙ ap (slopeFor row) (d .before .face-in .ensures) in (

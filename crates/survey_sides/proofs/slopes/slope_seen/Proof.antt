@@ -34,6 +34,9 @@ du s = lessOf (shiftAt (row s) (s .args .f .q)) (shiftAt (row s) (s .args .f .r)
 abbrev dv : (s : tie.Start) → Row
 dv s = lessOf (shiftAt (row s) (s .args .f .p)) (shiftAt (row s) (s .args .f .r))
 
+abbrev after-less : tie.After-less4 → tie.After-less
+after-less c = let after-less2 = c .before .before .before in after-less2 .before .before .before .before
+
 r-is : (c : tie.After-less) → let s = start c in c .before .before .before .row-in .result ≡ row s (s .args .f .r)
 r-is c = c .before .before .before .row-in .ensures
 
@@ -49,9 +52,9 @@ v-is c = c .less2 .ensures ∙ (λ i. lessOf (c .before .row-in3 .ensures i) (r-
 du-is : (c : tie.After-less3) → c .less3 .result ≡ du (start (c .before .before .before .before))
 du-is c = c .less3 .ensures ∙ (λ i. lessOf (c .before .shift-at2 .ensures i) (o-is (c .before .before .before .before) i))
 
-dv-is : (c : tie.After-less4) → c .less4 .result ≡ dv (start (c .before .before .before .before .before .before .before))
+dv-is : (c : tie.After-less4) → c .less4 .result ≡ dv (start (after-less c))
 dv-is c =
-    c .less4 .ensures ∙ (λ i. lessOf (c .before .shift-at3 .ensures i) (o-is (c .before .before .before .before .before .before .before) i))
+    c .less4 .ensures ∙ (λ i. lessOf (c .before .shift-at3 .ensures i) (o-is (after-less c) i))
 
 -- ---- what each step asks for
 
@@ -84,11 +87,14 @@ seen-requires c κs =
     (first-seen (row s) (s .args .f .q) (s .args .f .p) (s .args .f .r) (s .pre .0) (h .q) (h .p) (h .r))
 
 shift-at-requires-3 : tie.Need-shift-at-requires-3
-shift-at-requires-3 c κs = let s = start (c .before .before .before .before .before) in (s .pre .0, s .pre .1 .p)
+shift-at-requires-3 c κs =
+    let after-less2 = c .before in
+    let s = start (after-less2 .before .before .before .before) in (s .pre .0, s .pre .1 .p)
 
 less-requires-4 : tie.Need-less-requires-4
 less-requires-4 c κs =
-    let l = c .before .before .before .before .before .before in
+    let after-less2 = c .before .before in
+    let l = after-less2 .before .before .before .before in
     let s = start l in
     let h = s .pre .1 in
     rw (c .shift-at3 .ensures, o-is l)
@@ -96,7 +102,7 @@ less-requires-4 c κs =
 
 seen-requires-2 : tie.Need-seen-requires-2
 seen-requires-2 c κs =
-    let l = c .before .before .before .before .before .before .before in
+    let l = after-less c in
     let s = start l in
     let h = s .pre .1 in
     triple-at (r-is l) (u-is l) (dv-is c)
@@ -104,7 +110,8 @@ seen-requires-2 c κs =
 
 triple-requires : tie.Need-triple-requires
 triple-requires c κs =
-    let m = c .before .before .before .before .before .before in
+    let after-shift-at = c .before .before in
+    let m = after-shift-at .before .before .before .before in
     let l = m .before .before in
     let s = start l in
     let h = s .pre .1 in

@@ -53,4 +53,5 @@ returns-2 c =
 
 pub tell-spec : {M : Type 1} → statement M
 tell-spec =
-    tie.close (tie.spec tell-word-requires returns tell-word-requires-2 (λ c. search needs) (λ c. search needs) tell-word-requires-3 returns-2)
+    tie.close
+    (tie.spec tell-word-requires returns tell-word-requires-2 (λ c. search needs) (λ c. search needs) tell-word-requires-3 returns-2)

@@ -33,9 +33,6 @@ loop-holds c =
       mask-begun (flat (rowIn (now (a .rows))) (a .t)) face (a .first) (a .count),
     )
 
-add-side : tie.Need-add-side Inv-loop μ-loop
-add-side c = search needs
-
 side-requires : tie.Need-side-requires Inv-loop μ-loop
 side-requires c κs =
     let l = c .before in
@@ -47,18 +44,6 @@ side-requires c κs =
     subst (λ (i : ℕ). Ready (rowIn (now (a .rows))) (faceIn (now (a .corners))) (planeIn (now (a .planes)) (a .base)) (a .t) i) e
     (p .1 .1 .1 (k - 1) (omega arith)) in
     (p .0, ((search needs, search needs, p .1 .0 .0, p .1 .0 .1), here))
-
-bit-requires : tie.Need-bit-requires Inv-loop μ-loop
-bit-requires c κs = search needs
-
-bit-requires-2 : tie.Need-bit-requires-2 Inv-loop μ-loop
-bit-requires-2 c κs = search needs
-
-sub-k : tie.Need-sub-k Inv-loop μ-loop
-sub-k c = search needs
-
-loop-less : tie.Need-loop-less Inv-loop μ-loop
-loop-less c = search needs
 
 loop-again : tie.Need-loop-again Inv-loop μ-loop
 loop-again c =
@@ -88,4 +73,5 @@ returns c =
 pub tell-at-spec : {M : Type 1} → statement M
 tell-at-spec =
     tie.close
-    (tie.spec Inv-loop μ-loop loop-holds add-side side-requires bit-requires bit-requires-2 sub-k loop-less loop-again returns)
+    (tie.spec Inv-loop μ-loop loop-holds (λ c. search needs) side-requires (λ c κs. search needs) (λ c κs. search needs)
+    (λ c. search needs) (λ c. search needs) loop-again returns)

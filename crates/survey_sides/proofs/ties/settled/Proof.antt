@@ -19,7 +19,7 @@ face s = faceIn (now (s .args .corners))
 
 -- before the ties of the first word
 abbrev start : tie.After-ties → tie.Start
-start e = e .before .before .before .before .before .before
+start e = let after-shift-at = e .before .before in after-shift-at .before .before .before .before
 
 ties-requires : tie.Need-ties-requires
 ties-requires c κs =
@@ -94,4 +94,6 @@ returns c =
     )
 
 pub settled-spec : {M : Type 1} → statement M
-settled-spec = tie.close (tie.spec (λ c κs. search needs) (λ c κs. search needs) ties-requires (λ c. search needs) ties-requires-2 add-t18 add-t19 returns)
+settled-spec =
+    tie.close
+    (tie.spec (λ c κs. search needs) (λ c κs. search needs) ties-requires (λ c. search needs) ties-requires-2 add-t18 add-t19 returns)

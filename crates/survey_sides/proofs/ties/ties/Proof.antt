@@ -40,21 +40,12 @@ here c =
     let s = c .before .before in
     each-turn (c .before .loop .left) (omega arith) (omega (arith, s .fits .tied)) _ (c .before .loop .inv .1) .0
 
-add-tie-above : tie.Need-add-tie-above Inv-loop μ-loop
-add-tie-above c = search needs
-
-add-tie-above-2 : tie.Need-add-tie-above-2 Inv-loop μ-loop
-add-tie-above-2 c = omega (arith, here c)
-
 tie-above-requires : tie.Need-tie-above-requires Inv-loop μ-loop
 tie-above-requires c κs =
     let l = c .before .before in
     let p = l .before .pre in
     let h = here (c .before) in
     ((p .0 .0, p .0 .1, h .number .0, omega arith, h .number .1), (p .1 .0, (h .ready, (h .within, l .loop .inv .3))))
-
-bit-requires : tie.Need-bit-requires Inv-loop μ-loop
-bit-requires c κs = search needs
 
 shl-word : tie.Need-shl-word Inv-loop μ-loop
 shl-word c = here (c .before .before .before) .small
@@ -73,7 +64,7 @@ rest c =
 
 add-word : tie.Need-add-word Inv-loop μ-loop
 add-word c =
-    let s = c .before .before .before .before .before in
+    let s = let inside = c .before .before .before in inside .before .before in
     let a = s .args in
     omega (
       arith,
@@ -81,9 +72,6 @@ add-word c =
       kept-le (λ k. above (rowIn (now (a .rows))) (a .t) (faceIn (now (a .corners)) (a .first + 1 + k))) (a .tied),
       s .fits .tied,
     )
-
-sub-left : tie.Need-sub-left Inv-loop μ-loop
-sub-left c = omega arith
 
 loop-less : tie.Need-loop-less Inv-loop μ-loop
 loop-less c = walk-less _ (omega arith)
@@ -108,5 +96,5 @@ returns c =
 pub ties-spec : {M : Type 1} → statement M
 ties-spec =
     tie.close
-    (tie.spec Inv-loop μ-loop loop-holds cast-k add-tie-above add-tie-above-2 tie-above-requires bit-requires shl-word add-word sub-left
-    loop-less loop-again returns)
+    (tie.spec Inv-loop μ-loop loop-holds cast-k (λ c. search needs) (λ c. omega (arith, here c)) tie-above-requires (λ c κs. search needs)
+    shl-word add-word (λ c. omega arith) loop-less loop-again returns)

@@ -14,9 +14,12 @@ v-fits c = search needs
 returns : tie.Need-returns
 returns c =
     let c3 = c .before in
-    let c2 = c3 .before .before .before .before .before in
-    let c1 = c2 .before .before .before .before .before in
-    let s = c1 .before .before .before .before .before in
+    let read = c3 .before in
+    let c2 = read .before .before .before .before in
+    let read2 = c2 .before in
+    let c1 = read2 .before .before .before .before in
+    let read3 = c1 .before in
+    let s = read3 .before .before .before .before in
     let u = u-fits s in
     let v = v-fits s in
     λ i.

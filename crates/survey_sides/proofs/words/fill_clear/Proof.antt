@@ -23,35 +23,11 @@ loop-holds : tie.Need-loop-holds Inv-loop μ-loop
 unfolding masksFrom filled
 loop-holds c = search needs
 
-add-t : tie.Need-add-t Inv-loop μ-loop
-add-t c = search needs
-
-add-t-2 : tie.Need-add-t-2 Inv-loop μ-loop
-add-t-2 c = search needs
-
 tell-requires : tie.Need-tell-requires Inv-loop μ-loop
 tell-requires c κs =
     let l = c .before in
     let p = l .before .pre in
     ((p .0 .0, p .0 .1, search needs), (search needs, p .1 .1 (l .loop .i) (search needs)))
-
-has-ties-requires : tie.Need-has-ties-requires Inv-loop μ-loop
-has-ties-requires c κs = search needs
-
-returns : tie.Need-returns Inv-loop μ-loop
-returns c = search needs
-
-above-of-requires : tie.Need-above-of-requires Inv-loop μ-loop
-above-of-requires c κs = search needs
-
-put-requires : tie.Need-put-requires Inv-loop μ-loop
-put-requires c κs = search needs
-
-add-i : tie.Need-add-i Inv-loop μ-loop
-add-i c = search needs
-
-loop-less : tie.Need-loop-less Inv-loop μ-loop
-loop-less c = search needs
 
 loop-again : tie.Need-loop-again Inv-loop μ-loop
 loop-again c =
@@ -77,5 +53,5 @@ returns-2 c =
 pub fill-clear-spec : {M : Type 1} → statement M
 fill-clear-spec =
     tie.close
-    (tie.spec Inv-loop μ-loop loop-holds add-t add-t-2 tell-requires has-ties-requires returns above-of-requires put-requires add-i
-    loop-less loop-again returns-2)
+    (tie.spec Inv-loop μ-loop loop-holds (λ c. search needs) (λ c. search needs) tell-requires (λ c κs. search needs) (λ c. search needs)
+    (λ c κs. search needs) (λ c κs. search needs) (λ c. search needs) (λ c. search needs) loop-again returns-2)

@@ -23,12 +23,6 @@ loop-holds : tie.Need-loop-holds Inv-loop μ-loop
 unfolding masksFrom filled
 loop-holds c = (search needs, search needs, c .pre .1 .1 .1)
 
-add-t : tie.Need-add-t Inv-loop μ-loop
-add-t c = search needs
-
-add-t-2 : tie.Need-add-t-2 Inv-loop μ-loop
-add-t-2 c = search needs
-
 sides-requires : tie.Need-sides-requires Inv-loop μ-loop
 sides-requires c κs =
     let l = c .before .before .before in
@@ -36,15 +30,6 @@ sides-requires c κs =
       (p .0 .0, p .0 .1, search needs),
       ((p .1 .0 .1, p .1 .0 .2), (p .1 .1 .0 (l .loop .i) (search needs), l .loop .inv .2)),
     )
-
-put-requires : tie.Need-put-requires Inv-loop μ-loop
-put-requires c κs = search needs
-
-add-i : tie.Need-add-i Inv-loop μ-loop
-add-i c = search needs
-
-loop-less : tie.Need-loop-less Inv-loop μ-loop
-loop-less c = search needs
 
 loop-again : tie.Need-loop-again Inv-loop μ-loop
 loop-again c =
@@ -60,4 +45,5 @@ returns c =
 pub fill-points-spec : {M : Type 1} → statement M
 fill-points-spec =
     tie.close
-    (tie.spec Inv-loop μ-loop loop-holds add-t add-t-2 sides-requires put-requires add-i loop-less loop-again returns)
+    (tie.spec Inv-loop μ-loop loop-holds (λ c. search needs) (λ c. search needs) sides-requires (λ c κs. search needs) (λ c. search needs)
+    (λ c. search needs) loop-again returns)
