@@ -5,14 +5,24 @@ use borrow.Author.Needs.{needs}
 use Rattle.kernel.proofs.facts.gather.Statement.{statement}
 use Rattle.kernel.proofs.facts.gather.Tie as tie
 
+-- from the last count back: after the pairs are poured, after the survey, and before it
+abbrev poured : tie.After-count-inside2 → tie.After-pour-read
+poured c =
+    let after-verdict-read = c .before .before in
+    let lent = after-verdict-read .before .before .before .before in
+    lent .before .before .before
+
+abbrev surveyed : tie.After-pour-read → tie.After-survey-of
+surveyed c = let lent = c .before .before .before .before in lent .before .before
+
+abbrev entry : tie.After-survey-of → tie.Start
+entry c = let lent = c .before .before .before .before in lent .before .before .before
+
 returns : tie.Need-returns
 returns c =
-    let s =
-    c .before .before .before .before .before .before .before .before .before .before .before .before .before .before .before
-    .before .before .before .before .before .before .before in
-    gathered (now (s .args .s)) (s .pre)
-    (c .before .before .before .before .before .before .before .before .before .before .before .before .before .before .before
-    .survey-of .ensures) (search needs) (search needs) _ (search needs) (search needs)
+    let s = entry (surveyed (poured c)) in
+    gathered (now (s .args .s)) (s .pre) (surveyed (poured c) .survey-of .ensures) (search needs) (search needs) _ (search needs)
+    (search needs)
 
 pub gather-spec : {M : Type 1} → statement M
 gather-spec =

@@ -16,7 +16,7 @@ use Rattle.kernel.proofs.points.pierces.Tie as tie
 pierces-requires : tie.Need-pierces-requires
 pierces-requires c κs =
     let r = c .before .before .before in
-    let s = r .before .before .before .before .before .before .before .before .before in
+    let s = let asked = r .before .before .before .before in let accepted = asked .before in accepted .before .before .before .before in
     let ok : judged (now (s .args .s)) ≡ Accepted = search accepted-so in
     let h : piercesFault (viewOf (now (s .args .s))) (s .args .u) (s .args .v) (s .args .f) ≡ Accepted = search accepted-so in
     pierces-fit (now (s .args .s)) ok (s .args .f) h (r .rows2 .ensures) (c .before .points .ensures .0) (c .corners .ensures)
