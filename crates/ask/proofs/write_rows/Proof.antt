@@ -5,11 +5,8 @@ use borrow.Author.Needs.{needs}
 use Rattle.ask.proofs.write_rows.Statement.{statement}
 use Rattle.ask.proofs.write_rows.Tie as tie
 
-slice-aggregate-write-2 : tie.Need-slice-aggregate-write-2
-slice-aggregate-write-2 c = simp length-take (omega arith)
-
 pub write-rows-spec : {M : Type 1} → statement M
 write-rows-spec =
     tie.close
-    (tie.spec (λ c. search needs) (λ c. search needs) (λ c κs. search needs) (λ c. search needs) (λ c. search needs) slice-aggregate-write-2
-    (λ c κs. search needs) (λ c. search needs))
+    (tie.spec (λ c. search needs) (λ c. search needs) (λ c κs. search needs) (λ c. search needs) (λ c. search needs)
+    (λ c. simp length-take (omega arith)) (λ c κs. search needs) (λ c. search needs))

@@ -4,12 +4,6 @@ use borrow.Author.Needs.{needs}
 use Rattle.bodhranhaze.proofs.bodhranhaze_inside.Statement.{statement}
 use Rattle.bodhranhaze.proofs.bodhranhaze_inside.Tie as tie
 
-returns : tie.Need-returns
-returns c = search inside-is
-
-returns-2 : tie.Need-returns-2
-returns-2 c = search inside-is
-
 pub bodhranhaze-inside-spec : {M : Type 1} → statement M
 bodhranhaze-inside-spec =
-    tie.close (tie.spec (λ c κs. search needs) (λ c. search needs) (λ c. search needs) returns returns-2)
+    tie.close (tie.spec (λ c κs. search needs) (λ c. search needs) (λ c. search needs) (λ c. search inside-is) (λ c. search inside-is))

@@ -4,8 +4,5 @@ use borrow.Author.Needs.{needs}
 use Rattle.bodhranhaze.proofs.bodhranhaze_place.Statement.{statement}
 use Rattle.bodhranhaze.proofs.bodhranhaze_place.Tie as tie
 
-returns : tie.Need-returns
-returns c = search (by-answer refusalPlace)
-
 pub bodhranhaze-place-spec : {M : Type 1} → statement M
-bodhranhaze-place-spec = tie.close (tie.spec (λ c κs. search needs) (λ c κs. search needs) returns)
+bodhranhaze-place-spec = tie.close (tie.spec (λ c κs. search needs) (λ c κs. search needs) (λ c. search (by-answer refusalPlace)))

@@ -4,8 +4,5 @@ use borrow.Author.Needs.{needs}
 use Rattle.bodhranhaze.proofs.bodhranhaze_refusal.Statement.{statement}
 use Rattle.bodhranhaze.proofs.bodhranhaze_refusal.Tie as tie
 
-returns : tie.Need-returns
-returns c = search (by-answer refusalNumber)
-
 pub bodhranhaze-refusal-spec : {M : Type 1} → statement M
-bodhranhaze-refusal-spec = tie.close (tie.spec (λ c κs. search needs) (λ c κs. search needs) returns)
+bodhranhaze-refusal-spec = tie.close (tie.spec (λ c κs. search needs) (λ c κs. search needs) (λ c. search (by-answer refusalNumber)))

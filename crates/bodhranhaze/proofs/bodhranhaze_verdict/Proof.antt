@@ -5,8 +5,5 @@ use borrow.Author.Needs.{needs}
 use Rattle.bodhranhaze.proofs.bodhranhaze_verdict.Statement.{statement}
 use Rattle.bodhranhaze.proofs.bodhranhaze_verdict.Tie as tie
 
-returns : tie.Need-returns
-returns c = search (by-answer verdictNumber)
-
 pub bodhranhaze-verdict-spec : {M : Type 1} → statement M
-bodhranhaze-verdict-spec = tie.close (tie.spec (λ c κs. search needs) (λ c κs. search needs) returns)
+bodhranhaze-verdict-spec = tie.close (tie.spec (λ c κs. search needs) (λ c κs. search needs) (λ c. search (by-answer verdictNumber)))

@@ -4,12 +4,9 @@ use borrow.Author.Needs.{needs}
 use Rattle.map.proofs.write_image.Statement.{statement}
 use Rattle.map.proofs.write_image.Tie as tie
 
-part-answer-end : tie.Need-part-answer-end
-part-answer-end c = search (image-fits, needs)
-
 pub write-image-spec : {M : Type 1} → statement M
 write-image-spec =
     tie.close
-    (tie.spec (λ c κs. search needs) (λ c. search needs) (λ c κs. search needs) (λ c. search needs) (λ c. search needs) (λ c. search needs)
-    (λ c. search needs) part-answer-end (λ c κs. search needs) (λ c. search needs) (λ c. search needs) (λ c. search needs)
-    (λ c. search needs))
+    (tie.spec (λ c κs. search needs) (λ c. search needs) (λ c κs. search needs) (λ c. search needs) (λ c. search needs)
+    (λ c. search needs) (λ c. search needs) (λ c. search (image-fits, needs)) (λ c κs. search needs) (λ c. search needs)
+    (λ c. search needs) (λ c. search needs) (λ c. search needs))

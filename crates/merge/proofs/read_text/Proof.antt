@@ -9,7 +9,8 @@ use Rattle.merge.proofs.read_text.Statement.{statement}
 use Rattle.merge.proofs.read_text.Tie as tie
 
 abbrev Inv-loop : tie.InvT-loop
-Inv-loop file piece₀ readable₀ r₀ bytes₀ left₀ piece readable r bytes left = (length piece ≡ 65536) × (bytes + 65536 * left ≤ 65536 * 140737488355328)
+Inv-loop file piece₀ readable₀ r₀ bytes₀ left₀ piece readable r bytes left =
+    (length piece ≡ 65536) × (bytes + 65536 * left ≤ 65536 * 140737488355328)
 
 abbrev μ-loop : tie.MeasureT-loop
 μ-loop file piece₀ readable₀ r₀ bytes₀ left₀ piece readable r bytes left = left

@@ -5,11 +5,8 @@ use borrow.Author.Needs.{needs}
 use Rattle.report.proofs.write_read.Statement.{statement}
 use Rattle.report.proofs.write_read.Tie as tie
 
-slice-aggregate-write : tie.Need-slice-aggregate-write
-slice-aggregate-write c = simp length-take (omega arith)
-
 pub write-read-spec : {M : Type 1} → statement M
 write-read-spec =
     tie.close
-    (tie.spec (λ c κs. search needs) (λ c. search needs) slice-aggregate-write (λ c κs. search needs) (λ c κs. search needs)
-    (λ c. search needs) (λ c. search needs) (λ c. search needs) (λ c. search needs))
+    (tie.spec (λ c κs. search needs) (λ c. search needs) (λ c. simp length-take (omega arith)) (λ c κs. search needs)
+    (λ c κs. search needs) (λ c. search needs) (λ c. search needs) (λ c. search needs) (λ c. search needs))

@@ -5,11 +5,8 @@ use borrow.Author.Needs.{needs}
 use Rattle.test_limits.proofs.write_next.Statement.{statement}
 use Rattle.test_limits.proofs.write_next.Tie as tie
 
-slice-aggregate-write-scene : tie.Need-slice-aggregate-write-scene
-slice-aggregate-write-scene c = simp length-take (omega arith)
-
 pub write-next-spec : {M : Type 1} → statement M
 write-next-spec =
     tie.close
-    (tie.spec (λ c. search needs) (λ c κs. search needs) (λ c. search needs) (λ c. search needs) slice-aggregate-write-scene
+    (tie.spec (λ c. search needs) (λ c κs. search needs) (λ c. search needs) (λ c. search needs) (λ c. simp length-take (omega arith))
     (λ c κs. search needs) (λ c. search needs))

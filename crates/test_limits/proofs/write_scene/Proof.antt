@@ -5,11 +5,8 @@ use borrow.Author.Needs.{needs}
 use Rattle.test_limits.proofs.write_scene.Statement.{statement}
 use Rattle.test_limits.proofs.write_scene.Tie as tie
 
-slice-aggregate-write-judged : tie.Need-slice-aggregate-write-judged
-slice-aggregate-write-judged c = simp length-take (omega arith)
-
 pub write-scene-spec : {M : Type 1} → statement M
 write-scene-spec =
     tie.close
-    (tie.spec (λ c κs. search needs) (λ c. search needs) (λ c κs. search needs) (λ c. search needs) slice-aggregate-write-judged
+    (tie.spec (λ c κs. search needs) (λ c. search needs) (λ c κs. search needs) (λ c. search needs) (λ c. simp length-take (omega arith))
     (λ c κs. search needs) (λ c. search needs))

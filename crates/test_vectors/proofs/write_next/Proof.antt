@@ -5,15 +5,9 @@ use borrow.Author.Needs.{needs}
 use Rattle.test_vectors.proofs.write_next.Statement.{statement}
 use Rattle.test_vectors.proofs.write_next.Tie as tie
 
-slice-aggregate-write-scene : tie.Need-slice-aggregate-write-scene
-slice-aggregate-write-scene c = simp length-take (omega arith)
-
-slice-aggregate-write-scene-2 : tie.Need-slice-aggregate-write-scene-2
-slice-aggregate-write-scene-2 c = simp length-take (omega arith)
-
 pub write-next-spec : {M : Type 1} → statement M
 write-next-spec =
     tie.close
     (tie.spec (λ c κs. search needs) (λ c. search needs) (λ c κs. search needs) (λ c. search needs) (λ c. search needs)
-    slice-aggregate-write-scene (λ c κs. search needs) (λ c. search needs) slice-aggregate-write-scene-2 (λ c κs. search needs)
-    (λ c. search needs) (λ c. search needs))
+    (λ c. simp length-take (omega arith)) (λ c κs. search needs) (λ c. search needs) (λ c. simp length-take (omega arith))
+    (λ c κs. search needs) (λ c. search needs) (λ c. search needs))

@@ -5,11 +5,8 @@ use borrow.Author.Needs.{needs}
 use Rattle.ask.proofs.said.refusal_in.Statement.{statement}
 use Rattle.ask.proofs.said.refusal_in.Tie as tie
 
-slice-aggregate-same : tie.Need-slice-aggregate-same
-slice-aggregate-same c = simp length-take (omega arith)
-
 pub refusal-in-spec : {M : Type 1} → statement M
 refusal-in-spec =
     tie.close
-    (tie.spec (λ c. search needs) slice-aggregate-same (λ c. search needs) (λ c κs. search needs) (λ c. search needs) (λ c. search needs)
-    (λ c. search needs) (λ c κs. search needs) (λ c. search needs) (λ c. search needs))
+    (tie.spec (λ c. search needs) (λ c. simp length-take (omega arith)) (λ c. search needs) (λ c κs. search needs) (λ c. search needs)
+    (λ c. search needs) (λ c. search needs) (λ c κs. search needs) (λ c. search needs) (λ c. search needs))

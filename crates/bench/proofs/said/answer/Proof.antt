@@ -9,7 +9,7 @@ returns : tie.Need-returns
 returns c = by-case answerLine (c .before .before .before .before .enum-told .given .1) (c .before .before .done .ensures)
 
 returns-2 : tie.Need-returns-2
-returns-2 c = by-case answerLine (c .before .before .before .before .before .a .given .1) (c .before .before .refused .ensures)
+returns-2 c = let done = c .before .before in by-case answerLine (done .before .before .before .a .given .1) (done .refused .ensures)
 
 pub answer-spec : {M : Type 1} → statement M
 answer-spec =

@@ -8,7 +8,8 @@ returns : tie.Need-returns
 returns c =
     let r4 = c .before .before in
     let r3 = r4 .before .before .before .before in
-    let r2 = r3 .before .before .before .before .before in
+    let back2 = r3 .before .before .before .before in
+    let r2 = back2 .before in
     let r1 = r2 .before .before .before .before in
     end-to-end (r1 .word .ensures) (end-to-end (r2 .next-number .ensures) (end-to-end (r3 .next-word .ensures) (r4 .newline .ensures)))
 

@@ -6,7 +6,8 @@ use Rattle.bench_moves.proofs.Bench.lecturer_move.Tie as tie
 
 returns : tie.Need-returns
 returns c =
-    let first = c .before .before .before .before .before .before .before in
+    let read = c .before .before .before in
+    let first = read .before .before .before .before in
     lecturer-refused _ _ _ (first .before .session .ensures) (first .fixture-move .ensures) (c .before .j .given .1)
 
 returns-2 : tie.Need-returns-2

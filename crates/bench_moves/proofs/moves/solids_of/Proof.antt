@@ -10,7 +10,7 @@ use Rattle.bench_moves.proofs.moves.solids_of.Tie as tie
 
 returns : tie.Need-returns
 returns c =
-    let s = c .before .before .before .before .before .args .s in
+    let s = let after-save = c .before .before .before in after-save .before .before .args .s in
     let h : length (s .bytes) ≡ longest limits = search needs in (
       solids-none _ _ (c .before .before .before .save .ensures .answer) (c .enum-told .given .1) (scene-fits s (longest limits) h),
       omega arith,

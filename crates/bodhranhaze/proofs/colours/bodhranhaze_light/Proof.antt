@@ -4,8 +4,5 @@ use borrow.Author.Needs.{needs}
 use Rattle.bodhranhaze.proofs.colours.bodhranhaze_light.Statement.{statement}
 use Rattle.bodhranhaze.proofs.colours.bodhranhaze_light.Tie as tie
 
-returns : tie.Need-returns
-returns c = search shown
-
 pub bodhranhaze-light-spec : {M : Type 1} → statement M
-bodhranhaze-light-spec = tie.close (tie.spec (λ c κs. search needs) (λ c κs. search needs) (λ c. search needs) returns)
+bodhranhaze-light-spec = tie.close (tie.spec (λ c κs. search needs) (λ c κs. search needs) (λ c. search needs) (λ c. search shown))

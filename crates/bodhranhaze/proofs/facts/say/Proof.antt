@@ -4,9 +4,6 @@ use borrow.Author.Needs.{needs}
 use Rattle.bodhranhaze.proofs.facts.say.Statement.{statement}
 use Rattle.bodhranhaze.proofs.facts.say.Tie as tie
 
-returns : tie.Need-returns
-returns c = search told-so
-
 pub say-spec : {M : Type 1} → statement M
 say-spec =
-    tie.close (tie.spec (λ c κs. search needs) (λ c κs. search needs) (λ c κs. search needs) (λ c. search needs) returns)
+    tie.close (tie.spec (λ c κs. search needs) (λ c κs. search needs) (λ c κs. search needs) (λ c. search needs) (λ c. search told-so))

@@ -10,10 +10,12 @@ returns c = answered-by _ _ (c .before .before .before .before .reverse .ensures
 
 returns-2 : tie.Need-returns-2
 returns-2 c =
-    answered-by _ _ (c .before .before .before .before .before .before .reverse .ensures) (c .before .before .j .given .1)
+    let after-j = c .before .before in
+    answered-by _ _ (after-j .before .before .before .before .reverse .ensures) (after-j .j .given .1)
     (c .number .ensures)
 
 pub bodhranhaze-reverse-spec : {M : Type 1} → statement M
 bodhranhaze-reverse-spec =
     tie.close
-    (tie.spec (λ c κs. search needs) (λ c. search needs) (λ c. search needs) (λ c κs. search needs) (λ c. search needs) returns (λ c. search needs) returns-2)
+    (tie.spec (λ c κs. search needs) (λ c. search needs) (λ c. search needs) (λ c κs. search needs) (λ c. search needs) returns
+    (λ c. search needs) returns-2)

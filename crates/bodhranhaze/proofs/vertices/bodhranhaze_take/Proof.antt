@@ -4,14 +4,8 @@ use borrow.Author.Needs.{needs}
 use Rattle.bodhranhaze.proofs.vertices.bodhranhaze_take.Statement.{statement}
 use Rattle.bodhranhaze.proofs.vertices.bodhranhaze_take.Tie as tie
 
-returns : tie.Need-returns
-returns c = search take-is
-
-returns-2 : tie.Need-returns-2
-returns-2 c = search take-is
-
 pub bodhranhaze-take-spec : {M : Type 1} → statement M
 bodhranhaze-take-spec =
     tie.close
-    (tie.spec (λ c κs. search needs) (λ c. search needs) (λ c. search needs) (λ c κs. search needs) (λ c. search needs) returns
-    (λ c. search needs) returns-2)
+    (tie.spec (λ c κs. search needs) (λ c. search needs) (λ c. search needs) (λ c κs. search needs) (λ c. search needs)
+    (λ c. search take-is) (λ c. search needs) (λ c. search take-is))

@@ -5,12 +5,8 @@ use borrow.Author.Needs.{needs}
 use Rattle.bodhranhaze.proofs.vertices.bodhranhaze_take_place.Statement.{statement}
 use Rattle.bodhranhaze.proofs.vertices.bodhranhaze_take_place.Tie as tie
 
-returns : tie.Need-returns
-returns c = search (by-case takenPlace)
-
-returns-2 : tie.Need-returns-2
-returns-2 c = search (by-case takenPlace)
-
 pub bodhranhaze-take-place-spec : {M : Type 1} → statement M
 bodhranhaze-take-place-spec =
-    tie.close (tie.spec (λ c κs. search needs) (λ c. search needs) (λ c. search needs) (λ c κs. search needs) returns returns-2)
+    tie.close
+    (tie.spec (λ c κs. search needs) (λ c. search needs) (λ c. search needs) (λ c κs. search needs) (λ c. search (by-case takenPlace))
+    (λ c. search (by-case takenPlace)))

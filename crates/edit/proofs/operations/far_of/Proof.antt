@@ -4,12 +4,8 @@ use borrow.Author.Needs.{needs}
 use Rattle.edit.proofs.operations.far_of.Statement.{statement}
 use Rattle.edit.proofs.operations.far_of.Tie as tie
 
-returns : tie.Need-returns
-returns c = search (far-wrong, far-row) depth 12
-
-returns-2 : tie.Need-returns-2
-returns-2 c = search (far-wrong, far-row) depth 12
-
 pub far-of-spec : {M : Type 1} → statement M
 far-of-spec =
-    tie.close (tie.spec (λ c. search needs) (λ c κs. search needs) (λ c. search needs) (λ c. search needs) returns returns-2)
+    tie.close
+    (tie.spec (λ c. search needs) (λ c κs. search needs) (λ c. search needs) (λ c. search needs)
+    (λ c. search (far-wrong, far-row) depth 12) (λ c. search (far-wrong, far-row) depth 12))

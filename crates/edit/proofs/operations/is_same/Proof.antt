@@ -4,8 +4,5 @@ use borrow.Author.Needs.{needs}
 use Rattle.edit.proofs.operations.is_same.Statement.{statement}
 use Rattle.edit.proofs.operations.is_same.Tie as tie
 
-returns : tie.Need-returns
-returns c = search is-same
-
 pub is-same-spec : {M : Type 1} → statement M
-is-same-spec = tie.close (tie.spec (λ c κs. search needs) returns)
+is-same-spec = tie.close (tie.spec (λ c κs. search needs) (λ c. search is-same))

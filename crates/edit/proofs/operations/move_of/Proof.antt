@@ -4,17 +4,9 @@ use borrow.Author.Needs.{needs}
 use Rattle.edit.proofs.operations.move_of.Statement.{statement}
 use Rattle.edit.proofs.operations.move_of.Tie as tie
 
-returns : tie.Need-returns
-returns c = search move-none
-
-returns-2 : tie.Need-returns-2
-returns-2 c = search (move-wrong, move-row, needs) depth 12
-
-returns-3 : tie.Need-returns-3
-returns-3 c = search (move-wrong, move-row, needs) depth 12
-
 pub move-of-spec : {M : Type 1} → statement M
 move-of-spec =
     tie.close
-    (tie.spec (λ c. search needs) (λ c. search needs) (λ c. search needs) returns (λ c. search needs) (λ c κs. search needs)
-    (λ c. search needs) (λ c κs. search needs) (λ c. search needs) returns-2 returns-3)
+    (tie.spec (λ c. search needs) (λ c. search needs) (λ c. search needs) (λ c. search move-none) (λ c. search needs)
+    (λ c κs. search needs) (λ c. search needs) (λ c κs. search needs) (λ c. search needs)
+    (λ c. search (move-wrong, move-row, needs) depth 12) (λ c. search (move-wrong, move-row, needs) depth 12))

@@ -4,12 +4,8 @@ use borrow.Author.Needs.{needs}
 use Rattle.edit.proofs.operations.reverse_of.Statement.{statement}
 use Rattle.edit.proofs.operations.reverse_of.Tie as tie
 
-returns : tie.Need-returns
-returns c = search reverse-none
-
-returns-2 : tie.Need-returns-2
-returns-2 c = search (reverse-so, needs) depth 12
-
 pub reverse-of-spec : {M : Type 1} → statement M
 reverse-of-spec =
-    tie.close (tie.spec (λ c. search needs) (λ c. search needs) (λ c. search needs) returns (λ c κs. search needs) returns-2)
+    tie.close
+    (tie.spec (λ c. search needs) (λ c. search needs) (λ c. search needs) (λ c. search reverse-none) (λ c κs. search needs)
+    (λ c. search (reverse-so, needs) depth 12))

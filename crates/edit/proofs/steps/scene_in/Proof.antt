@@ -4,18 +4,9 @@ use borrow.Author.Needs.{needs}
 use Rattle.edit.proofs.steps.scene_in.Statement.{statement}
 use Rattle.edit.proofs.steps.scene_in.Tie as tie
 
-returns : tie.Need-returns
-returns c = search (scene-none, needs)
-
-returns-2 : tie.Need-returns-2
-returns-2 c = search (scene-short, needs)
-
-returns-3 : tie.Need-returns-3
-returns-3 c = search (scene-fits, scene-front, needs)
-
 pub scene-in-spec : {M : Type 1} → statement M
 scene-in-spec =
     tie.close
-    (tie.spec (λ c κs. search needs) (λ c. search needs) (λ c. search needs) returns (λ c. search needs) (λ c. search needs)
-    (λ c. search needs) (λ c κs. search needs) (λ c. search needs) (λ c. search needs) (λ c κs. search needs) (λ c. search needs) returns-2
-    (λ c. search needs) returns-3)
+    (tie.spec (λ c κs. search needs) (λ c. search needs) (λ c. search needs) (λ c. search (scene-none, needs)) (λ c. search needs)
+    (λ c. search needs) (λ c. search needs) (λ c κs. search needs) (λ c. search needs) (λ c. search needs) (λ c κs. search needs)
+    (λ c. search needs) (λ c. search (scene-short, needs)) (λ c. search needs) (λ c. search (scene-fits, scene-front, needs)))

@@ -13,7 +13,7 @@ words-of-requires c κs =
 
 words-of-requires-2 : tie.Need-words-of-requires-2
 words-of-requires-2 c κs =
-    let p = c .before .before .before .before .before .before .pre in
+    let p = let after-byte2 = c .before .before .before in after-byte2 .before .before .before .pre in
     (words-none _ _, (omega arith, λ i b. p .0 i (omega arith)))
 
 unuseds-fault-requires : tie.Need-unuseds-fault-requires
@@ -28,12 +28,10 @@ unuseds-fault-requires c κs =
       (p .1, p .2),
     )
 
-returns : tie.Need-returns
-returns c = search chain depth 12
-
 edges-fault-requires : tie.Need-edges-fault-requires
 edges-fault-requires c κs =
-    let w = c .before .before .before .before .before in
+    let after-unuseds-fault = c .before .before .before .before in
+    let w = after-unuseds-fault .before in
     let d = w .before .before in
     let e = d .before .before in (
       e .before .before .before .pre,
@@ -43,11 +41,8 @@ edges-fault-requires c κs =
       ),
     )
 
-returns-2 : tie.Need-returns-2
-returns-2 c = search chain depth 12
-
 pub solids-fault-spec : {M : Type 1} → statement M
 solids-fault-spec =
     tie.close
-    (tie.spec (λ c κs. search needs) (λ c κs. search needs) words-of-requires words-of-requires-2 unuseds-fault-requires (λ c. search needs)
-    returns (λ c. search needs) edges-fault-requires returns-2)
+    (tie.spec (λ c κs. search needs) (λ c κs. search needs) words-of-requires words-of-requires-2 unuseds-fault-requires
+    (λ c. search needs) (λ c. search chain depth 12) (λ c. search needs) edges-fault-requires (λ c. search chain depth 12))

@@ -3,8 +3,5 @@ use borrow.Author.Needs.{needs}
 use Rattle.judge.proofs.header.faces_ok.Statement.{statement}
 use Rattle.judge.proofs.header.faces_ok.Tie as tie
 
-returns : tie.Need-returns
-returns c = cc
-
 pub faces-ok-spec : {M : Type 1} → statement M
-faces-ok-spec = tie.close (tie.spec (λ c κs. search needs) (λ c κs. search needs) returns)
+faces-ok-spec = tie.close (tie.spec (λ c κs. search needs) (λ c κs. search needs) (λ c. cc))

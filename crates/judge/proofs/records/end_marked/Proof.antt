@@ -3,10 +3,7 @@ use borrow.Author.Needs.{needs}
 use Rattle.judge.proofs.records.end_marked.Statement.{statement}
 use Rattle.judge.proofs.records.end_marked.Tie as tie
 
-returns : tie.Need-returns
-returns c = cc
-
 pub end-marked-spec : {M : Type 1} → statement M
 end-marked-spec =
     tie.close
-    (tie.spec (λ c κs. search needs) (λ c κs. search needs) (λ c κs. search needs) returns)
+    (tie.spec (λ c κs. search needs) (λ c κs. search needs) (λ c κs. search needs) (λ c. cc))

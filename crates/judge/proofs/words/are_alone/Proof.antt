@@ -20,20 +20,8 @@ abbrev μ-loop : tie.MeasureT-loop
 loop-holds : tie.Need-loop-holds Inv-loop μ-loop
 loop-holds c = λ k b. absurd (omega arith)
 
-add-loop : tie.Need-add-loop Inv-loop μ-loop
-add-loop c = search needs
-
-is-alone-requires : tie.Need-is-alone-requires Inv-loop μ-loop
-is-alone-requires c κs = search needs
-
 returns : tie.Need-returns Inv-loop μ-loop
 returns c = λ e. absurd (false≢true e)
-
-add-v : tie.Need-add-v Inv-loop μ-loop
-add-v c = search needs
-
-loop-less : tie.Need-loop-less Inv-loop μ-loop
-loop-less c = search needs
 
 loop-again : tie.Need-loop-again Inv-loop μ-loop
 loop-again c =
@@ -46,4 +34,6 @@ returns-2 c = λ e v b. c .before .loop .inv v (omega arith)
 
 pub are-alone-spec : {M : Type 1} → statement M
 are-alone-spec =
-    tie.close (tie.spec Inv-loop μ-loop loop-holds add-loop is-alone-requires returns add-v loop-less loop-again returns-2)
+    tie.close
+    (tie.spec Inv-loop μ-loop loop-holds (λ c. search needs) (λ c κs. search needs) returns (λ c. search needs) (λ c. search needs)
+    loop-again returns-2)

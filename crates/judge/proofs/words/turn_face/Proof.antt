@@ -10,7 +10,7 @@ use Rattle.judge.proofs.words.turn_face.Tie as tie
 turn-requires-2 : tie.Need-turn-requires-2
 turn-requires-2 c κs =
     let c1 = c .before in
-    let k3 = c1 .before .before .before .before .before in
+    let k3 = let b3 = c1 .before .before in b3 .before .before .before in
     let p = k3 .before .before .before .before .pre in
     (turned-size _ _ _ (c1 .turn .ensures) (p .0), omega (arith, p .2 .q, k3 .before .corner2 .ensures .0))
 
@@ -18,7 +18,7 @@ turn-requires-3 : tie.Need-turn-requires-3
 turn-requires-3 c κs =
     let c2 = c .before in
     let c1 = c2 .before .before in
-    let k3 = c1 .before .before .before .before .before in
+    let k3 = let b3 = c1 .before .before in b3 .before .before .before in
     let p = k3 .before .before .before .before .pre in
     (turned-size _ _ _ (c2 .turn2 .ensures) (turned-size _ _ _ (c1 .turn .ensures) (p .0)), omega (arith, p .2 .r, k3 .corner3 .ensures .0))
 

@@ -16,19 +16,10 @@ abbrev μ-loop : tie.MeasureT-loop
 loop-holds : tie.Need-loop-holds Inv-loop μ-loop
 loop-holds c = (omega arith, c .before .pre .0, used-none _ _)
 
-add-turn-face : tie.Need-add-turn-face Inv-loop μ-loop
-add-turn-face c = search needs
-
 turn-face-requires : tie.Need-turn-face-requires Inv-loop μ-loop
 turn-face-requires c κs =
     let l = c .before .before in
     (l .loop .inv .1 .size, omega arith, l .before .before .pre .1 .1 _ (omega arith))
-
-add-k : tie.Need-add-k Inv-loop μ-loop
-add-k c = search needs
-
-loop-less : tie.Need-loop-less Inv-loop μ-loop
-loop-less c = search needs
 
 loop-again : tie.Need-loop-again Inv-loop μ-loop
 loop-again c =
@@ -44,4 +35,4 @@ returns c =
 pub words-of-spec : {M : Type 1} → statement M
 words-of-spec =
     tie.close
-    (tie.spec Inv-loop μ-loop loop-holds add-turn-face turn-face-requires add-k loop-less loop-again returns)
+    (tie.spec Inv-loop μ-loop loop-holds (λ c. search needs) turn-face-requires (λ c. search needs) (λ c. search needs) loop-again returns)

@@ -9,8 +9,10 @@ returns : tie.Need-returns
 returns c =
     let r4 = c .before .before in
     let r3 = r4 .before .before .before .before in
-    let r2 = r3 .before .before .before .before .before in
-    let r1 = r2 .before .before .before .before .before in
+    let back2 = r3 .before .before .before .before in
+    let r2 = back2 .before in
+    let back1 = r2 .before .before .before .before in
+    let r1 = back1 .before in
     end-to-end (r1 .word .ensures) (end-to-end (number-is (r2 .before .number .ensures) (r2 .next-number .ensures))
     (end-to-end (number-is (r3 .before .place .ensures) (r3 .next-number2 .ensures)) (r4 .newline .ensures)))
 

@@ -16,4 +16,7 @@ returns-3 : tie.Need-returns-3
 returns-3 c = sym (at-most-low _ _ (omega arith))
 
 pub behind-spec : {M : Type 1} → statement M
-behind-spec = tie.close (tie.spec (λ c. search needs) (λ c. search needs) returns (λ c. search needs) returns-2 (λ c. search needs) (λ c. search needs) returns-3)
+behind-spec =
+    tie.close
+    (tie.spec (λ c. search needs) (λ c. search needs) returns (λ c. search needs) returns-2 (λ c. search needs) (λ c. search needs)
+    returns-3)

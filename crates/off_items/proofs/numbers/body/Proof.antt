@@ -4,11 +4,5 @@ use borrow.Author.Needs.{needs}
 use Rattle.off_items.proofs.numbers.body.Statement.{statement}
 use Rattle.off_items.proofs.numbers.body.Tie as tie
 
-returns : tie.Need-returns
-returns c = search body-behind
-
-returns-2 : tie.Need-returns-2
-returns-2 c = search body-there
-
 pub body-spec : {M : Type 1} → statement M
-body-spec = tie.close (tie.spec (λ c κs. search needs) (λ c. search needs) returns returns-2)
+body-spec = tie.close (tie.spec (λ c κs. search needs) (λ c. search needs) (λ c. search body-behind) (λ c. search body-there))

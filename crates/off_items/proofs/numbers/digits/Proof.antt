@@ -16,28 +16,8 @@ abbrev μ-loop : tie.MeasureT-loop
 loop-holds : tie.Need-loop-holds Inv-loop μ-loop
 loop-holds c = refl
 
-shared-slice-read-is-digit : tie.Need-shared-slice-read-is-digit Inv-loop μ-loop
-shared-slice-read-is-digit c = search scans
-
-is-digit-requires : tie.Need-is-digit-requires Inv-loop μ-loop
-is-digit-requires c κs = search scans
-
-returns : tie.Need-returns Inv-loop μ-loop
-returns c = search scans
-
-add-i : tie.Need-add-i Inv-loop μ-loop
-add-i c = search scans
-
-loop-less : tie.Need-loop-less Inv-loop μ-loop
-loop-less c = search scans
-
-loop-again : tie.Need-loop-again Inv-loop μ-loop
-loop-again c = search scans
-
-returns-2 : tie.Need-returns-2 Inv-loop μ-loop
-returns-2 c = search scans
-
 pub digits-spec : {M : Type 1} → statement M
 digits-spec =
     tie.close
-    (tie.spec Inv-loop μ-loop loop-holds shared-slice-read-is-digit is-digit-requires returns add-i loop-less loop-again returns-2)
+    (tie.spec Inv-loop μ-loop loop-holds (λ c. search scans) (λ c κs. search scans) (λ c. search scans) (λ c. search scans)
+    (λ c. search scans) (λ c. search scans) (λ c. search scans))

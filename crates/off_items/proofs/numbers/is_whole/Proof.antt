@@ -4,11 +4,5 @@ use borrow.Author.Needs.{needs}
 use Rattle.off_items.proofs.numbers.is_whole.Statement.{statement}
 use Rattle.off_items.proofs.numbers.is_whole.Tie as tie
 
-returns : tie.Need-returns
-returns c = search whole-digits
-
-returns-2 : tie.Need-returns-2
-returns-2 c = search whole-empty
-
 pub is-whole-spec : {M : Type 1} → statement M
-is-whole-spec = tie.close (tie.spec (λ c κs. search needs) (λ c κs. search needs) returns returns-2)
+is-whole-spec = tie.close (tie.spec (λ c κs. search needs) (λ c κs. search needs) (λ c. search whole-digits) (λ c. search whole-empty))

@@ -4,8 +4,5 @@ use borrow.Author.Needs.{needs}
 use Rattle.off_items.proofs.numbers.size.Statement.{statement}
 use Rattle.off_items.proofs.numbers.size.Tie as tie
 
-returns : tie.Need-returns
-returns c = search size-body
-
 pub size-spec : {M : Type 1} → statement M
-size-spec = tie.close (tie.spec (λ c κs. search needs) (λ c κs. search needs) returns)
+size-spec = tie.close (tie.spec (λ c κs. search needs) (λ c κs. search needs) (λ c. search size-body))

@@ -4,8 +4,5 @@ use borrow.Author.Needs.{needs}
 use Rattle.print_why.proofs.clauses.clause.Statement.{statement}
 use Rattle.print_why.proofs.clauses.clause.Tie as tie
 
-returns : tie.Need-returns
-returns c = search (one, and)
-
 pub clause-spec : {M : Type 1} → statement M
-clause-spec = tie.close (tie.spec (λ c κs. search needs) (λ c κs. search needs) (λ c. search needs) returns)
+clause-spec = tie.close (tie.spec (λ c κs. search needs) (λ c κs. search needs) (λ c. search needs) (λ c. search (one, and)))

@@ -4,10 +4,7 @@ use borrow.Author.Needs.{needs}
 use Rattle.print_why.proofs.clauses.two_bytes.Statement.{statement}
 use Rattle.print_why.proofs.clauses.two_bytes.Tie as tie
 
-returns : tie.Need-returns
-returns c = search (one, and)
-
 pub two-bytes-spec : {M : Type 1} → statement M
 two-bytes-spec =
     tie.close
-    (tie.spec (λ c κs. search needs) (λ c. search needs) (λ c κs. search needs) (λ c. search needs) returns)
+    (tie.spec (λ c κs. search needs) (λ c. search needs) (λ c κs. search needs) (λ c. search needs) (λ c. search (one, and)))

@@ -4,10 +4,8 @@ use borrow.Author.Needs.{needs}
 use Rattle.print_why.proofs.header.two_marks.Statement.{statement}
 use Rattle.print_why.proofs.header.two_marks.Tie as tie
 
-returns : tie.Need-returns
-returns c = search (one, and)
-
 pub two-marks-spec : {M : Type 1} → statement M
 two-marks-spec =
     tie.close
-    (tie.spec (λ c. search needs) (λ c κs. search needs) (λ c. search needs) (λ c κs. search needs) (λ c. search needs) returns)
+    (tie.spec (λ c. search needs) (λ c κs. search needs) (λ c. search needs) (λ c κs. search needs) (λ c. search needs)
+    (λ c. search (one, and)))

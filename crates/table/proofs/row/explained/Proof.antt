@@ -4,10 +4,7 @@ use borrow.Author.Needs.{needs}
 use Rattle.table.proofs.row.explained.Statement.{statement}
 use Rattle.table.proofs.row.explained.Tie as tie
 
-returns : tie.Need-returns
-returns c = search (one, and)
-
 pub explained-spec : {M : Type 1} → statement M
 explained-spec =
     tie.close
-    (tie.spec (λ c κs. search needs) (λ c κs. search needs) (λ c κs. search needs) (λ c. search needs) returns)
+    (tie.spec (λ c κs. search needs) (λ c κs. search needs) (λ c κs. search needs) (λ c. search needs) (λ c. search (one, and)))

@@ -24,7 +24,7 @@ loop-holds c = (omega arith, put-nothing _ _ (omega arith))
 
 loop-again : tie.Need-loop-again Inv-loop μ-loop
 loop-again c =
-    let l = c .before .before .before .before .before .before .before in
+    let l = let after-shown-byte = c .before .before .before in after-shown-byte .before .before .before .before in
     let w = now (l .before .before .before .before .args .name) in
     (omega arith, shown-more w (l .loop .i) (l .loop .inv .1) (omega arith) (search needs) (c .before .before .byte .ensures))
 

@@ -1,6 +1,5 @@
 -- By the tests.
 use Rattle.table.specs.Laws.{shown-low, shown-delete, shown-same}
-use borrow.Author.Needs.{needs}
 use Rattle.table.proofs.row.shown_byte.Statement.{statement}
 use Rattle.table.proofs.row.shown_byte.Tie as tie
 
