@@ -11,7 +11,6 @@ use lib.Count.{ones}
 use lib.IntN.{ℤ}
 use lib.ListN.{length, getD}
 use Rattle.laws.specs.Unique.{Once}
-use Rattle.laws.specs.Mask.{testBit}
 use Rattle.scene.specs.Limits.{within}
 use Rattle.scene.specs.Refusal.{numberOf, placeOf}
 use Rattle.scene.specs.Bytes.{byteAt, twoAt}
@@ -32,7 +31,7 @@ use Rattle.orient.specs.declared.Terms.{Terms}
 use Rattle.scene.specs.declared.Solid.{Solid}
 use Rattle.pierce.specs.Formula.{pierced}
 use Rattle.pierce_masks.specs.Faces.{valueOf, isOdd, hasFace, firstFace}
-use Rattle.pierce.specs.Against.{maskAgainst, enclosed}
+use Rattle.pierce.specs.Against.{maskAgainst}
 use Rattle.pierce_masks.specs.declared.Mask.{Mask}
 use Rattle.pierce_plain.specs.Five.{fiveSigns}
 use Rattle.survey.specs.declared.Part.{Part}
@@ -123,14 +122,11 @@ pub record EdgesOnce : Type 0 where
 pub record PierceOnce : Type 0 where
   pub mask : (corners : List ℕ) (n u v first count : ℕ) →
       OnceOfWords Words (λ (rows : List ℤ) (r : Mask). valueOf r ≡ maskAgainst n (rowIn rows) (faceIn corners) u v first count)
-  pub is-enclosed : (corners : List ℕ) (n u first count : ℕ) →
-      Once (λ (rows : List ℤ) (r : Bool). r ≡ enclosed n (rowIn rows) (faceIn corners) u first count)
   pub pierces : (n u v : ℕ) (f : Face) → Once (λ (rows : List ℤ) (r : Bool). r ≡ pierced n (rowIn rows) u v f)
   pub plain-pierces : (u v : ℕ) (f : Face) → Once (λ (rows : List ℤ) (r : Bool). r ≡ fiveSigns (rowIn rows) u v f)
   pub ones-of : Once (λ (m : Mask) (r : ℕ). r ≡ ones (valueOf m))
   pub is-odd : Once (λ (m : Mask) (r : Bool). r ≡ isOdd (valueOf m))
   pub has-face : Once (λ (m : Mask) (r : Bool). r ≡ hasFace (valueOf m))
-  pub has : (k : ℕ) → Once (λ (m : Mask) (r : Bool). r ≡ testBit (valueOf m) k)
   pub first-face : Once (λ (m : Mask) (r : ℕ). r ≡ firstFace (valueOf m))
 
 pub record KernelOnce : Type 0 where

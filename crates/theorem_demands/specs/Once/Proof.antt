@@ -148,13 +148,11 @@ of-pierce : PierceOnce
 of-pierce =
     record {
       mask = λ corners n u v first count rows b c x y p q. same-mask b c x y (p ∙ sym q);
-      is-enclosed = λ corners n u first count. once _;
       pierces = λ n u v f. once _;
       plain-pierces = λ u v f. once _;
       ones-of = once _;
       is-odd = once _;
       has-face = once _;
-      has = λ k. once _;
       first-face = once _;
     }
 
