@@ -11,8 +11,8 @@ use Rattle.scene.specs.Records.{vertsA, vertsB, facesA, facesB, pointStart, fac
 use Rattle.scene.specs.Refusal.{numberOf, placeOf}
 use Rattle.scene.specs.declared.Row.{Row}
 use Rattle.scene.specs.declared.Refusal.{Refusal}
-use Rattle.scene.specs.declared.Refusal.the-variants.{Opening, Lacking, Coordinate, Weight, Nowhere}
-use Rattle.judge.specs.Judge.{judged, rule}
+use Rattle.scene.specs.declared.Refusal.the-variants.{Opening, NoSuchNumber, Coordinate, Weight, FarAllZero}
+use Rattle.judge.specs.Judge.{judged, refuseUnless}
 use Rattle.judge.specs.declared.Judged.{Judged}
 use Rattle.judge.specs.declared.Judged.the-variants as judge
 use Rattle.session.specs.Session.{scene, empty, isWhole, opened, movedOf, farMovedOf}
@@ -110,7 +110,7 @@ solidsOf s = cond (isWhole s) (record { held = true; own = vertsA s; fixture = v
 unfoldable pub ownFault : Solids → ℕ → Answer
 ownFault k p =
     unless (k .held) (Scene Opening)
-    (unless (within 1 (k .own + k .fixture + 1) p) (Scene Lacking) (unless (within 1 (k .own) p) (Shared p) Done))
+    (unless (within 1 (k .own + k .fixture + 1) p) (Scene NoSuchNumber) (unless (within 1 (k .own) p) (Shared p) Done))
 
 -- then the session's move of the vertex, with its 5 and 6
 abbrev pub ownMovedBy : Answer → Session → ℕ → Row → Moved
@@ -127,7 +127,7 @@ groupMovedOf b g p v =
 -- ---- the lecturer's move: the fixture's vertices are numbered from 1, and the far point behind them
 
 unfoldable pub numberFault : Solids → ℕ → Judged
-numberFault k n = rule (k .held) Opening (rule (within 1 (k .fixture + 1) n) Lacking judge.Accepted)
+numberFault k n = refuseUnless (k .held) Opening (refuseUnless (within 1 (k .fixture + 1) n) NoSuchNumber judge.Accepted)
 
 -- the session's move of that point
 unfoldable pub sceneMoved : Session → Solids → ℕ → Row → Changed
@@ -136,7 +136,7 @@ sceneMoved s k n v = cond (leb n (k .fixture)) (movedOf s (k .own + n) v) (farMo
 -- a refusal of a row (5, 6, 14) tells the lecturer's number
 unfoldable pub placed : ℕ → Refusal → Refusal
 placed n r =
-    cond (eqb (numberOf r) 5) (Coordinate n) (cond (eqb (numberOf r) 6) (Weight n) (cond (eqb (numberOf r) 14) (Nowhere n) r))
+    cond (eqb (numberOf r) 5) (Coordinate n) (cond (eqb (numberOf r) 6) (Weight n) (cond (eqb (numberOf r) 14) (FarAllZero n) r))
 
 unfoldable pub placedIn : ℕ → Judged → Judged
 placedIn n judge.Accepted = judge.Accepted

@@ -13,8 +13,8 @@ use Rattle.scene.specs.Records.{vertsA, vertsB, facesA, facesB, lengthOf, point
 use Rattle.scene.specs.Refusal.{numberOf}
 use Rattle.scene.specs.declared.Row.{Row}
 use Rattle.scene.specs.declared.Refusal.{Refusal}
-use Rattle.scene.specs.declared.Refusal.the-variants.{Opening, Coordinate, Weight, Nowhere, Buffer}
-use Rattle.judge.specs.Judge.{judgedAt, headerFault, opens, rule, andThen}
+use Rattle.scene.specs.declared.Refusal.the-variants.{Opening, Coordinate, Weight, FarAllZero, BufferTooShort}
+use Rattle.judge.specs.Judge.{judgedAt, headerFault, opens, refuseUnless, andThen}
 use Rattle.judge.specs.Tests.{accepts, never}
 use Rattle.judge.specs.declared.Judged.{Judged}
 use Rattle.judge.specs.declared.Judged.the-variants as judge
@@ -97,13 +97,15 @@ scene-fits s n e = simp length-take (omega arith)
 
 pub solids-none : (s : List ℕ) (room : ℕ) {j : Judged} {r : Refusal} → j ≡ saveFault s room → j ≡ judge.Refused r → length s ≤ room →
     _≡_ {A = Solids} (record { held = false; own = 0; fixture = 0 }) (solidsOf s)
-unfolding saveFault solidsOf rule
+unfolding saveFault solidsOf refuseUnless
 solids-none s room {r = r} e q l = go (isWhole s) (sym e ∙ q)
   where
-    go : (b : Bool) → rule b Opening (rule (leb (length s) room) (Buffer (length s)) judge.Accepted) ≡ judge.Refused r →
+    go : (b : Bool) → refuseUnless b Opening (refuseUnless (leb (length s) room) (BufferTooShort (length s)) judge.Accepted) ≡ judge.Refused
+        r →
         _≡_ {A = Solids} (record { held = false; own = 0; fixture = 0 })
         (cond b (record { held = true; own = vertsA s; fixture = vertsB s }) (record { held = false; own = 0; fixture = 0 }))
-    go true h = absurd (never (ap (λ (b : Bool). rule b (Buffer (length s)) judge.Accepted) (sym (le-leb (length s) room l)) ∙ h))
+    go true h = absurd (never
+        (ap (λ (b : Bool). refuseUnless b (BufferTooShort (length s)) judge.Accepted) (sym (le-leb (length s) room l)) ∙ h))
     go false h = refl
 
 pub solids-held : (s out out′ : List ℕ) {j : Judged} {a b : ℕ} → IsSaved s out out′ j → j ≡ judge.Accepted → a ≡ byteAt out′ 2 →
@@ -121,7 +123,7 @@ solids-held s out out′ h q x y =
     (sym (eq-eqb (length s) (lengthOf s) (c .0)))
 
 pub nothing-opened : {c : Changed} → c ≡ opened [] → c .session ≡ empty
-unfolding opened judgedAt headerFault opens rule andThen
+unfolding opened judgedAt headerFault opens refuseUnless andThen
 nothing-opened e = ap (λ (c : Changed). c .session) e
 
 -- ---- the moves in one scene
@@ -144,7 +146,7 @@ module _ (n : ℕ) (r : Refusal) {k : ℕ} (e : k ≡ numberOf r) where
   unfolding placed
   placed-6 q = rw (sym e ∙ q)
 
-  pub placed-14 : k ≡ 14 → Nowhere n ≡ placed n r
+  pub placed-14 : k ≡ 14 → FarAllZero n ≡ placed n r
   unfolding placed
   placed-14 q = rw (sym e ∙ q)
 

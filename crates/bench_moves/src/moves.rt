@@ -57,7 +57,7 @@ fn own_fault(k: Solids, p: usize) -> Answer
         return Answer::Refused(Fault::Scene(Refusal::Opening));
     }
     if !is_within(1, k.own + k.fixture + 1, p) {
-        return Answer::Refused(Fault::Scene(Refusal::Lacking));
+        return Answer::Refused(Fault::Scene(Refusal::NoSuchNumber));
     }
     if !is_within(1, k.own, p) {
         return Answer::Refused(Fault::Shared(p));
@@ -102,7 +102,7 @@ fn number_fault(k: Solids, n: usize) -> Judged
         return Judged::Refused(Refusal::Opening);
     }
     if !is_within(1, k.fixture + 1, n) {
-        return Judged::Refused(Refusal::Lacking);
+        return Judged::Refused(Refusal::NoSuchNumber);
     }
     Judged::Accepted
 }
@@ -130,7 +130,7 @@ fn placed(n: usize, r: Refusal) -> Refusal
         return Refusal::Weight(n);
     }
     if k == 14 {
-        return Refusal::Nowhere(n);
+        return Refusal::FarAllZero(n);
     }
     r
 }

@@ -10,7 +10,7 @@ use Rattle.judge.specs.Judge.{judged}
 use Rattle.judge.specs.declared.Judged.{Judged}
 use Rattle.judge.specs.declared.Judged.the-variants.{Accepted, Refused}
 use Rattle.questions.specs.Answers as kernel
-use Rattle.questions.specs.Answers.{answered, listingIn, insideFault, insideIn, enclosingIn, listFault, listedIn, heldIn}
+use Rattle.questions.specs.Answers.{orRefuse, listingIn, insideFault, insideIn, enclosingIn, listFault, listedIn, heldIn}
 use Rattle.questions.specs.declared.Listed.{Listed}
 use Rattle.questions.specs.declared.Listed.the-variants as listed
 use Rattle.questions.specs.declared.Enclosing.{Enclosing}
@@ -26,17 +26,17 @@ refusalPlace (Refused r) = placeOf r
 
 -- the number of pierced pairs
 unfoldable pub pairsOf : List ℕ → ℕ
-pairsOf s = answered (λ _. 0) (judged s) (length (listingIn (viewOf s)))
+pairsOf s = orRefuse (λ _. 0) (judged s) (length (listingIn (viewOf s)))
 
 -- the number of vertices of solid k that the other one encloses
 unfoldable pub insideOf : List ℕ → ℕ → ℕ
-insideOf s k = answered (λ _. 0) (judged s) (answered (λ _. 0) (insideFault k) (insideIn (viewOf s) k))
+insideOf s k = orRefuse (λ _. 0) (judged s) (orRefuse (λ _. 0) (insideFault k) (insideIn (viewOf s) k))
 
 -- the number of pairs; d, what the lent list held, is kept where the scene is refused or there is no room, and else d′ has the listing in
 -- front
 pub record IsListing (s d d′ : List ℕ) (r : ℕ) : Type 0 where
   pub answer : r ≡ pairsOf s
-  pub held : d′ ≡ answered (λ _. d) (judged s) (heldIn (viewOf s) d)
+  pub held : d′ ≡ orRefuse (λ _. d) (judged s) (heldIn (viewOf s) d)
 
 -- ---- from the kernel's answers
 
@@ -58,13 +58,13 @@ enclosed (enclosing.Refused r) = 0
 
 -- the number of an answer that says nothing where it is refused
 number-of : {A : Type 0} (f : A → ℕ) (refuse : Refusal → A) → ((r : Refusal) → f (refuse r) ≡ 0) → (j : Judged) (x : A) →
-    f (answered refuse j x) ≡ answered (λ _. 0) j (f x)
-unfolding answered
+    f (orRefuse refuse j x) ≡ orRefuse (λ _. 0) j (f x)
+unfolding orRefuse
 number-of f refuse h Accepted x = refl
 number-of f refuse h (Refused r) x = h r
 
 pub pairs-are : (s : List ℕ) {o x : Listed} {n : ℕ} →
-    o ≡ answered listed.Refused (judged s) (listed.Count (length (listingIn (viewOf s)))) → o ≡ x → n ≡ counted x →
+    o ≡ orRefuse listed.Refused (judged s) (listed.Count (length (listingIn (viewOf s)))) → o ≡ x → n ≡ counted x →
     n ≡ pairsOf s
 unfolding pairsOf
 pairs-are s e q p =
@@ -74,18 +74,18 @@ pub inside-is : (s : List ℕ) (k : ℕ) {o x : Enclosing} {n : ℕ} → o ≡ k
 unfolding insideOf kernel.insideOf enclosingIn
 inside-is s k e q p =
     by-case enclosed e q p ∙ number-of enclosed enclosing.Refused (λ r. refl) (judged s) (enclosingIn (viewOf s) k)
-    ∙ ap (answered (λ _. 0) (judged s))
+    ∙ ap (orRefuse (λ _. 0) (judged s))
     (number-of enclosed enclosing.Refused (λ r. refl) (insideFault k) (enclosing.Count (insideIn (viewOf s) k)))
 
 -- a listing that was not refused is of an accepted scene
-pub listed-are : (s d : List ℕ) {o : Listed} {n : ℕ} → o ≡ answered listed.Refused (judged s) (listedIn (viewOf s) d) →
+pub listed-are : (s d : List ℕ) {o : Listed} {n : ℕ} → o ≡ orRefuse listed.Refused (judged s) (listedIn (viewOf s) d) →
     o ≡ listed.Count n → n ≡ pairsOf s
-unfolding answered pairsOf listedIn
+unfolding orRefuse pairsOf listedIn
 listed-are s d {n} e q = go (judged s) (listFault (viewOf s) d) (sym q ∙ e)
   where
     go : (j k : Judged) →
-        listed.Count n ≡ answered listed.Refused j (answered listed.Refused k (listed.Count (length (listingIn (viewOf s))))) →
-        n ≡ answered (λ _. 0) j (length (listingIn (viewOf s)))
+        listed.Count n ≡ orRefuse listed.Refused j (orRefuse listed.Refused k (listed.Count (length (listingIn (viewOf s))))) →
+        n ≡ orRefuse (λ _. 0) j (length (listingIn (viewOf s)))
     go Accepted Accepted p = ap counted p
     go Accepted (Refused r) p = cc
     go (Refused r) k p = cc

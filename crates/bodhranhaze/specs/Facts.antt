@@ -9,11 +9,11 @@ use lib.Dec.{ltb, leb}
 use lib.ListN.{length, drop, set}
 use Rattle.scene.specs.View.{viewOf}
 use Rattle.scene.specs.declared.Refusal.{Refusal}
-use Rattle.scene.specs.declared.Refusal.the-variants.{Room}
-use Rattle.judge.specs.Judge.{rule, andThen, judged}
+use Rattle.scene.specs.declared.Refusal.the-variants.{ListTooShort}
+use Rattle.judge.specs.Judge.{refuseUnless, andThen, judged}
 use Rattle.judge.specs.declared.Judged.{Judged}
 use Rattle.judge.specs.declared.Judged.the-variants.{Accepted, Refused}
-use Rattle.questions.specs.Answers.{answered, countsIn, listFault, heldIn, verdictNumber}
+use Rattle.questions.specs.Answers.{orRefuse, countsIn, listFault, heldIn, verdictNumber}
 use Rattle.survey_scene.specs.Facts.{factsIn, IsSurvey}
 use Rattle.questions.specs.declared.Facts.{Facts}
 use Rattle.questions.specs.declared.Surveyed.{Surveyed}
@@ -29,7 +29,7 @@ nothingKnown r =
     record { verdict = verdict.Refused r; counts = record { pairs = 0; «a_in_b» = 0; «b_in_a» = 0 }; «a_inside» = 0; «b_inside» = 0 }
 
 unfoldable pub factsOf : List ℕ → Facts
-factsOf s = answered nothingKnown (judged s) (factsIn (viewOf s))
+factsOf s = orRefuse nothingKnown (judged s) (factsIn (viewOf s))
 
 -- the scene's refusal, else that of a list d without room
 unfoldable pub surveyFault : (s d : List ℕ) → Judged
@@ -42,7 +42,7 @@ told number place f d =
     f .«b_inside» ∷ drop 8 d
 
 -- by a refusal or none
-pub record Told (j : Judged) (f : Facts) (d d′ : List ℕ) (r : ℕ) : Type 0 where
+pub record FactsPut (j : Judged) (f : Facts) (d d′ : List ℕ) (r : ℕ) : Type 0 where
   pub number : r ≡ refusalNumber j
   pub facts : d′ ≡ told (refusalNumber j) (refusalPlace j) f d
 
@@ -52,7 +52,7 @@ few d = ltb (length d) 8
 -- the list d and the facts f, and what they hold afterwards
 pub record IsFacts (s d d′ f f′ : List ℕ) (r : ℕ) : Type 0 where
   pub answer : r ≡ cond (few f) 13 (refusalNumber (surveyFault s d))
-  pub held : d′ ≡ cond (few f) d (answered (λ _. d) (judged s) (heldIn (viewOf s) d))
+  pub held : d′ ≡ cond (few f) d (orRefuse (λ _. d) (judged s) (heldIn (viewOf s) d))
   pub facts : f′ ≡ cond (few f) f (told (refusalNumber (surveyFault s d)) (refusalPlace (surveyFault s d)) (factsOf s) f)
 
 -- ---- laws
@@ -80,19 +80,19 @@ eight-told d number place f l e p =
     f .«b_inside» ∷ drop 8 d) e
 
 pub told-so : {j : Judged} {f : Facts} (d : List ℕ) {d′ : List ℕ} {n p : ℕ} → n ≡ refusalNumber j → p ≡ refusalPlace j →
-    d′ ≡ told n p f d → Told j f d d′ n
+    d′ ≡ told n p f d → FactsPut j f d d′ n
 told-so {f = f} d e q h = record { number = e; facts = h ∙ ap₂ (λ (n p : ℕ). told n p f d) e q }
 
 -- of a list with so many places
 unfoldable pub roomFor : (n places : ℕ) → Judged
-roomFor n places = rule (leb (3 * n) places) (Room n) Accepted
+roomFor n places = refuseUnless (leb (3 * n) places) (ListTooShort n) Accepted
 
-pub short : {n : ℕ} (places : ℕ) → places / 3 < n → Refused (Room n) ≡ roomFor n places
-unfolding roomFor rule
+pub short : {n : ℕ} (places : ℕ) → places / 3 < n → Refused (ListTooShort n) ≡ roomFor n places
+unfolding roomFor refuseUnless
 short {n} places h = rw (lt-leb (3 * n) places (omega arith)) refl
 
 pub long : {n : ℕ} (places : ℕ) → n ≤ places / 3 → Accepted ≡ roomFor n places
-unfolding roomFor rule
+unfolding roomFor refuseUnless
 long {n} places h = rw (le-leb (3 * n) places (omega arith)) refl
 
 module _ (s d f : List ℕ) where
@@ -108,39 +108,39 @@ module _ (s d f : List ℕ) where
       let e : few f ≡ true = lt-ltb (length f) 8 h in
       record {
         answer = chosen 13 (refusalNumber fault) e;
-        held = chosen d (answered (λ _. d) (judged s) (heldIn (viewOf s) d)) e;
+        held = chosen d (orRefuse (λ _. d) (judged s) (heldIn (viewOf s) d)) e;
         facts = chosen f (told (refusalNumber fault) (refusalPlace fault) (factsOf s) f) e;
       }
 
   module _ (enough : 8 ≤ length f) {d′ f′ : List ℕ} {o : Surveyed} {n : ℕ} (x : IsSurvey s d d′ o) where
-    by-judge : {k : Judged} {g : Facts} → k ≡ fault → g ≡ factsOf s → Told k g f f′ n → IsFacts s d d′ f f′ n
+    by-judge : {k : Judged} {g : Facts} → k ≡ fault → g ≡ factsOf s → FactsPut k g f f′ n → IsFacts s d d′ f f′ n
     by-judge a b t =
         let e : few f ≡ false = le-ltb (length f) 8 enough in
         record {
           answer = t .number ∙ ap refusalNumber a ∙ chosen 13 (refusalNumber fault) e;
-          held = x .held ∙ chosen d (answered (λ _. d) (judged s) (heldIn (viewOf s) d)) e;
+          held = x .held ∙ chosen d (orRefuse (λ _. d) (judged s) (heldIn (viewOf s) d)) e;
           facts =
               t .facts ∙ ap₂ (λ (k : Judged) (g : Facts). told (refusalNumber k) (refusalPlace k) g f) a b
               ∙ chosen f (told (refusalNumber fault) (refusalPlace fault) (factsOf s) f) e;
         }
 
-    pub facts-refused : {r : Refusal} → o ≡ surveyed.Refused r → {g : Facts} → g ≡ nothingKnown r → Told (Refused r) g f f′ n →
+    pub facts-refused : {r : Refusal} → o ≡ surveyed.Refused r → {g : Facts} → g ≡ nothingKnown r → FactsPut (Refused r) g f f′ n →
         IsFacts s d d′ f f′ n
-    unfolding answered andThen surveyFault factsOf
+    unfolding orRefuse andThen surveyFault factsOf
     facts-refused {r} q {g} e t = let w = go (judged s) (sym q ∙ x .answer) in by-judge (w .0) (e ∙ w .1) t
       where
-        go : (j : Judged) → surveyed.Refused r ≡ answered surveyed.Refused j (surveyed.Facts (factsIn (viewOf s))) →
-            (Refused r ≡ andThen j (listFault (viewOf s) d)) × (nothingKnown r ≡ answered nothingKnown j (factsIn (viewOf s)))
+        go : (j : Judged) → surveyed.Refused r ≡ orRefuse surveyed.Refused j (surveyed.Facts (factsIn (viewOf s))) →
+            (Refused r ≡ andThen j (listFault (viewOf s) d)) × (nothingKnown r ≡ orRefuse nothingKnown j (factsIn (viewOf s)))
         go Accepted h = let k : _≡_ {A = ℕ} 0 1 = cc in absurd (omega arith)
         go (Refused w) h = let same : r ≡ w = cc in (ap Refused same, ap nothingKnown same)
 
     pub facts-told : {g : Facts} → o ≡ surveyed.Facts g → {k : Judged} → k ≡ roomFor (g .counts .pairs) (length d′) → length d′ ≡ length d →
-        Told k g f f′ n → IsFacts s d d′ f f′ n
-    unfolding answered andThen surveyFault factsOf roomFor listFault factsIn countsIn
+        FactsPut k g f f′ n → IsFacts s d d′ f f′ n
+    unfolding orRefuse andThen surveyFault factsOf roomFor listFault factsIn countsIn
     facts-told {g} q {k} e l t = let w = go (judged s) (sym q ∙ x .answer) in by-judge (w .0) (w .1) t
       where
-        go : (j : Judged) → surveyed.Facts g ≡ answered surveyed.Refused j (surveyed.Facts (factsIn (viewOf s))) →
-            (k ≡ andThen j (listFault (viewOf s) d)) × (g ≡ answered nothingKnown j (factsIn (viewOf s)))
+        go : (j : Judged) → surveyed.Facts g ≡ orRefuse surveyed.Refused j (surveyed.Facts (factsIn (viewOf s))) →
+            (k ≡ andThen j (listFault (viewOf s) d)) × (g ≡ orRefuse nothingKnown j (factsIn (viewOf s)))
         go (Refused w) h = let k : _≡_ {A = ℕ} 0 1 = cc in absurd (omega arith)
         go Accepted h =
             let same : g ≡ factsIn (viewOf s) = cc in

@@ -9,12 +9,12 @@ use lib.ListN.{length}
 use Rattle.scene.specs.Refusal.{numberOf}
 use Rattle.scene.specs.View.{View, viewOf}
 use Rattle.scene.specs.declared.Refusal.{Refusal}
-use Rattle.scene.specs.declared.Refusal.the-variants.{Room}
-use Rattle.judge.specs.Judge.{rule, andThen, judged}
+use Rattle.scene.specs.declared.Refusal.the-variants.{ListTooShort}
+use Rattle.judge.specs.Judge.{refuseUnless, andThen, judged}
 use Rattle.judge.specs.declared.Judged.{Judged}
 use Rattle.judge.specs.declared.Judged.the-variants.{Accepted, Refused}
 use Rattle.questions.specs.Answers as kernel
-use Rattle.questions.specs.Answers.{answered, listingIn, listFault}
+use Rattle.questions.specs.Answers.{orRefuse, listingIn, listFault}
 use Rattle.questions.specs.declared.Enclosing.{Enclosing}
 use Rattle.questions.specs.declared.Enclosing.the-variants as enclosing
 use Rattle.bodhranhaze.specs.Calls.{refusalNumber, pairsOf, by-case}
@@ -28,7 +28,7 @@ insideRefusal s k = whyNot (kernel.insideOf s k)
 
 -- of a list with so many places
 unfoldable pub roomFault : View → ℕ → Judged
-roomFault v places = rule (leb (3 * length (listingIn v)) places) (Room (length (listingIn v))) Accepted
+roomFault v places = refuseUnless (leb (3 * length (listingIn v)) places) (ListTooShort (length (listingIn v))) Accepted
 
 unfoldable pub listingRefusal : List ℕ → ℕ → ℕ
 listingRefusal s places = refusalNumber (andThen (judged s) (roomFault (viewOf s) places))
@@ -49,21 +49,21 @@ module _ (s : List ℕ) (places : ℕ) {o : Judged} (e : o ≡ judged s) where
 
   module _ {n : ℕ} (q : o ≡ Accepted) (count : n ≡ pairsOf s) where
     count-is : n ≡ length (listingIn (viewOf s))
-    unfolding pairsOf answered
-    count-is = count ∙ ap (λ (j : Judged). answered (λ _. 0) j (length (listingIn (viewOf s)))) (sym e ∙ q)
+    unfolding pairsOf orRefuse
+    count-is = count ∙ ap (λ (j : Judged). orRefuse (λ _. 0) j (length (listingIn (viewOf s)))) (sym e ∙ q)
 
     told : refusalNumber (roomFault (viewOf s) places) ≡ listingRefusal s places
     unfolding listingRefusal andThen
     told = ap (λ (j : Judged). refusalNumber (andThen j (roomFault (viewOf s) places))) (sym q ∙ e)
 
     pub why-room : places / 3 < n → 10 ≡ listingRefusal s places
-    unfolding roomFault rule
+    unfolding roomFault refuseUnless
     why-room h =
-        sym (ap (λ b. refusalNumber (rule b (Room (length (listingIn (viewOf s)))) Accepted))
+        sym (ap (λ b. refusalNumber (refuseUnless b (ListTooShort (length (listingIn (viewOf s)))) Accepted))
         (lt-leb (3 * length (listingIn (viewOf s))) places (omega (arith, count-is)))) ∙ told
 
     pub why-none : n ≤ places / 3 → 0 ≡ listingRefusal s places
-    unfolding roomFault rule
+    unfolding roomFault refuseUnless
     why-none h =
-        sym (ap (λ b. refusalNumber (rule b (Room (length (listingIn (viewOf s)))) Accepted))
+        sym (ap (λ b. refusalNumber (refuseUnless b (ListTooShort (length (listingIn (viewOf s)))) Accepted))
         (le-leb (3 * length (listingIn (viewOf s))) places (omega (arith, count-is)))) ∙ told

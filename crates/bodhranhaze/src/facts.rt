@@ -2,7 +2,7 @@
 ghost use mathlib.Core.Path.{_≡_};
 ghost use Prim.Native.Nat.{_≤_};
 ghost use lib.ListN.{length};
-ghost use Rattle.bodhranhaze.specs.Facts.{roomFor, told, nothingKnown, Told, IsFacts};
+ghost use Rattle.bodhranhaze.specs.Facts.{roomFor, told, nothingKnown, FactsPut, IsFacts};
 use crate::number_of;
 use crate::place_of;
 use crate::verdict_number;
@@ -35,7 +35,7 @@ fn tell(facts: &mut [u64], number: usize, place: usize, f: Facts)
 // What is told, and the refusal's number, 0 where there is none.
 fn say(facts: &mut [u64], j: Judged, f: Facts) -> usize
     requires { ⌜ 8 ≤ length (now facts) ⌝ }
-    ensures { λ r. ⌜ Told j f (now (facts .entry)) (now (facts .exit)) r ⌝ }
+    ensures { λ r. ⌜ FactsPut j f (now (facts .entry)) (now (facts .exit)) r ⌝ }
 {
     let n = number_of(j);
     tell(facts, n, place_of(j), f);
@@ -63,7 +63,7 @@ fn room_for(n: usize, places: usize) -> Judged
     ensures { λ j. ⌜ j ≡ roomFor n places ⌝ }
 {
     if n > places / 3 {
-        return Judged::Refused(Refusal::Room(n));
+        return Judged::Refused(Refusal::ListTooShort(n));
     }
     Judged::Accepted
 }

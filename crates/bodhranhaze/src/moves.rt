@@ -2,7 +2,7 @@
 // changed.
 ghost use Prim.Native.Nat.{_-_};
 ghost use Rattle.scene.specs.Write.{rowPut};
-ghost use Rattle.session.specs.Session.{turnedIn};
+ghost use Rattle.session.specs.Session.{reversedIn};
 ghost use Rattle.session.specs.Place.{moveFault, moveFarFault, reverseFault};
 ghost use Rattle.bodhranhaze.specs.Moves.{rowOf, IsAnswered};
 use judge::Judged;
@@ -50,7 +50,7 @@ pub extern "C" fn bodhranhaze_move_far(s: &mut [u8], x: i64, y: i64, z: i64, w: 
 // A face, its first and third corners swapped.
 #[no_mangle]
 pub extern "C" fn bodhranhaze_reverse(s: &mut [u8], f: usize) -> usize
-    ensures { λ r. ⌜ IsAnswered (reverseFault (now (s .entry)) f) (now (s .entry)) (turnedIn (now (s .entry)) (now (s .entry)) (f - 1))
+    ensures { λ r. ⌜ IsAnswered (reverseFault (now (s .entry)) f) (now (s .entry)) (reversedIn (now (s .entry)) (now (s .entry)) (f - 1))
         (now (s .exit)) r ⌝ }
 {
     let j = place::reverse(s, f);

@@ -15,7 +15,7 @@ use Rattle.scene.specs.Records.{lengthOf, markSC}
 use Rattle.scene.specs.Refusal.{numberOf}
 use Rattle.scene.specs.declared.Refusal.{Refusal}
 use Rattle.scene.specs.declared.Refusal.the-variants.{Opening, Counts, Length}
-use Rattle.judge.specs.Judge.{rule, andThen, opens, countsOk, headerFault, judgedAt, judged}
+use Rattle.judge.specs.Judge.{refuseUnless, andThen, opens, countsOk, headerFault, judgedAt, judged}
 use Rattle.judge.specs.declared.Judged.{Judged}
 use Rattle.judge.specs.declared.Judged.the-variants.{Accepted, Refused}
 use Rattle.class_block.specs.Block.{headed, whole, sizeOf}
@@ -56,10 +56,11 @@ module _ (s : List ℕ) (h : 6 ≤ length s) where
   fault a b = cond a (cond b Length Counts) Opening
 
   judged-six : judged six ≡ Refused (fault (opens s) (countsOk limits s))
-  unfolding judgedAt headerFault rule andThen
+  unfolding judgedAt headerFault refuseUnless andThen
   judged-six = rw (opens-same s 6 (omega arith) h, counts-same s 6 (omega arith) h, too-short) (go (opens s) (countsOk limits s) _)
     where
-      go : (a b : Bool) (k : Judged) → andThen (rule a Opening (rule b Counts (rule false Length Accepted))) k ≡ Refused (fault a b)
+      go : (a b : Bool) (k : Judged) → andThen (refuseUnless a Opening (refuseUnless b Counts (refuseUnless false Length Accepted))) k ≡
+          Refused (fault a b)
       go true true k = refl
       go true false k = refl
       go false b k = refl

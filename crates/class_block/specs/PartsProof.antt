@@ -13,7 +13,7 @@ use Rattle.laws.specs.Lists.{Each}
 use Rattle.scene.specs.Limits.{limits}
 use Rattle.scene.specs.Records.{lengthOf}
 use Rattle.scene.specs.declared.Refusal.the-variants.{Opening, Counts, Length}
-use Rattle.judge.specs.Judge.{rule, andThen, opens, countsOk, headerFault, judgedAt, judged}
+use Rattle.judge.specs.Judge.{refuseUnless, andThen, opens, countsOk, headerFault, judgedAt, judged}
 use Rattle.judge.specs.declared.Judged.the-variants.{Accepted, Refused}
 use Rattle.class_block.specs.Block.{headed, whole, sizeOf, sceneOf, behind, scenesOf, endAt}
 use Rattle.class_block.specs.Scenes.{size-most, size-some, scenes-end, scenes-next, byte-left, behind-here}
@@ -78,15 +78,15 @@ module _ (s : List ℕ) where
       go false b e p = absurd (let z : _≡_ {A = ℕ} 0 1 = cc in omega arith)
 
   is-opening : opens s ≡ false → judged s ≡ Refused Opening
-  unfolding judgedAt headerFault rule andThen
+  unfolding judgedAt headerFault refuseUnless andThen
   is-opening e = rw e
 
   is-counts : opens s ≡ true → countsOk limits s ≡ false → judged s ≡ Refused Counts
-  unfolding judgedAt headerFault rule andThen
+  unfolding judgedAt headerFault refuseUnless andThen
   is-counts e d = rw (e, d)
 
   is-length : headed s ≡ true → length s < lengthOf s → judged s ≡ Refused Length
-  unfolding judgedAt headerFault rule andThen
+  unfolding judgedAt headerFault refuseUnless andThen
   is-length e h = rw (has-opening e .0, has-opening e .1, ne-eqb (length s) (lengthOf s) (λ p. omega arith))
 
   some-left : headed s ≡ true → 0 < length s
@@ -98,7 +98,7 @@ module _ (s : List ℕ) where
 
   -- the scene has the length that its header says
   sound : headed s ≡ true → lengthOf s ≤ length s → headerFault limits (take (lengthOf s) s) ≡ Accepted
-  unfolding headerFault rule
+  unfolding headerFault refuseUnless
   sound e h =
       let n = lengthOf s in
       let m : 6 ≤ n = omega arith in

@@ -17,7 +17,7 @@ use Rattle.scene.specs.View.{viewOf}
 use Rattle.judge.specs.Judge.{judged}
 use Rattle.judge.specs.declared.Judged.{Judged}
 use Rattle.judge.specs.declared.Judged.the-variants.{Accepted, Refused}
-use Rattle.questions.specs.Answers.{answered, verdictIn, countsIn, verdictOf, countedOf}
+use Rattle.questions.specs.Answers.{orRefuse, verdictIn, countsIn, verdictOf, countedOf}
 use Rattle.survey_scene.specs.Facts.{factsIn, IsSurvey}
 use Rattle.questions.specs.declared.Facts.{Facts}
 use Rattle.questions.specs.declared.Surveyed.{Surveyed}
@@ -101,14 +101,14 @@ mark-by f e = λ i. record { line = e i; pairs = f .counts .pairs }
 module _ (s : List ℕ) {d d′ : List ℕ} {o : Surveyed} (x : IsSurvey s d d′ o) where
   pub mark-refused : {r : Refusal} {n k : ℕ} → o ≡ surveyed.Refused r → n ≡ numberOf r → k ≡ refusedLine n →
       record { line = k; pairs = 0 } ≡ markOf s
-  unfolding markOf verdictOf countedOf answered
+  unfolding markOf verdictOf countedOf orRefuse
   mark-refused {r} {k = k} q e h = go (judged s) (sym q ∙ x .answer)
     where
-      go : (j : Judged) → surveyed.Refused r ≡ answered surveyed.Refused j (surveyed.Facts (factsIn (viewOf s))) →
+      go : (j : Judged) → surveyed.Refused r ≡ orRefuse surveyed.Refused j (surveyed.Facts (factsIn (viewOf s))) →
           _≡_ {A = Mark} (record { line = k; pairs = 0 })
           (record {
-            line = lineOf (answered verdict.Refused j (verdictIn (viewOf s)));
-            pairs = pairsIn (answered counted.Refused j (counted.Counts (countsIn (viewOf s))));
+            line = lineOf (orRefuse verdict.Refused j (verdictIn (viewOf s)));
+            pairs = pairsIn (orRefuse counted.Refused j (counted.Counts (countsIn (viewOf s))));
           })
       go Accepted p = let c : _≡_ {A = ℕ} 0 1 = cc in absurd (omega arith)
       go (Refused w) p =
@@ -117,14 +117,14 @@ module _ (s : List ℕ) {d d′ : List ℕ} {o : Surveyed} (x : IsSurvey s d d�
           λ i. record { line = l i; pairs = 0 }
 
   pub mark-told : {f : Facts} {m : Mark} → o ≡ surveyed.Facts f → m ≡ markBy f → m ≡ markOf s
-  unfolding markOf verdictOf countedOf answered factsIn
+  unfolding markOf verdictOf countedOf orRefuse factsIn
   mark-told {f} q e = e ∙ go (judged s) (sym q ∙ x .answer)
     where
-      go : (j : Judged) → surveyed.Facts f ≡ answered surveyed.Refused j (surveyed.Facts (factsIn (viewOf s))) →
+      go : (j : Judged) → surveyed.Facts f ≡ orRefuse surveyed.Refused j (surveyed.Facts (factsIn (viewOf s))) →
           markBy f
           ≡ record {
-            line = lineOf (answered verdict.Refused j (verdictIn (viewOf s)));
-            pairs = pairsIn (answered counted.Refused j (counted.Counts (countsIn (viewOf s))));
+            line = lineOf (orRefuse verdict.Refused j (verdictIn (viewOf s)));
+            pairs = pairsIn (orRefuse counted.Refused j (counted.Counts (countsIn (viewOf s))));
           }
       go Accepted p = let same : f ≡ factsIn (viewOf s) = cc in ap markBy same
       go (Refused w) p = let c : _≡_ {A = ℕ} 0 1 = cc in absurd (omega arith)

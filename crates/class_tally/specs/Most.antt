@@ -18,12 +18,12 @@ use Rattle.rules.specs.Given as given
 use Rattle.scene_edges.specs.Edges.{joined}
 use Rattle.scene.specs.declared.Solid.{Solid}
 use Rattle.pierce.specs.Formula.{pierced}
-use Rattle.question_listing.specs.Hits.{Seen, faceHits, edgeHits, pairHits, pairsAt, vertexHits, solidHits, lowestInside}
+use Rattle.question_listing.specs.Hits.{PierceView, faceHits, edgeHits, pairHits, pairsAt, vertexHits, solidHits, lowestEnclosed}
 use Rattle.scene.specs.View.{viewOf, solidA, solidB, solid}
 use Rattle.question_listing.specs.First.{firstOf}
 use Rattle.question_listing.specs.declared.find.Found.{Found}
 use Rattle.question_listing.specs.declared.find.Found.the-variants.{Nothing, Pair}
-use Rattle.questions.specs.Answers.{answered, countsIn, countedOf, crossOr, enclosureIn, verdictIn, verdictOf, listingIn, seen}
+use Rattle.questions.specs.Answers.{orRefuse, countsIn, countedOf, crossOr, enclosureIn, verdictIn, verdictOf, listingIn, pierceView}
 use Rattle.questions.specs.declared.Verdict.the-variants as verdict
 use Rattle.questions.specs.declared.Counted.the-variants as counted
 use Rattle.class_tally.specs.Tally.{lineOf, pairsIn, markOf}
@@ -31,10 +31,10 @@ use Rattle.class_tally.specs.Tally.{lineOf, pairsIn, markOf}
 abbrev pub mostPairs : ℕ
 mostPairs = 2 * (limits .mostVertices * (limits .mostVertices * limits .mostFaces))
 
-module _ (s : Seen) (k : Solid) (hv : k .verts ≤ limits .mostVertices) (hf : k .others ≤ limits .mostFaces) where
+module _ (s : PierceView) (k : Solid) (hv : k .verts ≤ limits .mostVertices) (hf : k .others ≤ limits .mostFaces) where
   face-most : (u v i : ℕ) → length (faceHits s k u v i) ≤ 1
   unfolding faceHits
-  face-most u v i = only-most (pierced (s .points) (s .row) u v (s .face (k .other + 1 + i))) _ 1 (omega arith)
+  face-most u v i = only-most (pierced (s .points) (s .row) u v (s .face (k .other0 + 1 + i))) _ 1 (omega arith)
 
   pair-most : (u v : ℕ) (b : Bool) → length (pairHits s k u v b) ≤ limits .mostFaces
   unfolding pairHits edgeHits
@@ -46,7 +46,7 @@ module _ (s : Seen) (k : Solid) (hv : k .verts ≤ limits .mostVertices) (hf : k
       omega (
         arith,
         bounded (pairsAt s k u) (limits .mostFaces) (k .verts)
-            (λ m. pair-most u (k .low + 1 + m) (joined (s .face) k u (k .low + 1 + m))),
+            (λ m. pair-most u (k .vert0 + 1 + m) (joined (s .face) k u (k .vert0 + 1 + m))),
       )
 
   solid-most : length (solidHits s k) ≤ limits .mostVertices * (limits .mostVertices * limits .mostFaces)
@@ -54,8 +54,8 @@ module _ (s : Seen) (k : Solid) (hv : k .verts ≤ limits .mostVertices) (hf : k
   solid-most =
       omega (
         arith,
-        bounded (λ i. vertexHits s k (k .low + 1 + i)) (limits .mostVertices * limits .mostFaces) (k .verts)
-            (λ i. vertex-most (k .low + 1 + i)),
+        bounded (λ i. vertexHits s k (k .vert0 + 1 + i)) (limits .mostVertices * limits .mostFaces) (k .verts)
+            (λ i. vertex-most (k .vert0 + 1 + i)),
       )
 
 listing-most : (s : List ℕ) → judged s ≡ Accepted → length (listingIn (viewOf s)) ≤ mostPairs
@@ -64,16 +64,16 @@ listing-most s ok =
     let c = given.counts limits s ok in
     omega (
       arith,
-      length-append (solidHits (seen (viewOf s)) (solidA (viewOf s))) (solidHits (seen (viewOf s)) (solidB (viewOf s))),
-      solid-most (seen (viewOf s)) (solidA (viewOf s)) (omega (arith, c .vertices-a)) (omega (arith, c .faces-b)),
-      solid-most (seen (viewOf s)) (solidB (viewOf s)) (omega (arith, c .vertices-b)) (omega (arith, c .faces-a)),
+      length-append (solidHits (pierceView (viewOf s)) (solidA (viewOf s))) (solidHits (pierceView (viewOf s)) (solidB (viewOf s))),
+      solid-most (pierceView (viewOf s)) (solidA (viewOf s)) (omega (arith, c .vertices-a)) (omega (arith, c .faces-b)),
+      solid-most (pierceView (viewOf s)) (solidB (viewOf s)) (omega (arith, c .vertices-b)) (omega (arith, c .faces-a)),
     )
 
 pub pairs-most : (s : List ℕ) → pairsIn (countedOf s) ≤ mostPairs
-unfolding countedOf countsIn answered
+unfolding countedOf countsIn orRefuse
 pairs-most s = go (judged s) refl
   where
-    go : (j : Judged) → judged s ≡ j → pairsIn (answered counted.Refused j (counted.Counts (countsIn (viewOf s)))) ≤ mostPairs
+    go : (j : Judged) → judged s ≡ j → pairsIn (orRefuse counted.Refused j (counted.Counts (countsIn (viewOf s)))) ≤ mostPairs
     go Accepted e = listing-most s e
     go (Refused r) e = omega arith
 
@@ -83,10 +83,10 @@ unfolding verdictIn enclosureIn solid
 within-words s = go (firstOf (listingIn (viewOf s))) (leb p (vertsA s)) (leb q (verts s)) p q
   where
     p : ℕ
-    p = lowestInside (seen (viewOf s)) (solidA (viewOf s))
+    p = lowestEnclosed (pierceView (viewOf s)) (solidA (viewOf s))
 
     q : ℕ
-    q = lowestInside (seen (viewOf s)) (solidB (viewOf s))
+    q = lowestEnclosed (pierceView (viewOf s)) (solidB (viewOf s))
 
     go : (f : Found) (a b : Bool) (p q : ℕ) → lineOf (crossOr f (cond a (verdict.AInB p) (cond b (verdict.BInA q) verdict.Apart))) ≤ 4
     go (Pair u v f) a b p q = omega arith
@@ -95,10 +95,10 @@ within-words s = go (firstOf (listingIn (viewOf s))) (leb p (vertsA s)) (leb q (
     go Nothing false false p q = omega arith
 
 pub pairs-or-line : (s : List ℕ) → (markOf s .pairs ≡ 0) ⊎ (markOf s .line ≤ 4)
-unfolding markOf countedOf verdictOf answered
+unfolding markOf countedOf verdictOf orRefuse
 pairs-or-line s = go (judged s)
   where
-    go : (j : Judged) → (pairsIn (answered counted.Refused j (counted.Counts (countsIn (viewOf s)))) ≡ 0)
-        ⊎ (lineOf (answered verdict.Refused j (verdictIn (viewOf s))) ≤ 4)
+    go : (j : Judged) → (pairsIn (orRefuse counted.Refused j (counted.Counts (countsIn (viewOf s)))) ≡ 0)
+        ⊎ (lineOf (orRefuse verdict.Refused j (verdictIn (viewOf s))) ≤ 4)
     go Accepted = inr (within-words s)
     go (Refused r) = inl refl

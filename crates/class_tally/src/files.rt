@@ -63,5 +63,5 @@ pub fn tally(f: Files) -> Tally
     ensures { λ r. ⌜ r ≡ told (f .lines) (f .pairs) ⌝ }
 {
     let lines = f.lines;
-    marks::told(&lines, f.pairs)
+    marks::tally_of(&lines, f.pairs)
 }

@@ -81,7 +81,7 @@ fn accepted(lines: &Lines) -> usize
     sum(b, lines[4])
 }
 
-pub fn told(lines: &Lines, pairs: usize) -> Tally
+pub fn tally_of(lines: &Lines, pairs: usize) -> Tally
     ensures { λ r. ⌜ r ≡ madeBy (λ k. getD (now (lines .entry)) k 0) (acceptedIn (now (lines .entry))) pairs ⌝ }
 {
     Tally {
@@ -119,5 +119,5 @@ pub fn tally(block: &[u8]) -> Tally
         pairs += m.pairs;
         at += s.len();
     }
-    told(&lines, pairs)
+    tally_of(&lines, pairs)
 }

@@ -4,7 +4,7 @@ ghost use Prim.Native.Nat.{_≤_};
 ghost use Rattle.off_items.specs.Numbers.{made, atMost};
 ghost use Rattle.cli_words.specs.Word.{most, numberOf};
 use off_items::numbers::is_whole;
-use off_items::numbers::told;
+use off_items::numbers::signed_number;
 
 // A word's number. One that is larger in size than MOST is told as MOST, which is outside every limit.
 pub enum Word {
@@ -14,7 +14,7 @@ pub enum Word {
 
 const MOST: usize = 1000000000000000000;
 
-fn held(n: usize) -> usize
+fn capped(n: usize) -> usize
     ensures { λ r. ⌜ (r ≡ atMost most n) × (r ≤ most) ⌝ }
 {
     if n > MOST {
@@ -40,8 +40,8 @@ pub fn number(w: &[u8]) -> Word
     if !is_whole(w, 0, w.len(), true) {
         return Word::None;
     }
-    let n = told(w, 0, w.len());
-    Word::Number(signed(n.minus, held(n.size)))
+    let n = signed_number(w, 0, w.len());
+    Word::Number(signed(n.minus, capped(n.size)))
 }
 
 // A word for which 32 bytes are too few, up to the longest that the system passes on.

@@ -7,7 +7,7 @@ use lib.Dec.{leb}
 use lib.IntN.{ℤ, pos, negsuc}
 use lib.ListN.{length, drop}
 use Rattle.scene.specs.Records.{markVX}
-use Rattle.scene.specs.declared.Refusal.the-variants.{Buffer}
+use Rattle.scene.specs.declared.Refusal.the-variants.{BufferTooShort}
 use Rattle.scene.specs.declared.Row.{Row}
 use Rattle.doubles.specs.Taken.{takenOf}
 use Rattle.doubles.specs.declared.Fault.the-variants.{OfScene}
@@ -33,7 +33,7 @@ vertexBytes r =
 -- the vertex's own refusal, then 13 where there is no room for nine bytes
 abbrev pub recordedBy : Taken → ℕ → Recorded
 recordedBy (taken.Refused f) room = Refused f
-recordedBy (taken.At r) room = cond (leb 9 room) Written (Refused (OfScene (Buffer 9)))
+recordedBy (taken.At r) room = cond (leb 9 room) Written (Refused (OfScene (BufferTooShort 9)))
 
 -- the bytes stand in front; under a refusal all is as it was
 abbrev pub leftBy : Taken → List ℕ → List ℕ

@@ -7,7 +7,7 @@ use lib.ListN.{length, drop}
 use borrow.Author.Tests.{le-leb, lt-leb}
 use Rattle.scene.specs.Limits.{limits}
 use Rattle.scene.specs.Arrays.{RowWithin}
-use Rattle.scene.specs.declared.Refusal.the-variants.{Buffer}
+use Rattle.scene.specs.declared.Refusal.the-variants.{BufferTooShort}
 use Rattle.scene.specs.declared.Row.{Row}
 use Rattle.doubles.specs.Taken.{takenOf}
 use Rattle.doubles.specs.Taking.{taken-takes}
@@ -32,10 +32,10 @@ module _ (v : Vertex) (d : List ℕ) {t : Taken} (e : t ≡ takenOf v) where
     pub row-within : RowWithin limits r
     row-within = taken-takes v r (sym e ∙ q) .within
 
-    pub no-room : length d < 9 → IsRecord v d d (Refused (OfScene (Buffer 9)))
+    pub no-room : length d < 9 → IsRecord v d d (Refused (OfScene (BufferTooShort 9)))
     no-room h =
         record {
-          answer = ap (λ (b : Bool). cond b Written (Refused (OfScene (Buffer 9)))) (sym (lt-leb 9 (length d) h))
+          answer = ap (λ (b : Bool). cond b Written (Refused (OfScene (BufferTooShort 9)))) (sym (lt-leb 9 (length d) h))
               ∙ ap (λ (t : Taken). recordedBy t (length d)) (sym q ∙ e);
           held = ap (λ (b : Bool). cond b (vertexBytes r ++ drop 9 d) d) (sym (lt-leb 9 (length d) h))
               ∙ ap (λ (t : Taken). leftBy t d) (sym q ∙ e);
@@ -44,7 +44,7 @@ module _ (v : Vertex) (d : List ℕ) {t : Taken} (e : t ≡ takenOf v) where
     pub writes : {d′ : List ℕ} → 9 ≤ length d → d′ ≡ vertexBytes r ++ drop 9 d → IsRecord v d d′ Written
     writes h w =
         record {
-          answer = ap (λ (b : Bool). cond b Written (Refused (OfScene (Buffer 9)))) (sym (le-leb 9 (length d) h))
+          answer = ap (λ (b : Bool). cond b Written (Refused (OfScene (BufferTooShort 9)))) (sym (le-leb 9 (length d) h))
               ∙ ap (λ (t : Taken). recordedBy t (length d)) (sym q ∙ e);
           held = w ∙ ap (λ (b : Bool). cond b (vertexBytes r ++ drop 9 d) d) (sym (le-leb 9 (length d) h))
               ∙ ap (λ (t : Taken). leftBy t d) (sym q ∙ e);

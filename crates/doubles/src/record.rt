@@ -29,7 +29,7 @@ pub fn record_of(v: Vertex, out: &mut [u8]) -> Recorded
         Taken::Refused(f) => Recorded::Refused(f),
         Taken::At(r) => {
             if out.len() < 9 {
-                return Recorded::Refused(Fault::OfScene(Refusal::Buffer(9)));
+                return Recorded::Refused(Fault::OfScene(Refusal::BufferTooShort(9)));
             }
             put(r, out);
             Recorded::Written

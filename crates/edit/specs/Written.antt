@@ -12,8 +12,8 @@ use lib.Seq.{take-append-seam}
 use Rattle.scene.specs.Limits.{limits, longest}
 use Rattle.scene.specs.Refusal.{placeOf}
 use Rattle.scene.specs.declared.Refusal.{Refusal}
-use Rattle.scene.specs.declared.Refusal.the-variants.{Opening, Buffer}
-use Rattle.judge.specs.Judge.{rule}
+use Rattle.scene.specs.declared.Refusal.the-variants.{Opening, BufferTooShort}
+use Rattle.judge.specs.Judge.{refuseUnless}
 use Rattle.judge.specs.declared.Judged.{Judged}
 use Rattle.judge.specs.declared.Judged.the-variants.{Accepted, Refused}
 use Rattle.session.specs.Session.{scene, isWhole, opened}
@@ -27,23 +27,23 @@ use Rattle.edit.specs.Steps.{sceneWithin}
 
 module _ (s : List ℕ) (n : ℕ) where
   ruled : Bool → Bool → Judged
-  ruled a b = rule a Opening (rule b (Buffer n) Accepted)
+  ruled a b = refuseUnless a Opening (refuseUnless b (BufferTooShort n) Accepted)
 
   refused-none : (a b : Bool) {r : Refusal} → ruled a b ≡ Refused r → cond (a && b) s [] ≡ []
-  unfolding ruled rule
+  unfolding ruled refuseUnless
   refused-none true true e = absurd (let z : _≡_ {A = ℕ} 0 1 = cc in omega arith)
   refused-none true false e = refl
   refused-none false b e = refl
 
   accepted-all : (a b : Bool) → ruled a b ≡ Accepted → cond (a && b) s [] ≡ s
-  unfolding ruled rule
+  unfolding ruled refuseUnless
   accepted-all true true e = refl
   accepted-all true false e = absurd (let z : _≡_ {A = ℕ} 0 1 = cc in omega arith)
   accepted-all false b e = absurd (let z : _≡_ {A = ℕ} 0 1 = cc in omega arith)
 
   needed-place : (a b c : Bool) {r : Refusal} → ruled a b ≡ Accepted → ruled a c ≡ Refused r → placeOf r ≡ n
-  unfolding ruled rule
-  needed-place true b false {r} e f = let g : Buffer n ≡ r = cc in sym (ap placeOf g)
+  unfolding ruled refuseUnless
+  needed-place true b false {r} e f = let g : BufferTooShort n ≡ r = cc in sym (ap placeOf g)
   needed-place true b true e f = absurd (let z : _≡_ {A = ℕ} 0 1 = cc in omega arith)
   needed-place false b c e f = absurd (let z : _≡_ {A = ℕ} 0 1 = cc in omega arith)
 

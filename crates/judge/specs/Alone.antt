@@ -14,7 +14,7 @@ use Rattle.laws.specs.Mask.{maskOf, or-masks, place-mask, mask-test}
 use Rattle.laws.specs.Range.{countOf}
 use Rattle.scene.specs.Records.{vertsA, vertsB, facesA, facesB, faces}
 use Rattle.scene.specs.Tables.{cornerAt}
-use Rattle.judge.specs.Judge.{rule, isEdge, edgeOk, sidesOk, closedAt, edgeFault, edgesFault}
+use Rattle.judge.specs.Judge.{refuseUnless, isEdge, edgeOk, sidesOk, closedAt, edgeFault, edgesFault}
 use Rattle.judge.specs.Cases.{closed-of-a, closed-of-b, verts-of-a, verts-of-b}
 use Rattle.judge.specs.Tests.{first-iff}
 use Rattle.judge.specs.Words.{places, CornersIn, FacesIn, AreWords, oddly, wordOf, even-odd}
@@ -95,5 +95,5 @@ module _ (s : List ℕ) {wa wb : List ℕ} (are-a : AreWords s 0 (facesA s) wa) 
           (omega (arith, e, c .r-own))
 
   pub none-odd : edgesFault s ≡ Accepted
-  unfolding edgesFault edgeFault rule
+  unfolding edgesFault edgeFault refuseUnless
   none-odd = first-iff (edgeFault s) 0 (faces s) .1 (λ i a h. rw (closed i h))

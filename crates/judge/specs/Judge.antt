@@ -13,14 +13,14 @@ use Rattle.scene.specs.Records.{pointStart, faceStart, endStart, markSC, markFP
 use Rattle.scene.specs.Tables.{cornerAt, faceAt}
 use Rattle.scene.specs.Faces.{isCorner, hasBoth}
 use Rattle.scene.specs.declared.Refusal.{Refusal}
-use Rattle.scene.specs.declared.Refusal.the-variants.{Opening, Counts, Length, Mark, Coordinate, Weight, Corner, Unused, Edge, Nowhere}
+use Rattle.scene.specs.declared.Refusal.the-variants.{Opening, Counts, Length, Mark, Coordinate, Weight, Corner, Unused, Edge, FarAllZero}
 use Rattle.judge.specs.declared.Judged.{Judged}
 use Rattle.judge.specs.declared.Judged.the-variants.{Accepted, Refused}
 
 -- a rule: where its test fails, its refusal, and else what the rules after it say
-unfoldable pub rule : Bool → Refusal → Judged → Judged
-rule true r rest = rest
-rule false r rest = Refused r
+unfoldable pub refuseUnless : Bool → Refusal → Judged → Judged
+refuseUnless true r rest = rest
+refuseUnless false r rest = Refused r
 
 -- one judgement after another: the first that refuses
 unfoldable pub andThen : Judged → Judged → Judged
@@ -44,7 +44,8 @@ countsOk l s =
     && within (l .leastFaces) (l .mostFaces) (facesB s)))
 
 unfoldable pub headerFault : Limits → List ℕ → Judged
-headerFault l s = rule (opens s) Opening (rule (countsOk l s) Counts (rule (eqb (length s) (lengthOf s)) Length Accepted))
+headerFault l s = refuseUnless (opens s) Opening
+    (refuseUnless (countsOk l s) Counts (refuseUnless (eqb (length s) (lengthOf s)) Length Accepted))
 
 -- ---- refusals 4 to 7 and 14, record by record
 
@@ -71,12 +72,12 @@ pointMark j = cond (eqb j 0) markFP markVX
 -- the far point (j is 0) or a vertex
 unfoldable pub pointFault : Limits → List ℕ → ℕ → Judged
 pointFault l s j =
-    rule (eqb (twoAt s (pointStart j)) (pointMark j)) (Mark (j + 1))
-    (rule (coordinateOk l s (pointStart j + 2)) (Coordinate (j + 1))
-    (rule (coordinateOk l s (pointStart j + 4)) (Coordinate (j + 1))
-    (rule (coordinateOk l s (pointStart j + 6)) (Coordinate (j + 1))
-    (rule (weightOk l s j) (Weight (j + 1))
-    (rule (somewhereOk s j) (Nowhere (j + 1)) Accepted)))))
+    refuseUnless (eqb (twoAt s (pointStart j)) (pointMark j)) (Mark (j + 1))
+    (refuseUnless (coordinateOk l s (pointStart j + 2)) (Coordinate (j + 1))
+    (refuseUnless (coordinateOk l s (pointStart j + 4)) (Coordinate (j + 1))
+    (refuseUnless (coordinateOk l s (pointStart j + 6)) (Coordinate (j + 1))
+    (refuseUnless (weightOk l s j) (Weight (j + 1))
+    (refuseUnless (somewhereOk s j) (FarAllZero (j + 1)) Accepted)))))
 
 -- three corners of a solid with v vertices, no two the same
 unfoldable pub areCorners : (v p q r : ℕ) → Bool
@@ -92,11 +93,11 @@ cornersOk s i = areCorners (vertsAt s i) (cornerAt s i 0) (cornerAt s i 1) (corn
 
 unfoldable pub faceFault : List ℕ → ℕ → Judged
 faceFault s i =
-    rule (eqb (twoAt s (faceStart s i)) markFC) (Mark (faceRecord s i))
-    (rule (cornersOk s i) (Corner (faceRecord s i)) Accepted)
+    refuseUnless (eqb (twoAt s (faceStart s i)) markFC) (Mark (faceRecord s i))
+    (refuseUnless (cornersOk s i) (Corner (faceRecord s i)) Accepted)
 
 unfoldable pub endFault : List ℕ → Judged
-endFault s = rule (eqb (twoAt s (endStart s)) markEN) (Mark (lastRecord s)) Accepted
+endFault s = refuseUnless (eqb (twoAt s (endStart s)) markEN) (Mark (lastRecord s)) Accepted
 
 -- record k: a point, a face, or EN
 unfoldable pub recordFault : Limits → List ℕ → ℕ → Judged
@@ -121,7 +122,7 @@ isUsed s p =
     cond (leb p (vertsA s)) (anyOf (isCornerOf s p) 0 (facesA s)) (anyOf (isCornerOf s (p - vertsA s)) (facesA s) (faces s))
 
 unfoldable pub unusedFault : List ℕ → ℕ → Judged
-unusedFault s p = rule (isUsed s p) (Unused p) Accepted
+unusedFault s p = refuseUnless (isUsed s p) (Unused p) Accepted
 
 unfoldable pub unusedsFault : List ℕ → Judged
 unusedsFault s = firstFault (unusedFault s) 1 (verts s + 1)
@@ -141,7 +142,7 @@ unfoldable pub closedAt : List ℕ → ℕ → Bool
 closedAt s i = cond (ltb i (facesA s)) (sidesOk s 0 (facesA s) i) (sidesOk s (facesA s) (faces s) i)
 
 unfoldable pub edgeFault : List ℕ → ℕ → Judged
-edgeFault s i = rule (closedAt s i) (Edge (faceRecord s i)) Accepted
+edgeFault s i = refuseUnless (closedAt s i) (Edge (faceRecord s i)) Accepted
 
 unfoldable pub edgesFault : List ℕ → Judged
 edgesFault s = firstFault (edgeFault s) 0 (faces s)

@@ -7,7 +7,7 @@ use borrow.Author.Needs.{needs}
 use borrow.Author.Tests.{not-true, not-false}
 use Rattle.laws.specs.Range as range
 use Rattle.laws.specs.Range.{any-end, any-found, any-next, count-end, count-one, count-none}
-use Rattle.judge.specs.Judge.{firstFault, andThen, rule}
+use Rattle.judge.specs.Judge.{firstFault, andThen, refuseUnless}
 use Rattle.scene.specs.declared.Refusal.{Refusal}
 use Rattle.judge.specs.declared.Judged.{Judged}
 use Rattle.judge.specs.declared.Judged.the-variants.{Accepted, Refused}
@@ -39,29 +39,30 @@ then-accepted {y} p q e = e ∙ sym (ap (λ (j : Judged). andThen j y) (sym p �
 pub ruleset chain = (then-refused, then-accepted)
 
 -- a rule whose test came out as b: it refuses, or the rules after it decide
-pub rule-refused : {o b : Bool} (k : Judged) {r : Refusal} → o ≡ b → not o ≡ true → Refused r ≡ rule b r k
-unfolding rule
-rule-refused k {r} p q = ap (λ (t : Bool). rule t r k) (sym (not-true _ q) ∙ p)
+pub rule-refused : {o b : Bool} (k : Judged) {r : Refusal} → o ≡ b → not o ≡ true → Refused r ≡ refuseUnless b r k
+unfolding refuseUnless
+rule-refused k {r} p q = ap (λ (t : Bool). refuseUnless t r k) (sym (not-true _ q) ∙ p)
 
-pub rule-passed : {o b : Bool} {k w : Judged} (r : Refusal) → o ≡ b → not o ≡ false → w ≡ k → w ≡ rule b r k
-unfolding rule
-rule-passed {k} r p q e = e ∙ ap (λ (t : Bool). rule t r k) (sym (not-false _ q) ∙ p)
+pub rule-passed : {o b : Bool} {k w : Judged} (r : Refusal) → o ≡ b → not o ≡ false → w ≡ k → w ≡ refuseUnless b r k
+unfolding refuseUnless
+rule-passed {k} r p q e = e ∙ ap (λ (t : Bool). refuseUnless t r k) (sym (not-false _ q) ∙ p)
 
 pub ruleset rules = (rule-refused, rule-passed)
 
 -- with a place that was worked out
-pub rule-refused-at : {o b : Bool} (f : ℕ → Refusal) (k : Judged) {p q : ℕ} → p ≡ q → o ≡ b → not o ≡ true → Refused (f p) ≡ rule b (f q) k
+pub rule-refused-at : {o b : Bool} (f : ℕ → Refusal) (k : Judged) {p q : ℕ} → p ≡ q → o ≡ b → not o ≡ true → Refused (f p) ≡ refuseUnless b
+    (f q) k
 rule-refused-at f k e p q = ap (λ (n : ℕ). Refused (f n)) e ∙ rule-refused k p q
 
 -- ---- what acceptance says: each rule's test, and each stage
 
-pub rule-ok : (b : Bool) (r : Refusal) (k : Judged) → rule b r k ≡ Accepted → b ≡ true
-unfolding rule
+pub rule-ok : (b : Bool) (r : Refusal) (k : Judged) → refuseUnless b r k ≡ Accepted → b ≡ true
+unfolding refuseUnless
 rule-ok true r k p = refl
 rule-ok false r k p = cc
 
-pub rule-rest : (b : Bool) (r : Refusal) (k : Judged) → rule b r k ≡ Accepted → k ≡ Accepted
-unfolding rule
+pub rule-rest : (b : Bool) (r : Refusal) (k : Judged) → refuseUnless b r k ≡ Accepted → k ≡ Accepted
+unfolding refuseUnless
 rule-rest true r k p = p
 rule-rest false r k p = cc
 

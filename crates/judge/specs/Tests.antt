@@ -9,7 +9,7 @@ use native.Mathlib.Decide.{ℕ-discrete}
 use Rattle.laws.specs.Decides.{decides}
 use Rattle.laws.specs.Range.{fold, firstOf, over}
 use Rattle.scene.specs.declared.Refusal.{Refusal}
-use Rattle.judge.specs.Judge.{rule, andThen, firstFault}
+use Rattle.judge.specs.Judge.{refuseUnless, andThen, firstFault}
 use Rattle.scene.specs.Limits.{within}
 use Rattle.judge.specs.Laws.{rule-ok, rule-rest, rule-passed, then-first, then-rest, then-accepted}
 use Rattle.judge.specs.declared.Judged.{Judged}
@@ -25,7 +25,7 @@ never e = let z : _≡_ {A = ℕ} 0 1 = cc in omega arith
 
 -- ---- accepted
 
-pub rule-iff : (b : Bool) (r : Refusal) (k : Judged) → (rule b r k ≡ Accepted) ↔ ((b ≡ true) × (k ≡ Accepted))
+pub rule-iff : (b : Bool) (r : Refusal) (k : Judged) → (refuseUnless b r k ≡ Accepted) ↔ ((b ≡ true) × (k ≡ Accepted))
 rule-iff b r k = (λ p. (rule-ok b r k p, rule-rest b r k p), λ h. sym (rule-passed r (sym (h .0)) refl (sym (h .1))))
 
 pub then-iff : (x y : Judged) → (andThen x y ≡ Accepted) ↔ ((x ≡ Accepted) × (y ≡ Accepted))

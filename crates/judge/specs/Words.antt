@@ -60,8 +60,8 @@ pub record AreWords (s : List ℕ) (a n : ℕ) (words : List ℕ) : Type 0 where
 unfoldable pub cornersWord : List ℕ → ℕ → ℕ
 cornersWord s i = maskOf (λ w. isCornerOf s w i) places
 
-unfoldable pub turned : List ℕ → (p t : ℕ) → List ℕ
-turned words p t = set words p (bitXor (getD words p 0) t)
+unfoldable pub xoredAt : List ℕ → (p t : ℕ) → List ℕ
+xoredAt words p t = set words p (bitXor (getD words p 0) t)
 
 -- its corners are turned in the words of each of them
 pub record TurnsFace (s : List ℕ) (i : ℕ) (before after : List ℕ) : Type 0 where
@@ -82,18 +82,18 @@ three-places s i h ex ey ez =
     (eqb (cornerAt s i 2) k))
 
 module _ (words : List ℕ) (p t : ℕ) (h : p < length words) where
-  turned-at : (v : ℕ) → getD (turned words p t) v 0 ≡ bitXor (getD words v 0) (cond (eqb p v) t 0)
-  unfolding turned
-  turned-at v = go (ℕ-discrete v p)
+  xored-at : (v : ℕ) → getD (xoredAt words p t) v 0 ≡ bitXor (getD words v 0) (cond (eqb p v) t 0)
+  unfolding xoredAt
+  xored-at v = go (ℕ-discrete v p)
     where
-      go : Dec (v ≡ p) → getD (turned words p t) v 0 ≡ bitXor (getD words v 0) (cond (eqb p v) t 0)
+      go : Dec (v ≡ p) → getD (xoredAt words p t) v 0 ≡ bitXor (getD words v 0) (cond (eqb p v) t 0)
       go (yes e) = rw (e, eq-eqb p p refl) (getD-set-same words p (bitXor (getD words p 0) t) 0 h)
       go (no d) =
           rw (ne-eqb p v (λ e. d (sym e))) (getD-set-other words p v (bitXor (getD words p 0) t) 0 d ∙ sym (xor-zero-r (getD words v 0)))
 
-pub turned-size : (words : List ℕ) (p t : ℕ) {after : List ℕ} → after ≡ turned words p t → length words ≡ places → length after ≡ places
-unfolding turned
-turned-size words p t e h = ap length e ∙ length-set words p (bitXor (getD words p 0) t) ∙ h
+pub xored-size : (words : List ℕ) (p t : ℕ) {after : List ℕ} → after ≡ xoredAt words p t → length words ≡ places → length after ≡ places
+unfolding xoredAt
+xored-size words p t e h = ap length e ∙ length-set words p (bitXor (getD words p 0) t) ∙ h
 
 -- of three different corners, v is one at most
 once : (m t v : ℕ) (p q r : ℕ) → p ≢ q → q ≢ r → r ≢ p →
@@ -113,23 +113,23 @@ once m t v p q r pq qr rp = go (ℕ-discrete p v) (ℕ-discrete q v) (ℕ-discre
     go (no a) (no b) (no c) = rw (ne-eqb p v a, ne-eqb q v b, ne-eqb r v c) (xor-zero-r _ ∙ xor-zero-r _)
 
 pub turns-face : (s : List ℕ) (i : ℕ) (words : List ℕ) {w1 w2 w3 : List ℕ} {p q r t : ℕ} → CornersIn s i → length words ≡ places →
-    p ≡ cornerAt s i 0 → q ≡ cornerAt s i 1 → r ≡ cornerAt s i 2 → t ≡ cornersWord s i → w1 ≡ turned words p t → w2 ≡ turned w1 q t →
-    w3 ≡ turned w2 r t →
+    p ≡ cornerAt s i 0 → q ≡ cornerAt s i 1 → r ≡ cornerAt s i 2 → t ≡ cornersWord s i → w1 ≡ xoredAt words p t → w2 ≡ xoredAt w1 q t →
+    w3 ≡ xoredAt w2 r t →
     TurnsFace s i words w3
 unfolding isCornerOf isCorner
 turns-face s i words {w1} {w2} {w3} {p} {q} {r} {t} h long ep eq er et e1 e2 e3 =
-    let l1 : length w1 ≡ places = turned-size words p t e1 long in
-    let l2 : length w2 ≡ places = turned-size w1 q t e2 l1 in
+    let l1 : length w1 ≡ places = xored-size words p t e1 long in
+    let l2 : length w2 ≡ places = xored-size w1 q t e2 l1 in
     record {
-      size = turned-size w2 r t e3 l2 ∙ sym long;
+      size = xored-size w2 r t e3 l2 ∙ sym long;
       at = λ v b.
           ap (λ (w : List ℕ). getD w v 0) e3
-          ∙ turned-at w2 r t (omega (arith, l2, h .r)) v
+          ∙ xored-at w2 r t (omega (arith, l2, h .r)) v
           ∙ ap (λ (x : ℕ). bitXor x (cond (eqb r v) t 0))
           (ap (λ (w : List ℕ). getD w v 0) e2
-          ∙ turned-at w1 q t (omega (arith, l1, h .q)) v
+          ∙ xored-at w1 q t (omega (arith, l1, h .q)) v
           ∙ ap (λ (x : ℕ). bitXor x (cond (eqb q v) t 0))
-          (ap (λ (w : List ℕ). getD w v 0) e1 ∙ turned-at words p t (omega (arith, h .p)) v))
+          (ap (λ (w : List ℕ). getD w v 0) e1 ∙ xored-at words p t (omega (arith, h .p)) v))
           ∙ once (getD words v 0) t v p q r (λ e. h .pq (sym ep ∙ e ∙ eq)) (λ e. h .qr (sym eq ∙ e ∙ er)) (λ e. h .rp (sym er ∙ e ∙ ep))
           ∙ (λ j. bitXor (getD words v 0) (cond (eqb (ep j) v || (eqb (eq j) v || eqb (er j) v)) (et j) 0));
     }

@@ -115,7 +115,7 @@ pub fn point_fault(s: &[u8], j: usize) -> Judged
         return Judged::Refused(Refusal::Weight(j + 1));
     }
     if !somewhere_ok(s, j) {
-        return Judged::Refused(Refusal::Nowhere(j + 1));
+        return Judged::Refused(Refusal::FarAllZero(j + 1));
     }
     Judged::Accepted
 }

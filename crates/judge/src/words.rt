@@ -7,7 +7,7 @@ ghost use lib.Dec.{eqb};
 ghost use lib.ListN.{length, getD};
 ghost use Rattle.laws.specs.Mask.{testBit};
 ghost use Rattle.judge.specs.Alone.{isAlone, Alone};
-ghost use Rattle.judge.specs.Words.{places, CornersIn, AreWords, usedWord, cornersWord, turned, TurnsFace};
+ghost use Rattle.judge.specs.Words.{places, CornersIn, AreWords, usedWord, cornersWord, xoredAt, TurnsFace};
 use crate::records::corner;
 
 // The bits of a word. The word of the vertex v stands at v.
@@ -25,7 +25,7 @@ fn bit(p: usize) -> u64
 // The bits of t turn in the word of p.
 fn turn(words: &mut Words, p: usize, t: u64)
     requires { ⌜ (length (now words) ≡ places) × (p < places) ⌝ }
-    ensures { λ _. ⌜ now (words .exit) ≡ turned (now (words .entry)) p t ⌝ }
+    ensures { λ _. ⌜ now (words .exit) ≡ xoredAt (now (words .entry)) p t ⌝ }
 {
     words[p] = words[p] ^ t;
 }

@@ -14,7 +14,7 @@ use survey::answers::count_inside;
 use survey_edges::ENDS;
 use survey_edges::Ends;
 use survey_edges::Masks;
-use survey_scene::pour_read;
+use survey_scene::write_read;
 use survey_scene::survey_of;
 use survey_scene::verdict_read;
 
@@ -28,7 +28,7 @@ fn gather(engine: Engine, s: &[u8], out: &mut [u16]) -> Facts
     let mut bends: Ends = [0; ENDS];
     let mut bmasks: Masks = [0; ENDS];
     let t = survey_of(engine, s, &mut aends, &mut amasks, &mut bends, &mut bmasks);
-    let n = pour_read(t, s, &aends, &amasks, &bends, &bmasks, 0, true, out);
+    let n = write_read(t, s, &aends, &amasks, &bends, &bmasks, 0, true, out);
     let v = verdict_read(t, s, &aends, &amasks, &bends, &bmasks);
     Facts {
         verdict: v,

@@ -25,7 +25,7 @@ fn inside_fault(k: usize) -> Judged
     ensures { λ r. ⌜ r ≡ insideFault k ⌝ }
 {
     if !is_within(1, 2, k) {
-        return Judged::Refused(Refusal::Lacking);
+        return Judged::Refused(Refusal::NoSuchNumber);
     }
     Judged::Accepted
 }

@@ -12,11 +12,11 @@ use scene::Refusal;
 use survey_edges::ENDS;
 use survey_edges::Ends;
 use survey_edges::Masks;
-use survey_scene::pour_read;
+use survey_scene::write_read;
 use survey_scene::survey_of;
 
 // Of an accepted scene.
-fn pour(engine: Engine, s: &[u8], from: usize, all: bool, out: &mut [u16]) -> usize
+fn write_pairs(engine: Engine, s: &[u8], from: usize, all: bool, out: &mut [u16]) -> usize
     requires { ⌜ judged (now s) ≡ Accepted ⌝ }
     ensures { λ r. ⌜ PouredIf (listingIn (viewOf (now (s .entry)))) from all (now (out .entry)) (now (out .exit)) r ⌝ }
 {
@@ -25,7 +25,7 @@ fn pour(engine: Engine, s: &[u8], from: usize, all: bool, out: &mut [u16]) -> us
     let mut bends: Ends = [0; ENDS];
     let mut bmasks: Masks = [0; ENDS];
     let t = survey_of(engine, s, &mut aends, &mut amasks, &mut bends, &mut bmasks);
-    pour_read(t, s, &aends, &amasks, &bends, &bmasks, from, all, out)
+    write_read(t, s, &aends, &amasks, &bends, &bmasks, from, all, out)
 }
 
 // The whole listing, or refusal 10 with the count.
@@ -35,9 +35,9 @@ pub fn listing(engine: Engine, s: &[u8], out: &mut [u16]) -> Listed
     if let Judged::Refused(r) = judge::judge(s) {
         return Listed::Refused(r);
     }
-    let n = pour(engine, s, 0, true, out);
+    let n = write_pairs(engine, s, 0, true, out);
     if n > out.len() / 3 {
-        return Listed::Refused(Refusal::Room(n));
+        return Listed::Refused(Refusal::ListTooShort(n));
     }
     Listed::Count(n)
 }
@@ -50,5 +50,5 @@ pub fn listing_part(engine: Engine, s: &[u8], from: usize, out: &mut [u16]) -> L
     if let Judged::Refused(r) = judge::judge(s) {
         return Listed::Refused(r);
     }
-    Listed::Count(pour(engine, s, from, false, out))
+    Listed::Count(write_pairs(engine, s, from, false, out))
 }

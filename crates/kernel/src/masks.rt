@@ -4,7 +4,7 @@ ghost use Rattle.scene.specs.View.{viewOf};
 ghost use Rattle.pierce_masks.specs.Faces.{valueOf};
 ghost use Rattle.judge.specs.Judge.{judged};
 ghost use Rattle.judge.specs.declared.Judged.the-variants.{Accepted};
-ghost use Rattle.questions.specs.Answers.{isVertexOf, edgeAndSolid, outside, maskFault, maskIn, saidMask, maskedOf, enclosedFault};
+ghost use Rattle.questions.specs.Answers.{isVertexOf, edgeAndSolid, endsOffSolid, maskFault, maskIn, saidMask, maskedOf, enclosedFault};
 ghost use Rattle.questions.specs.Answers.{otherSolid, enclosedOf};
 ghost use Rattle.questions.specs.Asked.{Outside};
 use crate::points::is_point;
@@ -29,7 +29,7 @@ fn is_vertex_of(s: &[u8], k: usize, i: usize) -> bool
     ensures { λ r. ⌜ r ≡ isVertexOf (viewOf (now (s .entry))) k i ⌝ }
 {
     let o = solid(s, k);
-    is_within(o.low + 1, o.low + o.verts, i)
+    is_within(o.vert0 + 1, o.vert0 + o.verts, i)
 }
 
 fn has_edge_and_solid(s: &[u8], u: usize, v: usize, k: usize) -> bool
@@ -45,7 +45,7 @@ fn has_edge_and_solid(s: &[u8], u: usize, v: usize, k: usize) -> bool
 }
 
 fn are_outside(s: &[u8], u: usize, v: usize, k: usize) -> bool
-    ensures { λ r. ⌜ r ≡ outside (viewOf (now (s .entry))) u v k ⌝ }
+    ensures { λ r. ⌜ r ≡ endsOffSolid (viewOf (now (s .entry))) u v k ⌝ }
 {
     if u == v {
         return false;
@@ -60,10 +60,10 @@ fn mask_fault(s: &[u8], u: usize, v: usize, k: usize) -> Judged
     ensures { λ r. ⌜ r ≡ maskFault (viewOf (now (s .entry))) u v k ⌝ }
 {
     if !has_edge_and_solid(s, u, v, k) {
-        return Judged::Refused(Refusal::Lacking);
+        return Judged::Refused(Refusal::NoSuchNumber);
     }
     if !are_outside(s, u, v, k) {
-        return Judged::Refused(Refusal::Same);
+        return Judged::Refused(Refusal::NotDistinct);
     }
     Judged::Accepted
 }
@@ -78,7 +78,7 @@ fn mask_of(engine: Engine, s: &[u8], u: usize, v: usize, k: usize) -> Mask
     decode::rows(s, &mut rows);
     decode::faces(s, &mut corners);
     let o = solid(s, k);
-    pierce_engine::mask(engine, &rows, &corners, points(s), u, v, o.first, o.count)
+    pierce_engine::mask(engine, &rows, &corners, points(s), u, v, o.face0, o.faces)
 }
 
 // The mask of u, v against solid k, with the number of its ones.
@@ -99,7 +99,7 @@ fn enclosed_fault(s: &[u8], i: usize) -> Judged
     ensures { λ r. ⌜ r ≡ enclosedFault (viewOf (now (s .entry))) i ⌝ }
 {
     if !is_within(1, vertices(s), i) {
-        return Judged::Refused(Refusal::Lacking);
+        return Judged::Refused(Refusal::NoSuchNumber);
     }
     Judged::Accepted
 }

@@ -1,7 +1,7 @@
 // Questions about points: the sign of four, and whether the edge of two pierces a face.
 ghost use mathlib.Core.Path.{_≡_};
 ghost use Rattle.scene.specs.View.{viewOf};
-ghost use Rattle.questions.specs.Answers.{isPoint, arePoints, differ, signFault, signOf, clear, edgeAndFace, piercesFault, piercesOf};
+ghost use Rattle.questions.specs.Answers.{isPoint, arePoints, differ, signFault, signOf, endsOffFace, edgeAndFace, piercesFault, piercesOf};
 use judge::Judged;
 use pierce_engine::Engine;
 use questions::Answer;
@@ -63,10 +63,10 @@ fn sign_fault(s: &[u8], a: usize, b: usize, c: usize, d: usize) -> Judged
     ensures { λ r. ⌜ r ≡ signFault (viewOf (now (s .entry))) a b c d ⌝ }
 {
     if !are_points(s, a, b, c, d) {
-        return Judged::Refused(Refusal::Lacking);
+        return Judged::Refused(Refusal::NoSuchNumber);
     }
     if !differ(a, b, c, d) {
-        return Judged::Refused(Refusal::Same);
+        return Judged::Refused(Refusal::NotDistinct);
     }
     Judged::Accepted
 }
@@ -89,7 +89,7 @@ pub fn sign(s: &[u8], a: usize, b: usize, c: usize, d: usize) -> Signed
 
 // No end of the edge is a corner of the face, and the ends differ.
 fn is_clear(u: usize, v: usize, f: Face) -> bool
-    ensures { λ r. ⌜ r ≡ clear u v f ⌝ }
+    ensures { λ r. ⌜ r ≡ endsOffFace u v f ⌝ }
 {
     if u == v {
         return false;
@@ -101,7 +101,7 @@ fn is_clear(u: usize, v: usize, f: Face) -> bool
 }
 
 fn is_clear_of(s: &[u8], u: usize, v: usize, f: usize) -> bool
-    ensures { λ r. ⌜ r ≡ clear u v (viewOf (now (s .entry)) .face f) ⌝ }
+    ensures { λ r. ⌜ r ≡ endsOffFace u v (viewOf (now (s .entry)) .face f) ⌝ }
 {
     is_clear(u, v, corners(s, f))
 }
@@ -122,10 +122,10 @@ fn pierces_fault(s: &[u8], u: usize, v: usize, f: usize) -> Judged
     ensures { λ r. ⌜ r ≡ piercesFault (viewOf (now (s .entry))) u v f ⌝ }
 {
     if !has_edge_and_face(s, u, v, f) {
-        return Judged::Refused(Refusal::Lacking);
+        return Judged::Refused(Refusal::NoSuchNumber);
     }
     if !is_clear_of(s, u, v, f) {
-        return Judged::Refused(Refusal::Same);
+        return Judged::Refused(Refusal::NotDistinct);
     }
     Judged::Accepted
 }

@@ -4,7 +4,7 @@ ghost use Rattle.questions.specs.Answers.{verdictOf};
 use judge::Judged;
 use pierce_engine::Engine;
 use questions::Verdict;
-use survey_scene::sought_of;
+use survey_scene::first_or_enclosed;
 use survey_scene::verdict_by;
 
 pub fn verdict_of(engine: Engine, s: &[u8]) -> Verdict
@@ -13,5 +13,5 @@ pub fn verdict_of(engine: Engine, s: &[u8]) -> Verdict
     if let Judged::Refused(r) = judge::judge(s) {
         return Verdict::Refused(r);
     }
-    verdict_by(s, sought_of(engine, s))
+    verdict_by(s, first_or_enclosed(engine, s))
 }

@@ -8,7 +8,7 @@ use lib.IntN.{ℤ, pos}
 use lib.ListN.{length, drop}
 use borrow.Author.Tests.{not-true, not-false, le-leb, lt-leb, leb-true}
 use Rattle.scene.specs.declared.Refusal.{Refusal}
-use Rattle.scene.specs.declared.Refusal.the-variants.{Buffer}
+use Rattle.scene.specs.declared.Refusal.the-variants.{BufferTooShort}
 use Rattle.judge.specs.Judge.{judged}
 use Rattle.judge.specs.declared.Judged.{Judged}
 use Rattle.judge.specs.declared.Judged.the-variants as judge
@@ -52,7 +52,7 @@ module _ (s : List ℕ) (m : Map) (room : ℕ) {o : Judged} (e : o ≡ judged s)
         fault-row qp = rw (sym e ∙ q, sym eb ∙ not-false _ qb, sym ez ∙ qz, sym ep ∙ qp)
 
         module _ (qp : p ≡ judge.Accepted) where
-          pub fault-room : room < length s → Faulty (Scene (Buffer (length s))) ≡ imageFault s m room
+          pub fault-room : room < length s → Faulty (Scene (BufferTooShort (length s))) ≡ imageFault s m room
           unfolding imageFault thenScene unless
           fault-room h = rw (sym e ∙ q, sym eb ∙ not-false _ qb, sym ez ∙ qz, sym ep ∙ qp, lt-leb (length s) room h)
 

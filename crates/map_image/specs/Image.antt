@@ -15,8 +15,8 @@ use Rattle.scene.specs.Refusal.{numberOf, placeOf}
 use Rattle.scene.specs.Tables.{rowAt}
 use Rattle.scene.specs.Write.{rowPut}
 use Rattle.scene.specs.declared.Row.{Row}
-use Rattle.scene.specs.declared.Refusal.the-variants.{Coordinate, Weight, Buffer}
-use Rattle.judge.specs.Judge.{rule, firstFault, judged}
+use Rattle.scene.specs.declared.Refusal.the-variants.{Coordinate, Weight, BufferTooShort}
+use Rattle.judge.specs.Judge.{refuseUnless, firstFault, judged}
 use Rattle.judge.specs.declared.Judged.{Judged}
 use Rattle.judge.specs.declared.Judged.the-variants as judge
 use Rattle.clean.specs.Clean.{isZero}
@@ -80,7 +80,7 @@ unfoldable pub weightOk : ℕ → Row → Bool
 weightOk j r = within (leastWeight j) (limits .mostWeight) (natAbs (r .w))
 
 unfoldable pub rowFault : ℕ → Row → Judged
-rowFault j r = rule (coordinatesOk r) (Coordinate (j + 1)) (rule (weightOk j r) (Weight (j + 1)) judge.Accepted)
+rowFault j r = refuseUnless (coordinatesOk r) (Coordinate (j + 1)) (refuseUnless (weightOk j r) (Weight (j + 1)) judge.Accepted)
 
 unfoldable pub pointFault : Map → List ℕ → ℕ → Judged
 pointFault m s j = rowFault j (imageRow m s j)
@@ -95,7 +95,7 @@ imageFault s m room =
     thenScene (judged s)
     (unless (entriesOk m) Entry (unless (regular m) Singular
     (thenScene (rowsFault m s)
-    (unless (leb (length s) room) (Scene (Buffer (length s))) Fine))))
+    (unless (leb (length s) room) (Scene (BufferTooShort (length s))) Fine))))
 
 -- the scene's bytes with each point's four numbers replaced
 unfoldable pub imageBytes : Map → List ℕ → List ℕ

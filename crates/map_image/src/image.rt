@@ -54,7 +54,7 @@ fn image_fault(s: &[u8], m: Map, room: usize) -> Checked
         return Checked::Faulty(Fault::Scene(r));
     }
     if room < s.len() {
-        return Checked::Faulty(Fault::Scene(Refusal::Buffer(s.len())));
+        return Checked::Faulty(Fault::Scene(Refusal::BufferTooShort(s.len())));
     }
     Checked::Fine
 }

@@ -5,7 +5,7 @@ use cli::is_word;
 use libc::STDERR_FILENO;
 use off_items::numbers::Number;
 use off_items::numbers::is_whole;
-use off_items::numbers::told;
+use off_items::numbers::signed_number;
 use off_solids::points::Point;
 
 mod making;
@@ -61,7 +61,7 @@ fn number(i: usize) -> Number {
     let mut word = [0u8; WORD];
     let n = os::arg(i, &mut word);
     let w = &word[..n];
-    told(w, 0, w.len())
+    signed_number(w, 0, w.len())
 }
 
 // The first of the far point's words that is no number, or 0.

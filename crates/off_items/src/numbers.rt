@@ -113,7 +113,7 @@ pub struct Number {
     pub size: usize,
 }
 
-pub fn told(text: &[u8], i: usize, e: usize) -> Number
+pub fn signed_number(text: &[u8], i: usize, e: usize) -> Number
     requires { ⌜ (i ≤ e) × (e ≤ length (now text)) ⌝ }
     ensures { λ r. ⌜ (r .minus ≡ minusAt true (now (text .entry)) i) × (r .size ≡ atMost largest (sizeOf true (now (text .entry)) i e)) ⌝ }
 {

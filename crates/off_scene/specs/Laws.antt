@@ -8,7 +8,7 @@ use borrow.Author.Tests.{leb-true, le-leb, lt-leb, not-true, not-false}
 use lib.ListN.{length, take, drop}
 use lib.Dec.{leb}
 use Rattle.scene.specs.declared.Refusal as scene
-use Rattle.scene.specs.declared.Refusal.the-variants.{Counts, Buffer}
+use Rattle.scene.specs.declared.Refusal.the-variants.{Counts, BufferTooShort}
 use Rattle.judge.specs.Judge.{judged}
 use Rattle.judge.specs.declared.Judged.{Judged}
 use Rattle.judge.specs.declared.Judged.the-variants as judge
@@ -68,11 +68,12 @@ module _ (t : List ℕ) (room : ℕ) {o : Judged} (p : o ≡ judged t) (s out : 
   judge-refuses q = refuses s out refl (ap (λ (j : Judged). afterJudge j (placed t room)) (sym q ∙ p))
 
 module _ (s out : List ℕ) where
-  pub room-lacks : length out < length s → Makes (placed s (length out)) s out out (Refused (OfScene (Buffer (length s))))
+  pub room-lacks : length out < length s → Makes (placed s (length out)) s out out (Refused (OfScene (BufferTooShort (length s))))
   unfolding placed
   room-lacks h =
       refuses s out refl
-      (sym (ap (λ (b : Bool). cond b (Scene (length s)) (Refused (OfScene (Buffer (length s))))) (lt-leb (length s) (length out) h)))
+      (sym (ap (λ (b : Bool). cond b (Scene (length s)) (Refused (OfScene (BufferTooShort (length s)))))
+          (lt-leb (length s) (length out) h)))
 
   pub room-serves : {out′ : List ℕ} → length s ≤ length out → out′ ≡ s ++ drop (length s) out →
       Makes (placed s (length out)) s out out′ (Scene (length s))
@@ -80,7 +81,8 @@ module _ (s out : List ℕ) where
   room-serves h e =
       record {
         answer =
-            sym (ap (λ (b : Bool). cond b (Scene (length s)) (Refused (OfScene (Buffer (length s))))) (le-leb (length s) (length out) h));
+            sym (ap (λ (b : Bool). cond b (Scene (length s)) (Refused (OfScene (BufferTooShort (length s)))))
+                (le-leb (length s) (length out) h));
         left = e;
       }
 
@@ -145,6 +147,6 @@ module _ (room : ℕ) {n : ℕ} where
   made-room a b far e =
       let s = sceneOf a b far in
       text-room _ (formOf a) _ (text-room _ (formOf b) _ (test-room (countsFit a && countsFit b) _ Counts (λ _.
-      judge-room (judged s) _ (test-room (leb (length s) room) _ (Buffer (length s)) (λ h d.
+      judge-room (judged s) _ (test-room (leb (length s) room) _ (BufferTooShort (length s)) (λ h d.
       let k : length s ≡ n = cc in
       omega (arith, leb-true (length s) room h)))))) e

@@ -9,7 +9,7 @@ use lib.ListN.{length, drop}
 use lib.Dec.{leb}
 use Rattle.scene.specs.Limits.{limits, within}
 use Rattle.scene.specs.Refusal as scene
-use Rattle.scene.specs.declared.Refusal.the-variants.{Counts, Buffer}
+use Rattle.scene.specs.declared.Refusal.the-variants.{Counts, BufferTooShort}
 use Rattle.judge.specs.Judge.{judged}
 use Rattle.judge.specs.declared.Judged.{Judged}
 use Rattle.judge.specs.declared.Judged.the-variants as judge
@@ -51,7 +51,7 @@ countsFit s =
 
 -- the scene s in `room` bytes
 unfoldable pub placed : List ℕ → ℕ → Made
-placed s room = cond (leb (length s) room) (Scene (length s)) (Refused (OfScene (Buffer (length s))))
+placed s room = cond (leb (length s) room) (Scene (length s)) (Refused (OfScene (BufferTooShort (length s))))
 
 unfoldable pub judgedOf : List ℕ → ℕ → Made
 judgedOf s room = afterJudge (judged s) (placed s room)

@@ -65,7 +65,7 @@ fn placed(s: &[u8], out: &mut [u8]) -> Made
 {
     let n = s.len();
     if out.len() < n {
-        return Made::Refused(Fault::OfScene(Refusal::Buffer(n)));
+        return Made::Refused(Fault::OfScene(Refusal::BufferTooShort(n)));
     }
     copy(s, out);
     Made::Scene(n)

@@ -24,7 +24,7 @@ use Rattle.rules.specs.Held.{length-all}
 use Rattle.off_solids.specs.Solid.{past, rowFrom, rowOf, cornersFrom, faceOf, pointOf, denoted}
 use Rattle.off_solids.specs.Fitted.{fittedRow, fittedFace, fitted, sceneOf}
 use Rattle.off_solids.specs.Grown.{Grown, grown-join, grown-as, grown-none, grown-more}
-use Rattle.off_solids.specs.Told.{past-after, row-is, face-is}
+use Rattle.off_solids.specs.ReadOf.{past-after, row-is, face-is}
 use Rattle.off_solids.specs.declared.points.Point.{Point}
 
 -- h is what the text's first four items tell, and its counts are within the scene's limits, as far as room goes

@@ -2,5 +2,5 @@ pub mod Solid
 pub mod Fitted
 pub mod Grown
 pub mod Fields
-pub mod Told
+pub mod ReadOf
 pub mod Bytes

@@ -9,7 +9,7 @@ ghost use Rattle.off_solids.specs.Fitted.{nearest, fittedRow, fittedFace
 use off_items::next;
 use off_items::numbers::Number;
 use off_items::numbers::size;
-use off_items::numbers::told;
+use off_items::numbers::signed_number;
 use scene::Face;
 
 // A point's four numbers, the weight last.
@@ -49,7 +49,7 @@ fn weight_at(text: &[u8], at: usize, per: usize) -> Number
 {
     if per == 4 {
         let w = next(text, at);
-        return told(text, w.start, w.end);
+        return signed_number(text, w.start, w.end);
     }
     Number {
         minus: false,
@@ -66,9 +66,9 @@ pub fn vertex_at(text: &[u8], at: usize, per: usize) -> Point
     let y = next(text, x.end);
     let z = next(text, y.end);
     Point {
-        x: told(text, x.start, x.end),
-        y: told(text, y.start, y.end),
-        z: told(text, z.start, z.end),
+        x: signed_number(text, x.start, x.end),
+        y: signed_number(text, y.start, y.end),
+        z: signed_number(text, z.start, z.end),
         w: weight_at(text, z.end, per),
     }
 }

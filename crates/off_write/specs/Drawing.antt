@@ -58,8 +58,8 @@ facesIn s k n low = text (map (λ (f : Face). faceWords (lowered low f)) (run (f
 abbrev pub tableIn : List ℕ → Solid → Table
 tableIn s o =
     record {
-      rows = run (row (tablesOf s)) (o .low + 1) (o .verts);
-      faces = map (lowered (o .low)) (run (face (tablesOf s)) (o .first + 1) (o .count));
+      rows = run (row (tablesOf s)) (o .vert0 + 1) (o .verts);
+      faces = map (lowered (o .vert0)) (run (face (tablesOf s)) (o .face0 + 1) (o .faces));
     }
 
 -- solid k of a scene as text

@@ -134,8 +134,8 @@ module _ {l : List ℕ} {at : ℕ} {m : List ℕ} {p : ℕ} where
 abbrev parts : List ℕ → Solid → Bool → List ℕ
 parts s o b =
     keywordLine b
-    ++ (countsLine (o .verts) (o .count)
-    ++ (rowsIn s (o .low + 1) (o .verts) b ++ facesIn s (o .first + 1) (o .count) (o .low)))
+    ++ (countsLine (o .verts) (o .faces)
+    ++ (rowsIn s (o .vert0 + 1) (o .verts) b ++ facesIn s (o .face0 + 1) (o .faces) (o .vert0)))
 
 module _ {A B : Type 0} (f : A → B) where
   length-map : (xs : List A) → length (map f xs) ≡ length xs
@@ -148,13 +148,13 @@ module _ {A B : Type 0} (f : A → B) where
 
 parts-drawn : (s : List ℕ) (o : Solid) {b : Bool} → b ≡ weighted (tableIn s o .rows) → parts s o b ≡ drawn (tableIn s o)
 parts-drawn s o eb =
-    let fs = run (face (tablesOf s)) (o .first + 1) (o .count) in
-    let ev : o .verts ≡ length (tableIn s o .rows) = sym (length-run (row (tablesOf s)) (o .low + 1) (o .verts)) in
-    let ec : o .count ≡ length (tableIn s o .faces) =
-    sym (length-map (lowered (o .low)) fs ∙ length-run (face (tablesOf s)) (o .first + 1) (o .count)) in
-    let ef = ap text (map-map (lowered (o .low)) faceWords fs) in
+    let fs = run (face (tablesOf s)) (o .face0 + 1) (o .faces) in
+    let ev : o .verts ≡ length (tableIn s o .rows) = sym (length-run (row (tablesOf s)) (o .vert0 + 1) (o .verts)) in
+    let ec : o .faces ≡ length (tableIn s o .faces) =
+    sym (length-map (lowered (o .vert0)) fs ∙ length-run (face (tablesOf s)) (o .face0 + 1) (o .faces)) in
+    let ef = ap text (map-map (lowered (o .vert0)) faceWords fs) in
     λ i. keywordLine (eb i) ++ (countsLine (ev i) (ec i) ++ (text (map (rowWords (eb i)) (tableIn s o .rows)) ++ ef i))
 
 pub drawing-put : {l : List ℕ} {at : ℕ} {m : List ℕ} {p : ℕ} (s : List ℕ) (k : ℕ) {o : Solid} {b : Bool} → o ≡ solid (viewOf s) k →
-    b ≡ weighted (run (row (tablesOf s)) (o .low + 1) (o .verts)) → Put l at (parts s o b) m p → Put l at (drawnOf s k) m p
+    b ≡ weighted (run (row (tablesOf s)) (o .vert0 + 1) (o .verts)) → Put l at (parts s o b) m p → Put l at (drawnOf s k) m p
 drawing-put s k {o} e q x = put-as (parts-drawn s o q ∙ ap (λ (o : Solid). drawn (tableIn s o)) e) x

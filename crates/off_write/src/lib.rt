@@ -150,9 +150,9 @@ pub fn drawing(out: &mut [u8], at: usize, s: &[u8], k: usize) -> usize
     ensures { λ p. ⌜ Put (now (out .entry)) at (drawnOf (now (s .entry)) k) (now (out .exit)) p ⌝ }
 {
     let o = solid(s, k);
-    let is_four = is_weighted(s, o.low + 1, o.verts);
+    let is_four = is_weighted(s, o.vert0 + 1, o.verts);
     let p = keyword(out, at, is_four);
-    let q = counts(out, p, o.verts, o.count);
-    let r = vertices(out, q, s, o.low + 1, o.verts, is_four);
-    faces(out, r, s, o.first + 1, o.count, o.low)
+    let q = counts(out, p, o.verts, o.faces);
+    let r = vertices(out, q, s, o.vert0 + 1, o.verts, is_four);
+    faces(out, r, s, o.face0 + 1, o.faces, o.vert0)
 }

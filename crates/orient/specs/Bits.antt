@@ -16,10 +16,10 @@ use Rattle.laws.specs.Sign.{Sign, sign, _or_}
 use Rattle.scene.specs.Limits.{limits, mostPoints}
 use Rattle.scene.specs.declared.Row.{Row}
 use Rattle.orient.specs.Terms.{factor, isPlus, tied, orientation, pointAt, c0At, c1At, positiveAt}
-use Rattle.orient.specs.Minors.{crossOf, threeOf, meetOf}
+use Rattle.orient.specs.Minors.{minorOf, alternatingOf, detOfLines}
 use Rattle.orient.specs.Laws.{factor-weight}
 use Rattle.orient.specs.Columns.{partOf}
-use Rattle.orient.specs.Formed.{mostFormed, timesSize, sumSize, crossSize, threeSize, meetSize}
+use Rattle.orient.specs.Formed.{mostFormed, timesSize, sumSize, minorSize, alternatingSize, detOfLinesSize}
 use Rattle.orient.specs.Sizes.{Within, AreWithin, partSize, part-size, part-fits, factor-size}
 use Rattle.orient.specs.declared.minors.Line.{Line}
 use Rattle.orient.specs.declared.Point.{Point}
@@ -42,23 +42,23 @@ module _ {a b c d : ℤ} (p : SFits w64 a) (q : SFits w64 b) (s : SFits w64 c) (
   four-read : {X : Type 0} (F : ℤ → ℤ → ℤ → ℤ → X) → F (reread a) (reread b) (reread c) (reread d) ≡ F a b c d
   four-read F i = F (read p i) (read q i) (read s i) (read t i)
 
-  pub cross-ask : crossSize a b c d ≤ mostFormed → crossSize (reread a) (reread b) (reread c) (reread d) ≤ mostFormed
-  cross-ask h = subst (λ (n : ℕ). n ≤ mostFormed) (sym (four-read crossSize)) h
+  pub minor-ask : minorSize a b c d ≤ mostFormed → minorSize (reread a) (reread b) (reread c) (reread d) ≤ mostFormed
+  minor-ask h = subst (λ (n : ℕ). n ≤ mostFormed) (sym (four-read minorSize)) h
 
-  pub crossed : {r : ℤ} → mag r < 2 ^ 63 → r ≡ crossOf (reread a) (reread b) (reread c) (reread d) → reread r ≡ crossOf a b c d
-  crossed ok e = called ok (e ∙ four-read crossOf)
+  pub crossed : {r : ℤ} → mag r < 2 ^ 63 → r ≡ minorOf (reread a) (reread b) (reread c) (reread d) → reread r ≡ minorOf a b c d
+  crossed ok e = called ok (e ∙ four-read minorOf)
 
 -- ---- a row and three minors, handed on to `three`
 
 module _ {p q r : Row} (f : RowFits p) (g : RowFits q) (h : RowFits r) where
-  pub triple-read : {x y z : ℤ} {X : Type 0} (F : ℤ → ℤ → ℤ → ℤ → ℤ → ℤ → X) →
-      mag x < 2 ^ 63 → x ≡ crossOf (reread (q .y)) (reread (q .z)) (reread (r .y)) (reread (r .z)) →
-      mag y < 2 ^ 63 → y ≡ crossOf (reread (q .x)) (reread (q .z)) (reread (r .x)) (reread (r .z)) →
-      mag z < 2 ^ 63 → z ≡ crossOf (reread (q .x)) (reread (q .y)) (reread (r .x)) (reread (r .y)) →
+  pub triple-product-read : {x y z : ℤ} {X : Type 0} (F : ℤ → ℤ → ℤ → ℤ → ℤ → ℤ → X) →
+      mag x < 2 ^ 63 → x ≡ minorOf (reread (q .y)) (reread (q .z)) (reread (r .y)) (reread (r .z)) →
+      mag y < 2 ^ 63 → y ≡ minorOf (reread (q .x)) (reread (q .z)) (reread (r .x)) (reread (r .z)) →
+      mag z < 2 ^ 63 → z ≡ minorOf (reread (q .x)) (reread (q .y)) (reread (r .x)) (reread (r .y)) →
       F (reread (p .x)) (reread x) (reread (p .y)) (reread y) (reread (p .z)) (reread z)
-      ≡ F (p .x) (crossOf (q .y) (q .z) (r .y) (r .z)) (p .y) (crossOf (q .x) (q .z) (r .x) (r .z)) (p .z)
-      (crossOf (q .x) (q .y) (r .x) (r .y))
-  triple-read F xo xe yo ye zo ze i =
+      ≡ F (p .x) (minorOf (q .y) (q .z) (r .y) (r .z)) (p .y) (minorOf (q .x) (q .z) (r .x) (r .z)) (p .z)
+      (minorOf (q .x) (q .y) (r .x) (r .y))
+  triple-product-read F xo xe yo ye zo ze i =
       F (read (f .x) i) (crossed (g .y) (g .z) (h .y) (h .z) xo xe i) (read (f .y) i) (crossed (g .x) (g .z) (h .x) (h .z) yo ye i)
       (read (f .z) i) (crossed (g .x) (g .y) (h .x) (h .y) zo ze i)
 
@@ -80,24 +80,24 @@ pub record LineFits (l : Line) : Type 0 where
   pub zw : SFits w64 (l .zw)
 
 abbrev pub Asks : ℤ → ℤ → ℤ → ℤ → ℤ → ℤ → Type 0
-Asks a b c d e f = threeSize (reread a) (reread b) (reread c) (reread d) (reread e) (reread f) ≤ mostFormed
+Asks a b c d e f = alternatingSize (reread a) (reread b) (reread c) (reread d) (reread e) (reread f) ≤ mostFormed
 
 abbrev pub Gives : ℤ → ℤ → ℤ → ℤ → ℤ → ℤ → ℤ → Type 0
-Gives r a b c d e f = r ≡ threeOf (reread a) (reread b) (reread c) (reread d) (reread e) (reread f)
+Gives r a b c d e f = r ≡ alternatingOf (reread a) (reread b) (reread c) (reread d) (reread e) (reread f)
 
-pub three-ask : {a b c d e f : ℤ} → SixFit a b c d e f → threeSize a b c d e f ≤ mostFormed → Asks a b c d e f
-three-ask six h = subst (λ (n : ℕ). n ≤ mostFormed) (sym (six-read threeSize six)) h
+pub alternating-ask : {a b c d e f : ℤ} → SixFit a b c d e f → alternatingSize a b c d e f ≤ mostFormed → Asks a b c d e f
+alternating-ask six h = subst (λ (n : ℕ). n ≤ mostFormed) (sym (six-read alternatingSize six)) h
 
-pub three-got : {r a b c d e f : ℤ} → SixFit a b c d e f → mag r < 2 ^ 63 → Gives r a b c d e f → reread r ≡ threeOf a b c d e f
-three-got six ok g = called ok (g ∙ six-read threeOf six)
+pub three-got : {r a b c d e f : ℤ} → SixFit a b c d e f → mag r < 2 ^ 63 → Gives r a b c d e f → reread r ≡ alternatingOf a b c d e f
+three-got six ok g = called ok (g ∙ six-read alternatingOf six)
 
-three-held : {r a b c d e f : ℤ} → SixFit a b c d e f → threeSize a b c d e f ≤ mostFormed → Gives r a b c d e f →
-    Held (threeSize a b c d e f) r (threeOf a b c d e f)
+three-held : {r a b c d e f : ℤ} → SixFit a b c d e f → alternatingSize a b c d e f ≤ mostFormed → Gives r a b c d e f →
+    Held (alternatingSize a b c d e f) r (alternatingOf a b c d e f)
 three-held {a = a} {b = b} {c = c} {d = d} {e = e} {f = f} six h g =
-    formed (g ∙ six-read threeOf six) (exactly a ⊗ exactly b ⊖ exactly c ⊗ exactly d ⊕ exactly e ⊗ exactly f) (room h)
+    formed (g ∙ six-read alternatingOf six) (exactly a ⊗ exactly b ⊖ exactly c ⊗ exactly d ⊕ exactly e ⊗ exactly f) (room h)
 
 -- the two halves of `meet`: what each call of `three` asks, and their sum
-module _ {l m : Line} (p : LineFits l) (q : LineFits m) (h : meetSize l m ≤ mostFormed) where
+module _ {l m : Line} (p : LineFits l) (q : LineFits m) (h : detOfLinesSize l m ≤ mostFormed) where
   one : SixFit (l .xy) (m .zw) (l .xz) (m .yw) (l .xw) (m .yz)
   one = (p .xy, q .zw, p .xz, q .yw, p .xw, q .yz)
 
@@ -105,13 +105,13 @@ module _ {l m : Line} (p : LineFits l) (q : LineFits m) (h : meetSize l m ≤ mo
   two = (p .yz, q .xw, p .yw, q .xz, p .zw, q .xy)
 
   pub ask-one : Asks (l .xy) (m .zw) (l .xz) (m .yw) (l .xw) (m .yz)
-  ask-one = three-ask one (omega arith)
+  ask-one = alternating-ask one (omega arith)
 
   pub ask-two : Asks (l .yz) (m .xw) (l .yw) (m .xz) (l .zw) (m .xy)
-  ask-two = three-ask two (omega arith)
+  ask-two = alternating-ask two (omega arith)
 
   pub met : {r s : ℤ} → Gives r (l .xy) (m .zw) (l .xz) (m .yw) (l .xw) (m .yz) → Gives s (l .yz) (m .xw) (l .yw) (m .xz) (l .zw) (m .xy) →
-      Held (meetSize l m) (reread r +ℤ reread s) (meetOf l m)
+      Held (detOfLinesSize l m) (reread r +ℤ reread s) (detOfLines l m)
   met g k = plus (three-held one (omega arith) g) (three-held two (omega arith) k) (room h)
 
 -- ---- the factor, by the test of the weight's bits

@@ -8,7 +8,7 @@ use lib.IntN.{ℤ, natAbs}
 use Rattle.laws.specs.Size.{Small, _⊗_, _⊖_, _⊕_}
 use Rattle.scene.specs.declared.Row.{Row}
 use Rattle.orient.specs.Determinant.{det4}
-use Rattle.orient.specs.Minors.{crossOf, joinOf, minors-are}
+use Rattle.orient.specs.Minors.{minorOf, joinOf, minors-are}
 use Rattle.orient.specs.declared.minors.Line.{Line}
 
 -- no number that is formed for a scene is larger
@@ -23,49 +23,50 @@ timesSize a b = natAbs a * natAbs b
 abbrev pub sumSize : ℤ → ℤ → ℤ → ℕ
 sumSize a b c = natAbs a + natAbs b + natAbs c
 
-abbrev pub crossSize : ℤ → ℤ → ℤ → ℤ → ℕ
-crossSize a b c d = natAbs a * natAbs d + natAbs b * natAbs c
+abbrev pub minorSize : ℤ → ℤ → ℤ → ℤ → ℕ
+minorSize a b c d = natAbs a * natAbs d + natAbs b * natAbs c
 
-abbrev pub threeSize : ℤ → ℤ → ℤ → ℤ → ℤ → ℤ → ℕ
-threeSize a b c d e f = natAbs a * natAbs b + natAbs c * natAbs d + natAbs e * natAbs f
+abbrev pub alternatingSize : ℤ → ℤ → ℤ → ℤ → ℤ → ℤ → ℕ
+alternatingSize a b c d e f = natAbs a * natAbs b + natAbs c * natAbs d + natAbs e * natAbs f
 
-abbrev pub meetSize : Line → Line → ℕ
-meetSize l m = threeSize (l .xy) (m .zw) (l .xz) (m .yw) (l .xw) (m .yz) + threeSize (l .yz) (m .xw) (l .yw) (m .xz) (l .zw) (m .xy)
+abbrev pub detOfLinesSize : Line → Line → ℕ
+detOfLinesSize l m = alternatingSize (l .xy) (m .zw) (l .xz) (m .yw) (l .xw) (m .yz) + alternatingSize (l .yz) (m .xw) (l .yw) (m .xz)
+    (l .zw) (m .xy)
 
 -- on the way to the minors of two rows, and to the determinant of four, at most k
 pub record JoinWithin (k : ℕ) (a b : Row) : Type 0 where
-  pub xy : crossSize (a .x) (a .y) (b .x) (b .y) ≤ k
-  pub xz : crossSize (a .x) (a .z) (b .x) (b .z) ≤ k
-  pub xw : crossSize (a .x) (a .w) (b .x) (b .w) ≤ k
-  pub yz : crossSize (a .y) (a .z) (b .y) (b .z) ≤ k
-  pub yw : crossSize (a .y) (a .w) (b .y) (b .w) ≤ k
-  pub zw : crossSize (a .z) (a .w) (b .z) (b .w) ≤ k
+  pub xy : minorSize (a .x) (a .y) (b .x) (b .y) ≤ k
+  pub xz : minorSize (a .x) (a .z) (b .x) (b .z) ≤ k
+  pub xw : minorSize (a .x) (a .w) (b .x) (b .w) ≤ k
+  pub yz : minorSize (a .y) (a .z) (b .y) (b .z) ≤ k
+  pub yw : minorSize (a .y) (a .w) (b .y) (b .w) ≤ k
+  pub zw : minorSize (a .z) (a .w) (b .z) (b .w) ≤ k
 
 pub record DetWithin (k : ℕ) (a b c d : Row) : Type 0 where
   pub first : JoinWithin k a b
   pub last : JoinWithin k c d
-  pub whole : meetSize (joinOf a b) (joinOf c d) ≤ k
+  pub whole : detOfLinesSize (joinOf a b) (joinOf c d) ≤ k
 
 -- and on the way to the determinant of three rows without their weights
-pub record TripleWithin (k : ℕ) (p q r : Row) : Type 0 where
-  pub x : crossSize (q .y) (q .z) (r .y) (r .z) ≤ k
-  pub y : crossSize (q .x) (q .z) (r .x) (r .z) ≤ k
-  pub z : crossSize (q .x) (q .y) (r .x) (r .y) ≤ k
-  pub whole : threeSize (p .x) (crossOf (q .y) (q .z) (r .y) (r .z)) (p .y) (crossOf (q .x) (q .z) (r .x) (r .z)) (p .z)
-      (crossOf (q .x) (q .y) (r .x) (r .y)) ≤ k
+pub record TripleProductWithin (k : ℕ) (p q r : Row) : Type 0 where
+  pub x : minorSize (q .y) (q .z) (r .y) (r .z) ≤ k
+  pub y : minorSize (q .x) (q .z) (r .x) (r .z) ≤ k
+  pub z : minorSize (q .x) (q .y) (r .x) (r .y) ≤ k
+  pub whole : alternatingSize (p .x) (minorOf (q .y) (q .z) (r .y) (r .z)) (p .y) (minorOf (q .x) (q .z) (r .x) (r .z)) (p .z)
+      (minorOf (q .x) (q .y) (r .x) (r .y)) ≤ k
 
 -- and on the way from one row to another
-pub record LessWithin (k : ℕ) (a b : Row) : Type 0 where
+pub record RowMinusWithin (k : ℕ) (a b : Row) : Type 0 where
   pub x : natAbs (a .x) + natAbs (b .x) ≤ k
   pub y : natAbs (a .y) + natAbs (b .y) ≤ k
   pub z : natAbs (a .z) + natAbs (b .z) ≤ k
 
-pub cross-size : {A B C D : ℕ} {a b c d : ℤ} → Small A a → Small B b → Small C c → Small D d → crossSize a b c d ≤ A * D + B * C
-cross-size p q r s = add-le-add (mul-le-mul (p .size) (s .size)) (mul-le-mul (q .size) (r .size))
+pub minor-size : {A B C D : ℕ} {a b c d : ℤ} → Small A a → Small B b → Small C c → Small D d → minorSize a b c d ≤ A * D + B * C
+minor-size p q r s = add-le-add (mul-le-mul (p .size) (s .size)) (mul-le-mul (q .size) (r .size))
 
-pub three-size : {A B C D E F : ℕ} {a b c d e f : ℤ} → Small A a → Small B b → Small C c → Small D d → Small E e → Small F f →
-    threeSize a b c d e f ≤ A * B + C * D + E * F
-three-size p q r s t u = add-le-add (add-le-add (mul-le-mul (p .size) (q .size)) (mul-le-mul (r .size) (s .size)))
+pub alternating-size : {A B C D E F : ℕ} {a b c d e f : ℤ} → Small A a → Small B b → Small C c → Small D d → Small E e → Small F f →
+    alternatingSize a b c d e f ≤ A * B + C * D + E * F
+alternating-size p q r s t u = add-le-add (add-le-add (mul-le-mul (p .size) (q .size)) (mul-le-mul (r .size) (s .size)))
     (mul-le-mul (t .size) (u .size))
 
 -- ---- a determinant
@@ -122,17 +123,18 @@ module _ (X Y Z W : ℕ) where
   join-within : {a b : Row} → Some X Y Z W → RowSize X Y Z W a → RowSize X Y Z W b → JoinWithin detSize a b
   join-within s p q =
       record {
-        xy = le-trans (cross-size (p .x) (p .y) (q .x) (q .y)) (two-of-four X Y Z W (s .z) (s .w));
-        xz = le-trans (cross-size (p .x) (p .z) (q .x) (q .z)) (omega (arith, two-of-four X Z Y W (s .y) (s .w)));
-        xw = le-trans (cross-size (p .x) (p .w) (q .x) (q .w)) (omega (arith, two-of-four X W Y Z (s .y) (s .z)));
-        yz = le-trans (cross-size (p .y) (p .z) (q .y) (q .z)) (omega (arith, two-of-four Y Z X W (s .x) (s .w)));
-        yw = le-trans (cross-size (p .y) (p .w) (q .y) (q .w)) (omega (arith, two-of-four Y W X Z (s .x) (s .z)));
-        zw = le-trans (cross-size (p .z) (p .w) (q .z) (q .w)) (omega (arith, two-of-four Z W X Y (s .x) (s .y)));
+        xy = le-trans (minor-size (p .x) (p .y) (q .x) (q .y)) (two-of-four X Y Z W (s .z) (s .w));
+        xz = le-trans (minor-size (p .x) (p .z) (q .x) (q .z)) (omega (arith, two-of-four X Z Y W (s .y) (s .w)));
+        xw = le-trans (minor-size (p .x) (p .w) (q .x) (q .w)) (omega (arith, two-of-four X W Y Z (s .y) (s .z)));
+        yz = le-trans (minor-size (p .y) (p .z) (q .y) (q .z)) (omega (arith, two-of-four Y Z X W (s .x) (s .w)));
+        yw = le-trans (minor-size (p .y) (p .w) (q .y) (q .w)) (omega (arith, two-of-four Y W X Z (s .x) (s .z)));
+        zw = le-trans (minor-size (p .z) (p .w) (q .z) (q .w)) (omega (arith, two-of-four Z W X Y (s .x) (s .y)));
       }
 
-  meet-within : {l m : Line} → LineSize X Y Z W l → LineSize X Y Z W m → meetSize l m ≤ products
+  meet-within : {l m : Line} → LineSize X Y Z W l → LineSize X Y Z W m → detOfLinesSize l m ≤ products
   meet-within p q =
-      add-le-add (three-size (p .xy) (q .zw) (p .xz) (q .yw) (p .xw) (q .yz)) (three-size (p .yz) (q .xw) (p .yw) (q .xz) (p .zw) (q .xy))
+      add-le-add (alternating-size (p .xy) (q .zw) (p .xz) (q .yw) (p .xw) (q .yz))
+          (alternating-size (p .yz) (q .xw) (p .yw) (q .xz) (p .zw) (q .xy))
 
   module _ {a b c d : Row} (p : RowSize X Y Z W a) (q : RowSize X Y Z W b) (r : RowSize X Y Z W c) (s : RowSize X Y Z W d) where
     pub det-within : Some X Y Z W → DetWithin detSize a b c d
@@ -140,7 +142,7 @@ module _ (X Y Z W : ℕ) where
         record {
           first = join-within some p q;
           last = join-within some r s;
-          whole = subst (λ (n : ℕ). meetSize (joinOf a b) (joinOf c d) ≤ n) of-24 (meet-within (join-size p q) (join-size r s));
+          whole = subst (λ (n : ℕ). detOfLinesSize (joinOf a b) (joinOf c d) ≤ n) of-24 (meet-within (join-size p q) (join-size r s));
         }
 
     pub det-size : Small detSize (det4 a b c d)

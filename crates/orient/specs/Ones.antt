@@ -10,7 +10,7 @@ use Rattle.laws.specs.Ring.{Expr, ring, env}
 use Rattle.laws.specs.Ring.Expr.{var, lit, _⊕_, _⊖_, _⊗_}
 use Rattle.scene.specs.declared.Row.{Row}
 use Rattle.orient.specs.Determinant.{Entries}
-use Rattle.orient.specs.Minors.{triple-of, tripleOf, lessOf}
+use Rattle.orient.specs.Minors.{triple-product-of, tripleProduct, rowMinus}
 use Rattle.orient.specs.Terms.{Powers, Numbered, terms, c1, c2}
 use Rattle.orient.specs.Variables.{t-of}
 use Rattle.orient.specs.Columns.{marked, rowOf}
@@ -49,17 +49,19 @@ ones-are a b c d e =
 -- ---- the rows seen from the last
 
 -- from d to p, a direction; where it is marked, from shift to shift
-abbrev pub seenOf : Point → Point → Bool → Row
-seenOf p d s = lessOf (rowOf p s s s) (rowOf d s s s)
+abbrev pub directionOf : Point → Point → Bool → Row
+directionOf p d s = rowMinus (rowOf p s s s) (rowOf d s s s)
 
-unfoldable pub seenPart : Point → Point → Point → Point → Bool → Bool → Bool → ℤ
-seenPart a b c d sa sb sc = tripleOf (seenOf a d sa) (seenOf b d sb) (seenOf c d sc)
+unfoldable pub directionsPart : Point → Point → Point → Point → Bool → Bool → Bool → ℤ
+directionsPart a b c d sa sb sc = tripleProduct (directionOf a d sa) (directionOf b d sb) (directionOf c d sc)
 
 abbrev one-shifted : (a b c d : Point) → ℤ
-one-shifted a b c d = seenPart a b c d true false false +ℤ seenPart a b c d false true false +ℤ seenPart a b c d false false true
+one-shifted a b c d = directionsPart a b c d true false false +ℤ directionsPart a b c d false true false +ℤ directionsPart a b c d false
+    false true
 
 abbrev two-shifted : (a b c d : Point) → ℤ
-two-shifted a b c d = seenPart a b c d true true false +ℤ seenPart a b c d true false true +ℤ seenPart a b c d false true true
+two-shifted a b c d = directionsPart a b c d true true false +ℤ directionsPart a b c d true false true +ℤ directionsPart a b c d false true
+    true
 
 -- ---- the terms are these sums: of points of variables, four each, whose weight is written as 1
 
@@ -69,14 +71,14 @@ one j = record { x = var (4 * j); y = var (4 * j + 1); z = var (4 * j + 2); w = 
 abbrev t : Powers Expr
 t = t-of (one 0) (one 1) (one 2) (one 3)
 
-abbrev seen : Bool → ℕ → Entries Expr
-seen s j =
+abbrev direction : Bool → ℕ → Entries Expr
+direction s j =
     let r = marked _⊗_ s s s (one j) in
     let o = marked _⊗_ s s s (one 3) in
     record { x = r .x ⊖ o .x; y = r .y ⊖ o .y; z = r .z ⊖ o .z; w = lit (pos 0) }
 
 abbrev part : Bool → Bool → Bool → Expr
-part sa sb sc = triple-of _⊕_ _⊖_ _⊗_ (seen sa 0) (seen sb 1) (seen sc 2)
+part sa sb sc = triple-product-of _⊕_ _⊖_ _⊗_ (direction sa 0) (direction sb 1) (direction sc 2)
 
 abbrev unit : Point → Point
 unit p = record { x = p .x; y = p .y; z = p .z; w = pos 1; n = p .n }
@@ -88,11 +90,11 @@ module _ (a b c d : Point) where
       (a .x ∷ a .y ∷ a .z ∷ a .n ∷ b .x ∷ b .y ∷ b .z ∷ b .n ∷ c .x ∷ c .y ∷ c .z ∷ c .n ∷ d .x ∷ d .y ∷ d .z ∷ d .n ∷ [])
 
   c1-unit : c1 (unit a) (unit b) (unit c) (unit d) ≡ one-shifted (unit a) (unit b) (unit c) (unit d)
-  unfolding terms seenPart
+  unfolding terms directionsPart
   c1-unit = ring numbers (t .e1) (part true false false ⊕ part false true false ⊕ part false false true) tt
 
   c2-unit : c2 (unit a) (unit b) (unit c) (unit d) ≡ two-shifted (unit a) (unit b) (unit c) (unit d)
-  unfolding terms seenPart
+  unfolding terms directionsPart
   c2-unit = ring numbers (t .e2) (part true true false ⊕ part true false true ⊕ part false true true) tt
 
 unit-is : (p : Point) → p .w ≡ pos 1 → unit p ≡ p

@@ -13,10 +13,10 @@ use mir.Val.{SFits, toZ, ofZ}
 use Rattle.laws.specs.Size.{_⊗_, _⊖_, _⊕_, Held, formed}
 use Rattle.scene.specs.Limits.{limits}
 use Rattle.orient.specs.Columns.{rowOf}
-use Rattle.orient.specs.Formed.{mostFormed, RowSize, TripleWithin, LessWithin, cross-size, three-size}
+use Rattle.orient.specs.Formed.{mostFormed, RowSize, TripleProductWithin, RowMinusWithin, minor-size, alternating-size}
 use Rattle.orient.specs.Sizes.{Within, AreWithin, X, Y, Z, row-size}
 use Rattle.orient.specs.Bits.{room, read}
-use Rattle.orient.specs.Ones.{isOne, seenOf, seenPart}
+use Rattle.orient.specs.Ones.{isOne, directionOf, directionsPart}
 use Rattle.orient.specs.declared.Point.{Point}
 
 -- ---- a weight is 1 where its bits are
@@ -57,7 +57,7 @@ module _ {p d : Point} (v : Within limits p) (u : Within limits d) (s : Bool) wh
   abbrev last : RowSize (X limits s) (Y limits s) (Z limits s) (limits .mostWeight) (rowOf d s s s)
   last = row-size limits s s s (lit≤ tt) u
 
-  seen-size : RowSize (x2 s) (y2 s) (z2 s) 0 (seenOf p d s)
+  seen-size : RowSize (x2 s) (y2 s) (z2 s) 0 (directionOf p d s)
   seen-size =
       record {
         x = from .x ⊖ last .x;
@@ -66,7 +66,7 @@ module _ {p d : Point} (v : Within limits p) (u : Within limits d) (s : Bool) wh
         w = record { size = lit≤ tt };
       }
 
-  pub seen-less : LessWithin mostFormed (rowOf p s s s) (rowOf d s s s)
+  pub seen-less : RowMinusWithin mostFormed (rowOf p s s s) (rowOf d s s s)
   seen-less =
       let h = formable s in
       record {
@@ -88,11 +88,11 @@ module _ (sa sb sc : Bool) where
   abbrev xy : ℕ
   xy = x2 sb * y2 sc + y2 sb * x2 sc
 
-  abbrev pub tripleSize : ℕ
-  tripleSize = x2 sa * yz + y2 sa * xz + z2 sa * xy
+  abbrev pub tripleProductSize : ℕ
+  tripleProductSize = x2 sa * yz + y2 sa * xz + z2 sa * xy
 
   abbrev all : ℕ
-  all = yz + xz + xy + tripleSize
+  all = yz + xz + xy + tripleProductSize
 
 triple-fits : (sa sb sc : Bool) → all sa sb sc ≤ mostFormed
 triple-fits true true true = lit≤ tt
@@ -105,30 +105,30 @@ triple-fits false false true = lit≤ tt
 triple-fits false false false = lit≤ tt
 
 module _ {a b c d : Point} (sa sb sc : Bool) (v : AreWithin limits a b c d) where
-  abbrev p : RowSize (x2 sa) (y2 sa) (z2 sa) 0 (seenOf a d sa)
+  abbrev p : RowSize (x2 sa) (y2 sa) (z2 sa) 0 (directionOf a d sa)
   p = seen-size (v .0) (v .3) sa
 
-  abbrev q : RowSize (x2 sb) (y2 sb) (z2 sb) 0 (seenOf b d sb)
+  abbrev q : RowSize (x2 sb) (y2 sb) (z2 sb) 0 (directionOf b d sb)
   q = seen-size (v .1) (v .3) sb
 
-  abbrev r : RowSize (x2 sc) (y2 sc) (z2 sc) 0 (seenOf c d sc)
+  abbrev r : RowSize (x2 sc) (y2 sc) (z2 sc) 0 (directionOf c d sc)
   r = seen-size (v .2) (v .3) sc
 
-  pub seen-formed : TripleWithin mostFormed (seenOf a d sa) (seenOf b d sb) (seenOf c d sc)
+  pub seen-formed : TripleProductWithin mostFormed (directionOf a d sa) (directionOf b d sb) (directionOf c d sc)
   seen-formed =
       let h = triple-fits sa sb sc in
       record {
-        x = le-trans (cross-size (q .y) (q .z) (r .y) (r .z)) (le-trans (omega arith) h);
-        y = le-trans (cross-size (q .x) (q .z) (r .x) (r .z)) (le-trans (omega arith) h);
-        z = le-trans (cross-size (q .x) (q .y) (r .x) (r .y)) (le-trans (omega arith) h);
+        x = le-trans (minor-size (q .y) (q .z) (r .y) (r .z)) (le-trans (omega arith) h);
+        y = le-trans (minor-size (q .x) (q .z) (r .x) (r .z)) (le-trans (omega arith) h);
+        z = le-trans (minor-size (q .x) (q .y) (r .x) (r .y)) (le-trans (omega arith) h);
         whole =
             le-trans
-            (three-size (p .x) (q .y ⊗ r .z ⊖ q .z ⊗ r .y) (p .y) (q .x ⊗ r .z ⊖ q .z ⊗ r .x) (p .z) (q .x ⊗ r .y ⊖ q .y ⊗ r .x))
+            (alternating-size (p .x) (q .y ⊗ r .z ⊖ q .z ⊗ r .y) (p .y) (q .x ⊗ r .z ⊖ q .z ⊗ r .x) (p .z) (q .x ⊗ r .y ⊖ q .y ⊗ r .x))
             (le-trans (omega arith) h);
       }
 
-  pub seen-held : {n : ℤ} → n ≡ seenPart a b c d sa sb sc → Held (tripleSize sa sb sc) n (seenPart a b c d sa sb sc)
-  unfolding seenPart
+  pub seen-held : {n : ℤ} → n ≡ directionsPart a b c d sa sb sc → Held (tripleProductSize sa sb sc) n (directionsPart a b c d sa sb sc)
+  unfolding directionsPart
   seen-held e =
       formed e
       (p .x ⊗ (q .y ⊗ r .z ⊖ q .z ⊗ r .y) ⊖ p .y ⊗ (q .x ⊗ r .z ⊖ q .z ⊗ r .x) ⊕ p .z ⊗ (q .x ⊗ r .y ⊖ q .y ⊗ r .x))

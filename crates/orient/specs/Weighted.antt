@@ -25,7 +25,7 @@ abbrev pub Weighted : ℕ → (ℕ → Row) → Type 0
 Weighted n row = (i : ℕ) → 1 ≤ i → i < n → (row i) .w ≢ pos 0
 
 -- four different points of such a scene
-pub record Asked (row : ℕ → Row) (a b c d : ℕ) : Type 0 where
+pub record SignDefined (row : ℕ → Row) (a b c d : ℕ) : Type 0 where
   pub points : ℕ
   pub weighted : Weighted points row
   pub four : Four (Upto points) a b c d
@@ -136,5 +136,6 @@ module _ (n : ℕ) (row : ℕ → Row) (weighted : Weighted n row) (a b c d : �
   pub oriented : orientation (pointAt row a) (pointAt row b) (pointAt row c) (pointAt row d) ≢ none
   oriented e = c3-nonzero (no-sign (pointAt row a) (pointAt row b) (pointAt row c) (pointAt row d) e)
 
-pub slide-tells : (row : ℕ → Row) (a b c d : ℕ) → Asked row a b c d → Tells (pointAt row a) (pointAt row b) (pointAt row c) (pointAt row d)
+pub slide-tells : (row : ℕ → Row) (a b c d : ℕ) → SignDefined row a b c d → Tells (pointAt row a) (pointAt row b) (pointAt row c)
+    (pointAt row d)
 slide-tells row a b c d k = sym (last-term (k .points) row (k .weighted) a b c d (k .four) .plus)

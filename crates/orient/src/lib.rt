@@ -7,7 +7,7 @@ ghost use Rattle.scene.specs.Limits.{limits, mostPoints};
 ghost use Rattle.scene.specs.Arrays.{rowIn, AllWithin};
 ghost use Rattle.orient.specs.Terms.{factor, c0, c1, c2, c3, termsOf, termsAt, isPlus, tied, pointAt, c0At, positiveAt};
 ghost use Rattle.orient.specs.Slide.{Tells};
-ghost use Rattle.orient.specs.Weighted.{Asked};
+ghost use Rattle.orient.specs.Weighted.{SignDefined};
 ghost use Rattle.orient.specs.Columns.{rowOf, partOf};
 ghost use Rattle.orient.specs.Shifts.{shiftAt};
 ghost use Rattle.orient.specs.Sizes.{Within, AreWithin, NumbersWithin};
@@ -41,7 +41,7 @@ struct Point {
 // Whether the sign of points a, b, c, d, in this order, is plus.
 pub fn positive_at(rows: &Rows, a: usize, b: usize, c: usize, d: usize) -> bool
     requires sizes { ⌜ NumbersWithin limits (rowIn (now rows)) a b c d ⌝ }
-    requires points { ⌜ Asked (rowIn (now rows)) a b c d ⌝ }
+    requires points { ⌜ SignDefined (rowIn (now rows)) a b c d ⌝ }
     ensures { λ r. ⌜ r ≡ positiveAt (rowIn (now (rows .entry))) a b c d ⌝ }
 {
     let t0 = term0(
@@ -56,7 +56,7 @@ pub fn positive_at(rows: &Rows, a: usize, b: usize, c: usize, d: usize) -> bool
 // The same where c0 is known to be t0. Nothing of the shift is computed where that is not zero.
 pub fn sign_by(rows: &Rows, t0: i64, a: usize, b: usize, c: usize, d: usize) -> bool
     requires sizes { ⌜ NumbersWithin limits (rowIn (now rows)) a b c d ⌝ }
-    requires points { ⌜ Asked (rowIn (now rows)) a b c d ⌝ }
+    requires points { ⌜ SignDefined (rowIn (now rows)) a b c d ⌝ }
     requires first { ⌜ t0 ≡ c0At (rowIn (now rows)) a b c d ⌝ }
     ensures { λ r. ⌜ r ≡ positiveAt (rowIn (now (rows .entry))) a b c d ⌝ }
 {
@@ -69,7 +69,7 @@ pub fn sign_by(rows: &Rows, t0: i64, a: usize, b: usize, c: usize, d: usize) -> 
 // The same where c0 is known to be zero.
 pub fn tied_at(rows: &Rows, a: usize, b: usize, c: usize, d: usize) -> bool
     requires sizes { ⌜ NumbersWithin limits (rowIn (now rows)) a b c d ⌝ }
-    requires points { ⌜ Asked (rowIn (now rows)) a b c d ⌝ }
+    requires points { ⌜ SignDefined (rowIn (now rows)) a b c d ⌝ }
     requires tied { ⌜ c0At (rowIn (now rows)) a b c d ≡ pos 0 ⌝ }
     ensures { λ r. ⌜ r ≡ positiveAt (rowIn (now (rows .entry))) a b c d ⌝ }
 {

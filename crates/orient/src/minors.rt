@@ -3,9 +3,9 @@ ghost use mathlib.Core.Path.{_≡_};
 ghost use Prim.Native.Nat.{_≤_};
 ghost use lib.IntN.{_+ℤ_, _*ℤ_};
 ghost use Rattle.orient.specs.Determinant.{det4};
-ghost use Rattle.orient.specs.Minors.{crossOf, threeOf, tripleOf, lessOf, joinOf, meetOf};
-ghost use Rattle.orient.specs.Formed.{mostFormed, timesSize, sumSize, crossSize, threeSize, meetSize};
-ghost use Rattle.orient.specs.Formed.{JoinWithin, DetWithin, TripleWithin, LessWithin};
+ghost use Rattle.orient.specs.Minors.{minorOf, alternatingOf, tripleProduct, rowMinus, joinOf, detOfLines};
+ghost use Rattle.orient.specs.Formed.{mostFormed, timesSize, sumSize, minorSize, alternatingSize, detOfLinesSize};
+ghost use Rattle.orient.specs.Formed.{JoinWithin, DetWithin, TripleProductWithin, RowMinusWithin};
 use scene::Row;
 
 // The six 2×2 minors of two rows.
@@ -23,7 +23,7 @@ pub fn det(a: Row, b: Row, c: Row, d: Row) -> i64
     requires { ⌜ DetWithin mostFormed a b c d ⌝ }
     ensures { λ r. ⌜ r ≡ det4 a b c d ⌝ }
 {
-    meet(join(a, b), join(c, d))
+    det_of_lines(join(a, b), join(c, d))
 }
 
 pub fn join(a: Row, b: Row) -> Line
@@ -39,53 +39,53 @@ pub fn join(a: Row, b: Row) -> Line
     let bz = b.z;
     let bw = b.w;
     Line {
-        xy: cross(ax, ay, bx, by),
-        xz: cross(ax, az, bx, bz),
-        xw: cross(ax, aw, bx, bw),
-        yz: cross(ay, az, by, bz),
-        yw: cross(ay, aw, by, bw),
-        zw: cross(az, aw, bz, bw),
+        xy: minor(ax, ay, bx, by),
+        xz: minor(ax, az, bx, bz),
+        xw: minor(ax, aw, bx, bw),
+        yz: minor(ay, az, by, bz),
+        yw: minor(ay, aw, by, bw),
+        zw: minor(az, aw, bz, bw),
     }
 }
 
-fn meet(l: Line, m: Line) -> i64
-    requires { ⌜ meetSize l m ≤ mostFormed ⌝ }
-    ensures { λ r. ⌜ r ≡ meetOf l m ⌝ }
+fn det_of_lines(l: Line, m: Line) -> i64
+    requires { ⌜ detOfLinesSize l m ≤ mostFormed ⌝ }
+    ensures { λ r. ⌜ r ≡ detOfLines l m ⌝ }
 {
-    three(l.xy, m.zw, l.xz, m.yw, l.xw, m.yz) + three(l.yz, m.xw, l.yw, m.xz, l.zw, m.xy)
+    alternating(l.xy, m.zw, l.xz, m.yw, l.xw, m.yz) + alternating(l.yz, m.xw, l.yw, m.xz, l.zw, m.xy)
 }
 
 // The determinant of three rows, their weights left out.
-pub fn triple(p: Row, q: Row, r: Row) -> i64
-    requires { ⌜ TripleWithin mostFormed p q r ⌝ }
-    ensures { λ o. ⌜ o ≡ tripleOf p q r ⌝ }
+pub fn triple_product(p: Row, q: Row, r: Row) -> i64
+    requires { ⌜ TripleProductWithin mostFormed p q r ⌝ }
+    ensures { λ o. ⌜ o ≡ tripleProduct p q r ⌝ }
 {
-    let x = cross(q.y, q.z, r.y, r.z);
-    let y = cross(q.x, q.z, r.x, r.z);
-    let z = cross(q.x, q.y, r.x, r.y);
-    three(p.x, x, p.y, y, p.z, z)
+    let x = minor(q.y, q.z, r.y, r.z);
+    let y = minor(q.x, q.z, r.x, r.z);
+    let z = minor(q.x, q.y, r.x, r.y);
+    alternating(p.x, x, p.y, y, p.z, z)
 }
 
 // One minor.
-pub fn cross(a: i64, b: i64, c: i64, d: i64) -> i64
-    requires { ⌜ crossSize a b c d ≤ mostFormed ⌝ }
-    ensures { λ r. ⌜ r ≡ crossOf a b c d ⌝ }
+pub fn minor(a: i64, b: i64, c: i64, d: i64) -> i64
+    requires { ⌜ minorSize a b c d ≤ mostFormed ⌝ }
+    ensures { λ r. ⌜ r ≡ minorOf a b c d ⌝ }
 {
     a * d - b * c
 }
 
 // Three products, the middle one with a minus.
-pub fn three(a: i64, b: i64, c: i64, d: i64, e: i64, f: i64) -> i64
-    requires { ⌜ threeSize a b c d e f ≤ mostFormed ⌝ }
-    ensures { λ r. ⌜ r ≡ threeOf a b c d e f ⌝ }
+pub fn alternating(a: i64, b: i64, c: i64, d: i64, e: i64, f: i64) -> i64
+    requires { ⌜ alternatingSize a b c d e f ≤ mostFormed ⌝ }
+    ensures { λ r. ⌜ r ≡ alternatingOf a b c d e f ⌝ }
 {
     a * b - c * d + e * f
 }
 
 // The row a seen from b, a direction: its weight is 0.
-pub fn less(a: Row, b: Row) -> Row
-    requires { ⌜ LessWithin mostFormed a b ⌝ }
-    ensures { λ r. ⌜ r ≡ lessOf a b ⌝ }
+pub fn row_minus(a: Row, b: Row) -> Row
+    requires { ⌜ RowMinusWithin mostFormed a b ⌝ }
+    ensures { λ r. ⌜ r ≡ rowMinus a b ⌝ }
 {
     Row {
         x: a.x - b.x,

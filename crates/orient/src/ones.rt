@@ -3,11 +3,11 @@ ghost use mathlib.Core.Path.{_≡_};
 ghost use Rattle.scene.specs.Limits.{limits};
 ghost use Rattle.orient.specs.Terms.{c1, c2};
 ghost use Rattle.orient.specs.Sizes.{Within, AreWithin};
-ghost use Rattle.orient.specs.Ones.{isOne, areOnes, Ones, seenOf, seenPart};
+ghost use Rattle.orient.specs.Ones.{isOne, areOnes, Ones, directionOf, directionsPart};
 use crate::Point;
-use crate::minors::less;
+use crate::minors::row_minus;
 use crate::minors::sum;
-use crate::minors::triple;
+use crate::minors::triple_product;
 use crate::shifted;
 use scene::Row;
 
@@ -51,15 +51,15 @@ pub fn term2(a: Point, b: Point, c: Point, d: Point) -> i64
 // The determinant of the three as seen from d, with the shifts in place of those that are marked.
 fn part(a: Point, b: Point, c: Point, d: Point, sa: bool, sb: bool, sc: bool) -> i64
     requires { ⌜ AreWithin limits a b c d ⌝ }
-    ensures { λ r. ⌜ r ≡ seenPart a b c d sa sb sc ⌝ }
+    ensures { λ r. ⌜ r ≡ directionsPart a b c d sa sb sc ⌝ }
 {
-    triple(seen(a, d, sa), seen(b, d, sb), seen(c, d, sc))
+    triple_product(direction(a, d, sa), direction(b, d, sb), direction(c, d, sc))
 }
 
 // From d to p, a direction; where it is marked, from shift to shift.
-fn seen(p: Point, d: Point, s: bool) -> Row
+fn direction(p: Point, d: Point, s: bool) -> Row
     requires { ⌜ Within limits p × Within limits d ⌝ }
-    ensures { λ r. ⌜ r ≡ seenOf p d s ⌝ }
+    ensures { λ r. ⌜ r ≡ directionOf p d s ⌝ }
 {
-    less(shifted(p, s, s, s), shifted(d, s, s, s))
+    row_minus(shifted(p, s, s, s), shifted(d, s, s, s))
 }

@@ -14,7 +14,7 @@ use Rattle.scene.specs.Records.{lengthOf}
 use Rattle.scene.specs.Refusal.{numberOf}
 use Rattle.scene.specs.declared.Refusal.{Refusal}
 use Rattle.scene.specs.declared.Refusal.the-variants.{Opening, Counts, Length}
-use Rattle.judge.specs.Judge.{rule, andThen, opens, countsOk, headerFault, judgedAt, judged}
+use Rattle.judge.specs.Judge.{refuseUnless, andThen, opens, countsOk, headerFault, judgedAt, judged}
 use Rattle.judge.specs.declared.Judged.{Judged}
 use Rattle.judge.specs.declared.Judged.the-variants.{Accepted, Refused}
 use Rattle.class_block.specs.Block.{headed, whole, scenesOf}
@@ -34,11 +34,11 @@ none = parts .scenes [] .ended (omega arith)
 
 module _ (s : List ℕ) (ok : Whole s) where
   header : (headed s ≡ true) × (length s ≡ lengthOf s)
-  unfolding judgedAt headerFault rule andThen headed
+  unfolding judgedAt headerFault refuseUnless andThen headed
   header = go (opens s) (countsOk limits s) (eqb (length s) (lengthOf s)) refl _ ok
     where
       go : (a b c : Bool) → eqb (length s) (lengthOf s) ≡ c → (k : Judged) →
-          passes (andThen (rule a Opening (rule b Counts (rule c Length Accepted))) k) ≡ true →
+          passes (andThen (refuseUnless a Opening (refuseUnless b Counts (refuseUnless c Length Accepted))) k) ≡ true →
           ((a && b) ≡ true) × (length s ≡ lengthOf s)
       go true true true e k p = (refl, eqb-true (length s) (lengthOf s) e)
       go true true false e k p = absurd (let z : _≡_ {A = ℕ} 0 1 = cc in omega arith)

@@ -8,7 +8,7 @@ use Rattle.scene.specs.Faces.{Vertex, FaceOf}
 use Rattle.scene.specs.declared.Row.{Row}
 use Rattle.scene.specs.declared.Face.{Face}
 use Rattle.orient.specs.Signs.{Six, Upto, ne-sym}
-use Rattle.orient.specs.Weighted.{Weighted, Asked}
+use Rattle.orient.specs.Weighted.{Weighted, SignDefined}
 use Rattle.pierce.specs.Formula.{helper}
 use Rattle.pierce.specs.Helper.{Five, helper-found}
 
@@ -53,15 +53,15 @@ beside-same {n} {u} {v} e h = subst (Beside n u v) (sym e) h
 -- ---- the signs that the formula asks for
 
 module _ {n u v : ℕ} {row : ℕ → Row} {f : Face} (w : Weighted n row) (d : Beside n u v f) where
-  pub ask-u : Asked row (f .p) (f .q) (f .r) u
+  pub ask-u : SignDefined row (f .p) (f .q) (f .r) u
   ask-u = record { points = n; weighted = w; four = search ne-sym }
 
-  pub ask-v : Asked row (f .p) (f .q) (f .r) v
+  pub ask-v : SignDefined row (f .p) (f .q) (f .r) v
   ask-v = record { points = n; weighted = w; four = search ne-sym }
 
   -- with the lowest helper
   pub helped : {h : ℕ} → 6 ≤ n → h ≡ helper n u v f → Helped row u v h f
   helped l e = record { points = n; weighted = w; six = rw e (helper-found n u v f l d) }
 
-pub ask-rp : {u v h : ℕ} {row : ℕ → Row} {f : Face} → Helped row u v h f → Asked row u v (f .r) (f .p)
+pub ask-rp : {u v h : ℕ} {row : ℕ → Row} {f : Face} → Helped row u v h f → SignDefined row u v (f .r) (f .p)
 ask-rp k = let d = k .six in record { points = k .points; weighted = k .weighted; four = search ne-sym }

@@ -4,7 +4,7 @@ ghost use Prim.Native.Nat.{_≤_};
 ghost use Rattle.scene.specs.Limits.{limits, mostPoints};
 ghost use Rattle.scene.specs.Arrays.{rowIn, AllWithin, FaceWithin};
 ghost use Rattle.orient.specs.Terms.{positiveAt};
-ghost use Rattle.orient.specs.Weighted.{Weighted, Asked};
+ghost use Rattle.orient.specs.Weighted.{Weighted, SignDefined};
 ghost use Rattle.pierce.specs.Formula.{canHelp, helper, counts, sidesCount, pierced};
 ghost use Rattle.pierce.specs.Beside.{Beside, Helped};
 use scene::Face;
@@ -51,7 +51,7 @@ fn sides(rows: &Rows, u: usize, v: usize, h: usize, f: Face) -> bool
 fn side(rows: &Rows, u: usize, v: usize, s: usize, t: usize, hs: bool, ht: bool) -> bool
     requires sizes { ⌜ AllWithin limits (rowIn (now rows)) × (u ≤ mostPoints limits) × (v ≤ mostPoints limits) × (s ≤ mostPoints limits)
         × (t ≤ mostPoints limits) ⌝ }
-    requires points { ⌜ Asked (rowIn (now rows)) u v s t ⌝ }
+    requires points { ⌜ SignDefined (rowIn (now rows)) u v s t ⌝ }
     ensures { λ r. ⌜ r ≡ counts hs ht (positiveAt (rowIn (now (rows .entry))) u v s t) ⌝ }
 {
     if hs == ht {

@@ -7,7 +7,7 @@ use Rattle.scene.specs.declared.Row.{Row}
 use Rattle.scene.specs.declared.Face.{Face}
 use Rattle.orient.specs.Signs.{ne-sym}
 use Rattle.orient.specs.Terms.{positiveAt}
-use Rattle.orient.specs.Weighted.{Weighted, Asked}
+use Rattle.orient.specs.Weighted.{Weighted, SignDefined}
 use Rattle.pierce.specs.Beside.{Beside}
 use Rattle.pierce_plain.specs.Five.{fiveSigns}
 
@@ -15,7 +15,7 @@ same : (a b : Bool) → Bool·beq a b ≡ not (a ⊕ b)
 same = law (all λ a. all λ b. Bool·beq a b ≐ not (a ⊕ b)) tt
 
 -- the last of the edge's signs against the three sides
-pub ask-rp : {n u v : ℕ} {row : ℕ → Row} {f : Face} → Weighted n row → Beside n u v f → Asked row u v (f .r) (f .p)
+pub ask-rp : {n u v : ℕ} {row : ℕ → Row} {f : Face} → Weighted n row → Beside n u v f → SignDefined row u v (f .r) (f .p)
 ask-rp {n} w d = record { points = n; weighted = w; four = search ne-sym }
 
 -- two ends alike, two sides unlike, or the last two sides decide it

@@ -22,7 +22,7 @@ use Rattle.print.specs.Back.{Words}
 use Rattle.print.specs.Put.{behind, Put, end-to-end}
 use Rattle.print_lines.specs.Lines.{maskLine, refusedLine, recordLine, keptLine}
 use Rattle.print_lines.specs.Rows.{rowsIn, fitting, IsRows}
-use Rattle.print_lines.specs.declared.rows.Part.{Part}
+use Rattle.print_lines.specs.declared.rows.RowsPut.{RowsPut}
 use Rattle.print_lines.specs.Laws.{by-case}
 use Rattle.print_answers.specs.Said.{wordsLine, shownLine, listedLine}
 use Rattle.print_answers.specs.Lent.{pattern, filled, areTouched, IsLent, rowsOf, lentText}
@@ -82,7 +82,7 @@ lent-is s places d {n} {f} {front} {r} e k len same x =
     }
 
 -- the line, the rows and the last line, one after the other
-pub lent-put : (a : Listed) (list : List ℕ) {l : List ℕ} {at : ℕ} {m₁ : List ℕ} {q : ℕ} {m₂ : List ℕ} {part : Part} {m₃ : List ℕ} {p : ℕ}
+pub lent-put : (a : Listed) (list : List ℕ) {l : List ℕ} {at : ℕ} {m₁ : List ℕ} {q : ℕ} {m₂ : List ℕ} {part : RowsPut} {m₃ : List ℕ} {p : ℕ}
     {n k : ℕ} {b : Bool} →
     n ≡ rowsOf a → k ≡ min n (length list / 3) → b ≡ areTouched list (3 * k) → Put l at (line (listedLine a)) m₁ q →
     IsRows (rowsIn list n) m₁ q m₂ part → Put m₂ (part .end) (line (keptLine (not b))) m₃ p →

@@ -12,7 +12,7 @@ use pierce_engine::Engine;
 use print_lines::head::Top;
 use print_lines::refused;
 use print_lines::rows;
-use print_lines::rows::Part;
+use print_lines::rows::RowsPut;
 use print_lines::rows::left;
 use print_report::head_read;
 use questions::Listed;
@@ -48,7 +48,7 @@ pub fn head(engine: Engine, s: &[u8], out: &mut [u8]) -> Top
 }
 
 // The rows of the listing from the one numbered `from` on, as many as the lent list and the buffer have room for.
-pub fn part(engine: Engine, s: &[u8], from: usize, list: &mut [u16], out: &mut [u8]) -> Part
+pub fn part(engine: Engine, s: &[u8], from: usize, list: &mut [u16], out: &mut [u8]) -> RowsPut
     ensures { λ r. ⌜ IsRows (partRows (now (s .entry)) from (length (now (list .entry)) / 3)) (now (out .entry)) 0 (now (out .exit)) r ⌝ }
     ensures { λ _. ⌜ IsLent (now (s .entry)) from (now (list .entry)) (now (list .exit)) ⌝ }
 {

@@ -15,10 +15,10 @@ use Rattle.judge.specs.Judge.{judged}
 use Rattle.judge.specs.declared.Judged.{Judged}
 use Rattle.judge.specs.declared.Judged.the-variants.{Accepted, Refused}
 use Rattle.question_listing.specs.Hits.{Hit}
-use Rattle.question_listing.specs.Pour.{flat, partIn}
-use Rattle.question_listing.specs.Poured.{length-flat}
+use Rattle.question_listing.specs.WritePairs.{flat, partIn}
+use Rattle.question_listing.specs.PairsWritten.{length-flat}
 use Rattle.scene.specs.View.{viewOf}
-use Rattle.questions.specs.Answers.{answered, verdictIn, verdictOf, countsIn, countedOf, IsPart, listingIn}
+use Rattle.questions.specs.Answers.{orRefuse, verdictIn, verdictOf, countsIn, countedOf, IsPart, listingIn}
 use Rattle.questions.specs.Listings.{PouredIf, part-told}
 use Rattle.questions.specs.declared.Counts.{Counts}
 use Rattle.questions.specs.declared.Counted.{Counted}
@@ -33,7 +33,7 @@ use Rattle.print.specs.Put.{Put}
 use Rattle.print_lines.specs.Lines.{refusedLine, sceneLine, verdictLine, insideLine, pairsLine, pairLine}
 use Rattle.print_lines.specs.Rows.{rowIn, rowsIn, IsRows}
 use Rattle.print_lines.specs.declared.head.Top.{Top}
-use Rattle.print_lines.specs.declared.rows.Part.{Part}
+use Rattle.print_lines.specs.declared.rows.RowsPut.{RowsPut}
 
 abbrev pub hitLine : Hit → Words
 hitLine h = pairLine (h .low) (h .high) (h .face)
@@ -48,7 +48,7 @@ headOf s (counted.Counts c) = headLines (countsOf s) (verdictOf s) c
 
 -- the listing's; a refused scene has none
 unfoldable pub listingLines : List ℕ → List Words
-listingLines s = answered (λ _. []) (judged s) (map hitLine (listingIn (viewOf s)))
+listingLines s = orRefuse (λ _. []) (judged s) (map hitLine (listingIn (viewOf s)))
 
 -- at most k of them, from one on
 abbrev pub partRows : List ℕ → (from k : ℕ) → List Words
@@ -65,7 +65,7 @@ rowsOf (counted.Counts c) = c .pairs
 
 -- what the list lent for a part holds afterwards
 unfoldable pub IsLent : (s : List ℕ) (from : ℕ) (d d′ : List ℕ) → Type 0
-IsLent s from d d′ = d′ ≡ answered (λ _. d) (judged s) (partIn (listingIn (viewOf s)) from d)
+IsLent s from d d′ = d′ ≡ orRefuse (λ _. d) (judged s) (partIn (listingIn (viewOf s)) from d)
 
 pub record IsHead (s l m : List ℕ) (r : Top) : Type 0 where
   pub held : Put l 0 (text (headOf s (countedOf s))) m (r .end)
@@ -85,26 +85,26 @@ one-line a {l} {m} {at} {p} x = subst (λ (t : List ℕ). Put l at t m p) (sym (
 
 -- by what the judge said
 head-by : (s : List ℕ) {j : Judged} → judged s ≡ j → {l m : List ℕ} {e n : ℕ} →
-    Put l 0 (text (headOf s (answered counted.Refused j (counted.Counts (countsIn (viewOf s)))))) m e →
-    n ≡ rowsOf (answered counted.Refused j (counted.Counts (countsIn (viewOf s)))) → IsHead s l m (record { end = e; rows = n })
+    Put l 0 (text (headOf s (orRefuse counted.Refused j (counted.Counts (countsIn (viewOf s)))))) m e →
+    n ≡ rowsOf (orRefuse counted.Refused j (counted.Counts (countsIn (viewOf s)))) → IsHead s l m (record { end = e; rows = n })
 unfolding countedOf
 head-by s q {l} {m} {e} {n} h k =
-    let f = ap (λ (j : Judged). answered counted.Refused j (counted.Counts (countsIn (viewOf s)))) (sym q) in
+    let f = ap (λ (j : Judged). orRefuse counted.Refused j (counted.Counts (countsIn (viewOf s)))) (sym q) in
     record { held = subst (λ (a : Counted). Put l 0 (text (headOf s a)) m e) f h; rows = k ∙ ap rowsOf f }
 
 module _ (s : List ℕ) {l m : List ℕ} {e : ℕ} where
   pub head-refused : {o : Judged} {r : Refusal} → o ≡ judged s → o ≡ Refused r → Put l 0 (line (refusedLine r)) m e →
       IsHead s l m (record { end = e; rows = 0 })
-  unfolding answered
+  unfolding orRefuse
   head-refused {r} p q h = head-by s (sym p ∙ q) (one-line (refusedLine r) h) refl
 
   -- the counts and the verdict as they were read
   pub head-told : judged s ≡ Accepted → {h : Scene} {v : Verdict} {c : Counts} → h ≡ countsOf s → v ≡ verdictIn (viewOf s) →
       c ≡ countsIn (viewOf s) →
       Put l 0 (text (headLines h v c)) m e → IsHead s l m (record { end = e; rows = c .pairs })
-  unfolding answered verdictOf
+  unfolding orRefuse verdictOf
   head-told ok {h} {v} {c} is-h is-v is-c x =
-      let w : v ≡ verdictOf s = is-v ∙ ap (λ (j : Judged). answered verdict.Refused j (verdictIn (viewOf s))) (sym ok) in
+      let w : v ≡ verdictOf s = is-v ∙ ap (λ (j : Judged). orRefuse verdict.Refused j (verdictIn (viewOf s))) (sym ok) in
       head-by s ok
       (subst (λ (d : Counts). Put l 0 (text (headLines (countsOf s) (verdictOf s) d)) m e) is-c
       (subst (λ (u : Verdict). Put l 0 (text (headLines (countsOf s) u c)) m e) w
@@ -162,13 +162,13 @@ part-rows hits from d =
     ∙ take-lines k (drop from hits) ∙ ap (take k) (drop-lines from hits)
 
 -- what a list that was lent for a part holds, and the rows that are rendered from it
-module _ (s : List ℕ) (from : ℕ) {d d′ : List ℕ} {o : Listed} (part : IsPart s from d d′ o) {l m : List ℕ} {r : Part} where
+module _ (s : List ℕ) (from : ℕ) {d d′ : List ℕ} {o : Listed} (part : IsPart s from d d′ o) {l m : List ℕ} {r : RowsPut} where
   pub rows-refused : {y : Refusal} → o ≡ listed.Refused y → IsRows (rowsIn d′ 0) l 0 m r → IsRows (partRows s from (length d / 3)) l 0 m r
-  unfolding listingLines answered rowsIn
+  unfolding listingLines orRefuse rowsIn
   rows-refused e x = go (judged s) (part .answer)
     where
-      go : (j : Judged) → o ≡ answered listed.Refused j (listed.Count (length (listingIn (viewOf s)))) →
-          IsRows (take (length d / 3) (drop from (answered (λ _. []) j (map hitLine (listingIn (viewOf s)))))) l 0 m r
+      go : (j : Judged) → o ≡ orRefuse listed.Refused j (listed.Count (length (listingIn (viewOf s)))) →
+          IsRows (take (length d / 3) (drop from (orRefuse (λ _. []) j (map hitLine (listingIn (viewOf s)))))) l 0 m r
       go Accepted a = let z : _≡_ {A = ℕ} 0 1 = cc in absurd (omega arith)
       go (Refused y) a =
           let i : min 0 (length d′ / 3) ≡ 0 = omega arith in
@@ -177,12 +177,12 @@ module _ (s : List ℕ) (from : ℕ) {d d′ : List ℕ} {o : Listed} (part : Is
 
   pub rows-listed : {n k : ℕ} → o ≡ listed.Count n → k ≡ n - from → IsRows (rowsIn d′ k) l 0 m r →
       IsRows (partRows s from (length d / 3)) l 0 m r
-  unfolding listingLines answered
+  unfolding listingLines orRefuse
   rows-listed {n} {k} e p x = go (judged s) (part .answer) (part .held)
     where
-      go : (j : Judged) → o ≡ answered listed.Refused j (listed.Count (length (listingIn (viewOf s)))) →
-          d′ ≡ answered (λ _. d) j (partIn (listingIn (viewOf s)) from d) →
-          IsRows (take (length d / 3) (drop from (answered (λ _. []) j (map hitLine (listingIn (viewOf s)))))) l 0 m r
+      go : (j : Judged) → o ≡ orRefuse listed.Refused j (listed.Count (length (listingIn (viewOf s)))) →
+          d′ ≡ orRefuse (λ _. d) j (partIn (listingIn (viewOf s)) from d) →
+          IsRows (take (length d / 3) (drop from (orRefuse (λ _. []) j (map hitLine (listingIn (viewOf s)))))) l 0 m r
       go Accepted a h =
           let c : n ≡ length (listingIn (viewOf s)) = cc in
           let i : k ≡ length (listingIn (viewOf s)) - from = omega arith in
@@ -195,13 +195,13 @@ lent-is p = p .held
 
 -- of an accepted scene's listing, poured off its survey
 module _ (s : List ℕ) (ok : judged s ≡ Accepted) (from : ℕ) {d d′ : List ℕ} {n : ℕ}
-    (poured : PouredIf (listingIn (viewOf s)) from false d d′ n) where
-  poured-part : IsPart s from d d′ (listed.Count n)
-  poured-part = part-told s d (sym ok) from refl poured
+    (pairsWritten : PouredIf (listingIn (viewOf s)) from false d d′ n) where
+  pairs-written-part : IsPart s from d d′ (listed.Count n)
+  pairs-written-part = part-told s d (sym ok) from refl pairsWritten
 
-  pub rows-read : {l m : List ℕ} {r : Part} {k : ℕ} → k ≡ n - from → IsRows (rowsIn d′ k) l 0 m r →
+  pub rows-read : {l m : List ℕ} {r : RowsPut} {k : ℕ} → k ≡ n - from → IsRows (rowsIn d′ k) l 0 m r →
       IsRows (partRows s from (length d / 3)) l 0 m r
-  rows-read e x = rows-listed s from poured-part refl e x
+  rows-read e x = rows-listed s from pairs-written-part refl e x
 
   pub lent-read : IsLent s from d d′
-  lent-read = lent-is poured-part
+  lent-read = lent-is pairs-written-part

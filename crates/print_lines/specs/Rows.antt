@@ -15,7 +15,7 @@ use Rattle.print.specs.Decimal.{decimal-length}
 use Rattle.print.specs.Back.{Words}
 use Rattle.print.specs.Put.{Put, end-to-end, put-nothing, put-full, behind-fits}
 use Rattle.print_lines.specs.Lines.{pairLine, recordLine}
-use Rattle.print_lines.specs.declared.rows.Part.{Part}
+use Rattle.print_lines.specs.declared.rows.RowsPut.{RowsPut}
 
 -- row i of a list
 abbrev pub rowIn : List ℕ → ℕ → Words
@@ -35,7 +35,7 @@ fitting room [] = []
 fitting room (w ∷ ws) = cond (leb longest room) (w ∷ fitting (room - length (line w)) ws) []
 
 -- what rendering rows into a buffer at a place leaves, and answers; no row is cut
-pub record IsRows (rows : List Words) (l : List ℕ) (at : ℕ) (m : List ℕ) (r : Part) : Type 0 where
+pub record IsRows (rows : List Words) (l : List ℕ) (at : ℕ) (m : List ℕ) (r : RowsPut) : Type 0 where
   pub count : r .count ≡ length (fitting (length l - at) rows)
   pub held : Put l at (text (fitting (length l - at) rows)) m (r .end)
   pub whole : at ≤ length l → r .end ≡ at + length (text (fitting (length l - at) rows))

@@ -15,7 +15,7 @@ use print::word;
 pub const ROW: usize = 18;
 
 // How many rows were put, and the place behind them.
-pub struct Part {
+pub struct RowsPut {
     pub count: usize,
     pub end: usize,
 }
@@ -47,11 +47,11 @@ fn has_room(bytes: usize, at: usize) -> bool
 }
 
 // The first n rows of the list, or all that it has, as far as each has room.
-pub fn rows(out: &mut [u8], at: usize, list: &[u16], n: usize) -> Part
+pub fn rows(out: &mut [u8], at: usize, list: &[u16], n: usize) -> RowsPut
     ensures { λ r. ⌜ IsRows (rowsIn (now (list .entry)) n) (now (out .entry)) at (now (out .exit)) r ⌝ }
 {
     if out.len() < at {
-        return Part {
+        return RowsPut {
             count: 0,
             end: out.len(),
         };
@@ -61,12 +61,12 @@ pub fn rows(out: &mut [u8], at: usize, list: &[u16], n: usize) -> Part
     let mut i = 0;
     while i < m {
         if !has_room(out.len(), p) {
-            return Part { count: i, end: p };
+            return RowsPut { count: i, end: p };
         }
         p = row(out, p, list[3 * i], list[3 * i + 1], list[3 * i + 2]);
         i += 1;
     }
-    Part { count: i, end: p }
+    RowsPut { count: i, end: p }
 }
 
 fn row(out: &mut [u8], at: usize, u: u16, v: u16, f: u16) -> usize

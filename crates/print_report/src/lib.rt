@@ -11,7 +11,7 @@ ghost use Rattle.print_lines.specs.Report.{partRows, IsLent, IsHead};
 use print_lines::head::Top;
 use print_lines::head::four_lines;
 use print_lines::rows;
-use print_lines::rows::Part;
+use print_lines::rows::RowsPut;
 use print_lines::rows::left;
 use questions::Counts;
 use scene::read;
@@ -20,7 +20,7 @@ use survey::answers::count_inside;
 use survey::answers::count_pairs;
 use survey_edges::Ends;
 use survey_edges::Masks;
-use survey_scene::pour_read;
+use survey_scene::write_read;
 use survey_scene::verdict_read;
 
 // All but the listing.
@@ -61,12 +61,12 @@ pub fn part_read(
     from: usize,
     list: &mut [u16],
     out: &mut [u8],
-) -> Part
+) -> RowsPut
     requires { ⌜ judged (now s) ≡ Accepted ⌝ }
     requires { ⌜ SurveyIs (viewOf (now s)) (now aends) (now amasks) (now bends) (now bmasks) t ⌝ }
     ensures { λ r. ⌜ IsRows (partRows (now (s .entry)) from (length (now (list .entry)) / 3)) (now (out .entry)) 0 (now (out .exit)) r ⌝ }
     ensures { λ _. ⌜ IsLent (now (s .entry)) from (now (list .entry)) (now (list .exit)) ⌝ }
 {
-    let n = pour_read(t, s, aends, amasks, bends, bmasks, from, false, list);
+    let n = write_read(t, s, aends, amasks, bends, bmasks, from, false, list);
     rows::rows(out, 0, list, left(n, from))
 }

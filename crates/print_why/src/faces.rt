@@ -84,10 +84,10 @@ fn faces_with(s: &[u8], k: usize, v: usize, w: usize) -> usize
     requires { ⌜ OneByte v × OneByte w ⌝ }
 {
     let o = solid_in(s, k);
-    let low = o.low;
-    let end = o.first + o.count;
+    let low = o.vert0;
+    let end = o.face0 + o.faces;
     let mut n: usize = 0;
-    let mut f = o.first;
+    let mut f = o.face0;
     while f < end {
         f += 1;
         if is_edge(s, f, low + v, low + w) {

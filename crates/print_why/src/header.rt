@@ -141,7 +141,7 @@ pub fn counts(s: &[u8], out: &mut [u8], at: usize) -> usize
 }
 
 // How many bytes there are. (Of a longer input than any scene the rest is not read.)
-fn held(n: usize, out: &mut [u8], at: usize) -> usize
+fn byte_count(n: usize, out: &mut [u8], at: usize) -> usize
     ensures { λ p. ⌜ Said (now (out .entry)) at (now (out .exit)) p ⌝ }
 {
     if n > Scene::LONGEST {
@@ -161,7 +161,7 @@ pub fn length(s: &[u8], out: &mut [u8], at: usize) -> usize
     let n = offsets::length_of(s);
     let p = place(s, 0, 2, out, at);
     let q = clause(out, p, b"the counts ask for ", n);
-    held(s.len(), out, q)
+    byte_count(s.len(), out, q)
 }
 
 pub fn mark(s: &[u8], k: usize, out: &mut [u8], at: usize) -> usize

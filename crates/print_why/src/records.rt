@@ -35,7 +35,7 @@ pub fn row_in(s: &[u8], k: usize) -> Row {
 
 // The solid whose face is in record k.
 pub fn solid_in(s: &[u8], k: usize) -> Solid
-    ensures { λ r. ⌜ OneByte (r .low) × OneByte (r .verts) × OneByte (r .first) × OneByte (r .count) ⌝ }
+    ensures { λ r. ⌜ OneByte (r .vert0) × OneByte (r .verts) × OneByte (r .face0) × OneByte (r .faces) ⌝ }
 {
     if k <= offsets::points(s) + read::counts(s).faces_a {
         return read::solid(s, 1);

@@ -1,5 +1,5 @@
 pub mod Hits
-pub mod Pour
+pub mod WritePairs
 pub mod Laws
-pub mod Poured
+pub mod PairsWritten
 pub mod First

@@ -15,12 +15,12 @@ use Rattle.judge.specs.Laws.{rule-ok, rule-rest}
 use Rattle.judge.specs.Tests.{within-iff}
 use Rattle.judge.specs.declared.Judged.the-variants.{Accepted}
 use Rattle.orient.specs.Signs.{Upto, Four}
-use Rattle.questions.specs.Answers.{isPoint, isVertex, isFace, isVertexOf, arePoints, differ, signFault, clear, edgeAndFace}
-use Rattle.questions.specs.Answers.{piercesFault, edgeAndSolid, outside, maskFault, otherSolid, enclosedFault}
+use Rattle.questions.specs.Answers.{isPoint, isVertex, isFace, isVertexOf, arePoints, differ, signFault, endsOffFace, edgeAndFace}
+use Rattle.questions.specs.Answers.{piercesFault, edgeAndSolid, endsOffSolid, maskFault, otherSolid, enclosedFault}
 
 -- i is none of the solid's vertices
 abbrev pub NotOf : Solid → ℕ → Type 0
-NotOf o i = Vertex (o .low) (o .low + o .verts) i → ⊥
+NotOf o i = Vertex (o .vert0) (o .vert0 + o .verts) i → ⊥
 
 module _ (v : View) where
   point-upto : (i : ℕ) → isPoint v i ≡ true → Upto (points v) i
@@ -57,7 +57,7 @@ module _ (v : View) where
     pub w-out : isCorner w (v .face f) ≡ false
 
   pub pierces-ends : (u w f : ℕ) → piercesFault v u w f ≡ Accepted → Ends u w f
-  unfolding piercesFault edgeAndFace clear isFace
+  unfolding piercesFault edgeAndFace endsOffFace isFace
   pierces-ends u w f h =
       let x = and-iff _ _ .0 (rule-ok _ _ _ h) in
       let y = and-iff _ _ .0 (x .1) in
@@ -82,10 +82,10 @@ module _ (v : View) where
 
   not-vertex : (k i : ℕ) → isVertexOf v k i ≡ false → NotOf (solid v k) i
   unfolding isVertexOf
-  not-vertex k i e w = fails-iff _ (within-iff (solid v k .low + 1) (solid v k .low + solid v k .verts) i) .0 e (omega arith)
+  not-vertex k i e w = fails-iff _ (within-iff (solid v k .vert0 + 1) (solid v k .vert0 + solid v k .verts) i) .0 e (omega arith)
 
   pub mask-outside : (u w k : ℕ) → maskFault v u w k ≡ Accepted → Outside u w k
-  unfolding maskFault edgeAndSolid outside
+  unfolding maskFault edgeAndSolid endsOffSolid
   mask-outside u w k h =
       let x = and-iff _ _ .0 (rule-ok _ _ _ h) in
       let p = and-iff _ _ .0 (rule-ok _ _ _ (rule-rest _ _ _ h)) in

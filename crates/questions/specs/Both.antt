@@ -4,11 +4,11 @@ use Prim.Native.Nat.{ℕ, _≤_, _<_}
 use borrow.Author.Tests.{le-leb, lt-leb}
 use lib.ListN.{length}
 use Rattle.scene.specs.View.{View, verts, solid}
-use Rattle.question_listing.specs.Hits.{lowestInside}
+use Rattle.question_listing.specs.Hits.{lowestEnclosed}
 use Rattle.question_listing.specs.First.{firstOf}
 use Rattle.question_listing.specs.declared.find.Found.{Found}
 use Rattle.question_listing.specs.declared.find.Found.the-variants.{Pair, Nothing}
-use Rattle.questions.specs.Answers.{seen, listingIn, insideIn, countsIn, crossOr, enclosureIn, verdictIn}
+use Rattle.questions.specs.Answers.{pierceView, listingIn, insideIn, countsIn, crossOr, enclosureIn, verdictIn}
 use Rattle.questions.specs.declared.Counts.{Counts}
 use Rattle.questions.specs.declared.Verdict.{Verdict}
 use Rattle.questions.specs.declared.Verdict.the-variants.{Cross, AInB, BInA, Apart}
@@ -30,12 +30,12 @@ module _ (v : View) where
     none-cross e p = p ∙ ap (λ (o : Found). crossOr o (enclosureIn v)) (sym e ∙ first)
 
   -- p is the lowest vertex of A enclosed, q of B
-  module _ {p n : ℕ} (lowest-a : p ≡ lowestInside (seen v) (solid v 1)) (is-n : n ≡ v .vertsA) where
+  module _ {p n : ℕ} (lowest-a : p ≡ lowestEnclosed (pierceView v) (solid v 1)) (is-n : n ≡ v .vertsA) where
     pub a-in-b : p ≤ n → AInB p ≡ enclosureIn v
     unfolding enclosureIn
     a-in-b h = sym (rw (← lowest-a, ← is-n, le-leb p n h))
 
-    module _ {q m : ℕ} (more : n < p) (lowest-b : q ≡ lowestInside (seen v) (solid v 2)) (is-m : m ≡ verts v) where
+    module _ {q m : ℕ} (more : n < p) (lowest-b : q ≡ lowestEnclosed (pierceView v) (solid v 2)) (is-m : m ≡ verts v) where
       pub b-in-a : q ≤ m → BInA q ≡ enclosureIn v
       unfolding enclosureIn
       b-in-a h = sym (rw (← lowest-a, ← lowest-b, ← is-m, ← is-n, lt-leb p n more, le-leb q m h))

@@ -13,27 +13,27 @@ use Rattle.scene.specs.Limits.{within}
 use Rattle.judge.specs.Judge.{andThen}
 use Rattle.judge.specs.declared.Judged.{Judged}
 use Rattle.judge.specs.declared.Judged.the-variants.{Accepted, Refused}
-use Rattle.questions.specs.Answers.{answered, yesNo, otherSolid}
+use Rattle.questions.specs.Answers.{orRefuse, yesNo, otherSolid}
 use Rattle.questions.specs.declared.Answer.the-variants.{Yes, No}
 
 -- of o, what the question's faults are
 module _ {X : Type 0} (refuse : Refusal → X) (x : X) {o j : Judged} (e : o ≡ j) where
-  pub refused-so : {r : Refusal} → o ≡ Refused r → refuse r ≡ answered refuse j x
-  unfolding answered
-  refused-so q = ap (λ (k : Judged). answered refuse k x) (sym q ∙ e)
+  pub refused-so : {r : Refusal} → o ≡ Refused r → refuse r ≡ orRefuse refuse j x
+  unfolding orRefuse
+  refused-so q = ap (λ (k : Judged). orRefuse refuse k x) (sym q ∙ e)
 
-  pub answered-so : {y : X} → o ≡ Accepted → y ≡ x → y ≡ answered refuse j x
-  unfolding answered
-  answered-so q p = p ∙ ap (λ (k : Judged). answered refuse k x) (sym q ∙ e)
+  pub answered-so : {y : X} → o ≡ Accepted → y ≡ x → y ≡ orRefuse refuse j x
+  unfolding orRefuse
+  answered-so q p = p ∙ ap (λ (k : Judged). orRefuse refuse k x) (sym q ∙ e)
 
 -- the judge accepts, and the question's own faults decide
 module _ {X : Type 0} (refuse : Refusal → X) (x : X) {j k : Judged} where
   pub own-refused : {o p : Judged} {r : Refusal} → o ≡ j → o ≡ Accepted → p ≡ k → p ≡ Refused r →
-      refuse r ≡ answered refuse j (answered refuse k x)
-  own-refused e q f h = answered-so refuse (answered refuse k x) e q (refused-so refuse x f h)
+      refuse r ≡ orRefuse refuse j (orRefuse refuse k x)
+  own-refused e q f h = answered-so refuse (orRefuse refuse k x) e q (refused-so refuse x f h)
 
-  pub both-accept : {y : X} → j ≡ Accepted → k ≡ Accepted → y ≡ x → y ≡ answered refuse j (answered refuse k x)
-  both-accept e f p = answered-so refuse (answered refuse k x) refl e (answered-so refuse x refl f p)
+  pub both-accept : {y : X} → j ≡ Accepted → k ≡ Accepted → y ≡ x → y ≡ orRefuse refuse j (orRefuse refuse k x)
+  both-accept e f p = answered-so refuse (orRefuse refuse k x) refl e (answered-so refuse x refl f p)
 
 -- yes or no, of t, what the scene says
 module _ {t b : Bool} (p : t ≡ b) where
@@ -48,8 +48,8 @@ accepted-so e q = sym e ∙ q
 
 -- one answer after another: the judge's refusal, else the question's own
 pub answered-then : {X : Type 0} (refuse : Refusal → X) (j k : Judged) (x : X) →
-    answered refuse j (answered refuse k x) ≡ answered refuse (andThen j k) x
-unfolding answered andThen
+    orRefuse refuse j (orRefuse refuse k x) ≡ orRefuse refuse (andThen j k) x
+unfolding orRefuse andThen
 answered-then refuse Accepted k x = refl
 answered-then refuse (Refused r) k x = refl
 

@@ -6,8 +6,8 @@ use lib.ListN.{length}
 use borrow.Author.Tests.{eq-eqb, ne-eqb, lt-ltb, le-ltb, le-leb, lt-leb, eqb-true, leb-true}
 use Rattle.scene.specs.Records.{verts, lastRecord, lengthOf, pointStart, faceStart, endStart}
 use Rattle.scene.specs.declared.Refusal.{Refusal}
-use Rattle.scene.specs.declared.Refusal.the-variants.{Lacking}
-use Rattle.judge.specs.Judge.{rule, judged, judgedAt, headerFault}
+use Rattle.scene.specs.declared.Refusal.the-variants.{NoSuchNumber}
+use Rattle.judge.specs.Judge.{refuseUnless, judged, judgedAt, headerFault}
 use Rattle.judge.specs.Laws.{rule-ok, rule-rest, then-first, then-rest, then-accepted, then-refused}
 use Rattle.judge.specs.declared.Judged.{Judged}
 use Rattle.judge.specs.declared.Judged.the-variants.{Accepted, Refused}
@@ -51,12 +51,12 @@ module _ (s : List ℕ) (k : ℕ) {o : Judged} (j : o ≡ refusal s k) where
 
 -- of o, what the judge answered: it refuses, the scene lacks the record, or it has it
 module _ (s : List ℕ) (k : ℕ) {o : Judged} (j : o ≡ judged s) where
-  pub lacking : o ≡ Accepted → lastRecord s < k → Refused Lacking ≡ refusal s k
-  unfolding refusal rule
+  pub lacking : o ≡ Accepted → lastRecord s < k → Refused NoSuchNumber ≡ refusal s k
+  unfolding refusal refuseUnless
   lacking q h = then-accepted j q (simp (lt-leb k (lastRecord s) h))
 
   pub had : o ≡ Accepted → k ≤ lastRecord s → Accepted ≡ refusal s k
-  unfolding refusal rule
+  unfolding refusal refuseUnless
   had q h = then-accepted j q (simp (le-leb k (lastRecord s) h))
 
   pub not-judged : {r : Refusal} → o ≡ Refused r → Refused r ≡ refusal s k

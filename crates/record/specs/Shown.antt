@@ -5,8 +5,8 @@ use mathlib.Core.Bool.{cond}
 use lib.ListN.{take, drop}
 use lib.Dec.{ltb, leb, eqb}
 use Rattle.scene.specs.Records.{verts, lastRecord, pointStart, faceStart, endStart}
-use Rattle.scene.specs.declared.Refusal.the-variants.{Lacking}
-use Rattle.judge.specs.Judge.{rule, andThen, judged}
+use Rattle.scene.specs.declared.Refusal.the-variants.{NoSuchNumber}
+use Rattle.judge.specs.Judge.{refuseUnless, andThen, judged}
 use Rattle.judge.specs.declared.Judged.{Judged}
 use Rattle.judge.specs.declared.Judged.the-variants.{Accepted, Refused}
 
@@ -23,7 +23,7 @@ partAt s k =
 
 -- the scene's own refusal, then 11 for a record that it lacks; none is said as accepted
 unfoldable pub refusal : List ℕ → ℕ → Judged
-refusal s k = andThen (judged s) (rule (leb k (lastRecord s)) Lacking Accepted)
+refusal s k = andThen (judged s) (refuseUnless (leb k (lastRecord s)) NoSuchNumber Accepted)
 
 unfoldable pub ifAccepted : Judged → List ℕ → List ℕ
 ifAccepted Accepted l = l

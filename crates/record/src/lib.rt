@@ -16,7 +16,7 @@ pub fn record_refusal(s: &[u8], k: usize) -> Judged
         return Judged::Refused(r);
     }
     if k > offsets::last_record(s) {
-        return Judged::Refused(Refusal::Lacking);
+        return Judged::Refused(Refusal::NoSuchNumber);
     }
     Judged::Accepted
 }

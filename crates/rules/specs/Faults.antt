@@ -8,20 +8,20 @@ use native.Mathlib.Omega.{arith}
 use Rattle.scene.specs.Limits.{Limits}
 use Rattle.scene.specs.Records.{verts, faceRecord, lastRecord}
 use Rattle.scene.specs.declared.Refusal.{Refusal}
-use Rattle.scene.specs.declared.Refusal.the-variants.{Mark, Coordinate, Weight, Nowhere, Corner, Unused, Edge}
-use Rattle.judge.specs.Judge.{rule, recordFault, unusedFault, edgeFault}
+use Rattle.scene.specs.declared.Refusal.the-variants.{Mark, Coordinate, Weight, FarAllZero, Corner, Unused, Edge}
+use Rattle.judge.specs.Judge.{refuseUnless, recordFault, unusedFault, edgeFault}
 use Rattle.judge.specs.declared.Judged.{Judged}
 use Rattle.judge.specs.declared.Judged.the-variants.{Accepted, Refused}
 use Rattle.rules.specs.Rules.{MarkOk, CoordinatesOk, WeightOk, SomewhereOk, CornersOk, Used, SidesOk}
 use Rattle.rules.specs.Records.{Tested, tested}
 use Rattle.rules.specs.Edges.{used-iff, closed-iff}
-use Rattle.rules.specs.Numbers.{turnOf, Gives, gives, gives-none, rule-next, rule-at}
+use Rattle.rules.specs.Numbers.{checkOrder, Gives, gives, gives-none, rule-next, rule-at}
 
 -- ---- one record
 
 -- a test that passes, before what is at fault at a place (X)
-passed : {P Q X : Type 0} {b : Bool} → (b ≡ true) ↔ P → (r : Refusal) {q : Refusal} (k : Judged) → turnOf r < turnOf q →
-    (k ≡ Refused q) ↔ (X × Q) → (rule b r k ≡ Refused q) ↔ (X × (P × Q))
+passed : {P Q X : Type 0} {b : Bool} → (b ≡ true) ↔ P → (r : Refusal) {q : Refusal} (k : Judged) → checkOrder r < checkOrder q →
+    (k ≡ Refused q) ↔ (X × Q) → (refuseUnless b r k ≡ Refused q) ↔ (X × (P × Q))
 passed e r k l f = Iff·trans (rule-next e r k l f) (λ h. (h .1 .0, (h .0, h .1 .1)), λ h. (h .1 .0, (h .0, h .1 .1)))
 
 module _ (l : Limits) (s : List ℕ) (k : ℕ) (from : 1 ≤ k) (to : k ≤ lastRecord s) where
@@ -46,20 +46,20 @@ module _ (l : Limits) (s : List ℕ) (k : ℕ) (from : 1 ≤ k) (to : k ≤ last
         (passed (t .mark-iff) (Mark k) _ (omega arith) (passed (t .coordinates-iff) (Coordinate k) _ (omega arith)
         (rule-at (t .weight-iff) Weight (λ i. refl) k p _ 8 (search gives depth 8))))
 
-    pub record-nowhere : (recordFault l s k ≡ Refused (Nowhere p)) ↔
+    pub record-nowhere : (recordFault l s k ≡ Refused (FarAllZero p)) ↔
         ((k ≡ p) × (MarkOk s k × (CoordinatesOk l s k × (WeightOk l s k × ¬ SomewhereOk s k))))
     record-nowhere =
         rw (t .fault)
         (passed (t .mark-iff) (Mark k) _ (omega arith) (passed (t .coordinates-iff) (Coordinate k) _ (omega arith)
         (passed (t .weight-iff) (Weight k) _ (omega arith)
-        (rule-at (t .somewhere-iff) Nowhere (λ i. refl) k p _ 8 (search gives depth 8)))))
+        (rule-at (t .somewhere-iff) FarAllZero (λ i. refl) k p _ 8 (search gives depth 8)))))
 
     pub record-corner : (recordFault l s k ≡ Refused (Corner p)) ↔
         ((k ≡ p) × (MarkOk s k × (CoordinatesOk l s k × (WeightOk l s k × (SomewhereOk s k × ¬ CornersOk s k)))))
     record-corner =
         rw (t .fault)
         (passed (t .mark-iff) (Mark k) _ (omega arith) (passed (t .coordinates-iff) (Coordinate k) _ (omega arith)
-        (passed (t .weight-iff) (Weight k) _ (omega arith) (passed (t .somewhere-iff) (Nowhere k) _ (omega arith)
+        (passed (t .weight-iff) (Weight k) _ (omega arith) (passed (t .somewhere-iff) (FarAllZero k) _ (omega arith)
         (rule-at (t .corners-iff) Corner (λ i. refl) k p Accepted 9 (gives-none 9 9))))))
 
 -- ---- one vertex, one face

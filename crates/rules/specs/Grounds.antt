@@ -7,7 +7,7 @@ use Rattle.scene.specs.Limits.{Limits}
 use Rattle.scene.specs.Records.{verts, faces, faceRecord, lastRecord}
 use Rattle.scene.specs.declared.Refusal.{Refusal}
 use Rattle.scene.specs.declared.Refusal.the-variants.{Opening, Counts, Length, Mark, Coordinate, Weight, Corner}
-use Rattle.scene.specs.declared.Refusal.the-variants.{Unused, Edge, Room, Lacking, Same, Buffer, Nowhere}
+use Rattle.scene.specs.declared.Refusal.the-variants.{Unused, Edge, ListTooShort, NoSuchNumber, NotDistinct, BufferTooShort, FarAllZero}
 use Rattle.rules.specs.Rules.{Opens, CountsOk, LengthOk, HeaderOk, MarkOk, CoordinatesOk, WeightOk, SomewhereOk}
 use Rattle.rules.specs.Rules.{CornersOk, RecordOk, RecordsOk, Used, AllUsed, SidesOk}
 
@@ -42,11 +42,11 @@ Grounds l s Length = Opens s × (CountsOk l s × ¬ LengthOk s)
 Grounds l s (Mark k) = AtRecord l s k × ¬ MarkOk s k
 Grounds l s (Coordinate k) = AtRecord l s k × (MarkOk s k × ¬ CoordinatesOk l s k)
 Grounds l s (Weight k) = AtRecord l s k × (MarkOk s k × (CoordinatesOk l s k × ¬ WeightOk l s k))
-Grounds l s (Nowhere k) = AtRecord l s k × (MarkOk s k × (CoordinatesOk l s k × (WeightOk l s k × ¬ SomewhereOk s k)))
+Grounds l s (FarAllZero k) = AtRecord l s k × (MarkOk s k × (CoordinatesOk l s k × (WeightOk l s k × ¬ SomewhereOk s k)))
 Grounds l s (Corner k) = AtRecord l s k × (MarkOk s k × (CoordinatesOk l s k × (WeightOk l s k × (SomewhereOk s k × ¬ CornersOk s k))))
 Grounds l s (Unused p) = AtVertex l s p × ¬ Used s p
 Grounds l s (Edge k) = (i : ℕ) × (k ≡ faceRecord s i) × AtFace l s i × ¬ SidesOk s i
-Grounds l s (Room p) = ⊥
-Grounds l s Lacking = ⊥
-Grounds l s Same = ⊥
-Grounds l s (Buffer p) = ⊥
+Grounds l s (ListTooShort p) = ⊥
+Grounds l s NoSuchNumber = ⊥
+Grounds l s NotDistinct = ⊥
+Grounds l s (BufferTooShort p) = ⊥

@@ -11,7 +11,7 @@ use Rattle.judge.specs.Judge.{andThen, judgedAt, headerFault, recordFault, reco
 use Rattle.judge.specs.declared.Judged.the-variants.{Refused}
 use Rattle.judge.specs.Tests.{First, first-refused}
 use Rattle.rules.specs.Rules.{HeaderOk, RecordsOk, AllUsed}
-use Rattle.rules.specs.Numbers.{turnOf, Gives, gives, gives-then, gives-first, gives-wider, then-here, then-next}
+use Rattle.rules.specs.Numbers.{checkOrder, Gives, gives, gives-then, gives-first, gives-wider, then-here, then-next}
 use Rattle.rules.specs.Faults.{record-gives}
 use Rattle.rules.specs.Accepted.{header-iff, records-iff, unused-iff}
 
@@ -50,25 +50,28 @@ module _ (l : Limits) (s : List ℕ) where
       (gives-wider 1 10 (omega arith) (omega arith) after-header)
 
   module _ (r : Refusal) where
-    pub by-header : turnOf r ≤ 3 → (judgedAt l s ≡ Refused r) ↔ (headerFault l s ≡ Refused r)
+    pub by-header : checkOrder r ≤ 3 → (judgedAt l s ≡ Refused r) ↔ (headerFault l s ≡ Refused r)
     unfolding judgedAt
-    by-header h = then-here _ _ r 10 (gives-wider (suc (turnOf r)) 10 (omega arith) (omega arith) after-header)
+    by-header h = then-here _ _ r 10 (gives-wider (suc (checkOrder r)) 10 (omega arith) (omega arith) after-header)
 
-    pub by-records : 4 ≤ turnOf r → turnOf r ≤ 8 →
+    pub by-records : 4 ≤ checkOrder r → checkOrder r ≤ 8 →
         (judgedAt l s ≡ Refused r) ↔ (HeaderOk l s × First (recordFault l s) 1 (lastRecord s + 1) r)
     unfolding judgedAt recordsFault
     by-records a b =
         then-next _ _ r 1 3 header-gives (omega arith) (header-iff l s)
-        (Iff·trans (then-here _ _ r 10 (gives-wider (suc (turnOf r)) 10 (omega arith) (omega arith) after-records)) (first-refused _ r _ _))
+        (Iff·trans (then-here _ _ r 10 (gives-wider (suc (checkOrder r)) 10 (omega arith) (omega arith) after-records))
+            (first-refused _ r _ _))
 
-    pub by-unused : turnOf r ≡ 9 → (judgedAt l s ≡ Refused r) ↔ (HeaderOk l s × (RecordsOk l s × First (unusedFault s) 1 (verts s + 1) r))
+    pub by-unused : checkOrder r ≡ 9 → (judgedAt l s ≡ Refused r) ↔
+        (HeaderOk l s × (RecordsOk l s × First (unusedFault s) 1 (verts s + 1) r))
     unfolding judgedAt unusedsFault
     by-unused h =
         then-next _ _ r 1 3 header-gives (omega arith) (header-iff l s)
         (then-next _ _ r 4 8 records-give (omega arith) (records-iff l s)
-        (Iff·trans (then-here _ _ r 10 (gives-wider (suc (turnOf r)) 10 (omega arith) (omega arith) edges-give)) (first-refused _ r _ _)))
+        (Iff·trans (then-here _ _ r 10 (gives-wider (suc (checkOrder r)) 10 (omega arith) (omega arith) edges-give))
+            (first-refused _ r _ _)))
 
-    pub by-edges : turnOf r ≡ 10 →
+    pub by-edges : checkOrder r ≡ 10 →
         (judgedAt l s ≡ Refused r) ↔ (HeaderOk l s × (RecordsOk l s × (AllUsed s × First (edgeFault s) 0 (faces s) r)))
     unfolding judgedAt edgesFault
     by-edges h =

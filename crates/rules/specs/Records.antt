@@ -18,8 +18,8 @@ use Rattle.scene.specs.Records.{markFC, markEN}
 use Rattle.scene.specs.Tables.{rowAt, faceAt}
 use Rattle.scene.specs.Faces.{FaceOf}
 use Rattle.scene.specs.declared.Refusal.{Refusal}
-use Rattle.scene.specs.declared.Refusal.the-variants.{Mark, Coordinate, Weight, Nowhere, Corner}
-use Rattle.judge.specs.Judge.{rule, coordinateOk, weightOk, nowhere, somewhereOk, pointMark, pointFault}
+use Rattle.scene.specs.declared.Refusal.the-variants.{Mark, Coordinate, Weight, FarAllZero, Corner}
+use Rattle.judge.specs.Judge.{refuseUnless, coordinateOk, weightOk, nowhere, somewhereOk, pointMark, pointFault}
 use Rattle.judge.specs.Judge.{areCorners, vertsAt, cornersOk, faceFault, endFault, recordFault}
 use Rattle.judge.specs.Cases.{vertex-mark, verts-of-a, verts-of-b, record-point, record-face, record-end}
 use Rattle.judge.specs.declared.Judged.{Judged}
@@ -30,8 +30,9 @@ use Rattle.judge.specs.Tests.{accepts, within-iff}
 -- the rules of record k in the order of checking, by their tests
 abbrev pub inOrder : (k : ℕ) (mark coordinates weight somewhere corners : Bool) → Judged
 inOrder k mark coordinates weight somewhere corners =
-    rule mark (Mark k)
-    (rule coordinates (Coordinate k) (rule weight (Weight k) (rule somewhere (Nowhere k) (rule corners (Corner k) Accepted))))
+    refuseUnless mark (Mark k)
+    (refuseUnless coordinates (Coordinate k)
+        (refuseUnless weight (Weight k) (refuseUnless somewhere (FarAllZero k) (refuseUnless corners (Corner k) Accepted))))
 
 pub record Tested (l : Limits) (s : List ℕ) (k : ℕ) : Type 0 where
   pub mark : Bool
@@ -51,8 +52,9 @@ size-zero (pos n) e = ap pos e
 size-zero (negsuc n) e = absurd (omega arith)
 
 -- three tests with one refusal
-together : (a b c : Bool) (r : Refusal) (k : Judged) → rule a r (rule b r (rule c r k)) ≡ rule (a && (b && c)) r k
-unfolding rule
+together : (a b c : Bool) (r : Refusal) (k : Judged) → refuseUnless a r (refuseUnless b r (refuseUnless c r k)) ≡ refuseUnless
+    (a && (b && c)) r k
+unfolding refuseUnless
 together true true c r k = refl
 together true false c r k = refl
 together false b c r k = refl
@@ -77,12 +79,12 @@ module _ (l : Limits) (s : List ℕ) where
   point-order : (j : ℕ) →
       pointFault l s j
       ≡ inOrder (j + 1) (eqb (twoAt s (pointStart j)) (pointMark j)) (coordinates (pointStart j)) (weightOk l s j) (somewhereOk s j) true
-  unfolding pointFault rule
+  unfolding pointFault refuseUnless
   point-order j =
       let at : ℕ = pointStart j in
-      ap (rule (eqb (twoAt s at) (pointMark j)) (Mark (j + 1)))
+      ap (refuseUnless (eqb (twoAt s at) (pointMark j)) (Mark (j + 1)))
       (together (coordinateOk l s (at + 2)) (coordinateOk l s (at + 4)) (coordinateOk l s (at + 6)) (Coordinate (j + 1))
-      (rule (weightOk l s j) (Weight (j + 1)) (rule (somewhereOk s j) (Nowhere (j + 1)) Accepted)))
+      (refuseUnless (weightOk l s j) (Weight (j + 1)) (refuseUnless (somewhereOk s j) (FarAllZero (j + 1)) Accepted)))
 
   -- what holds of the file's point j, said of its record
   of-point : (X : ℕ → Type 0) (j : ℕ) → j ≤ verts s → X j ↔ ((i : ℕ) → i ≤ verts s → j + 1 ≡ i + 1 → X i)
@@ -155,7 +157,7 @@ module _ (l : Limits) (s : List ℕ) where
       )
 
   face-order : (i : ℕ) → faceFault s i ≡ inOrder (faceRecord s i) (eqb (twoAt s (faceStart s i)) markFC) true true true (cornersOk s i)
-  unfolding faceFault rule
+  unfolding faceFault refuseUnless
   face-order i = refl
 
   face-mark : (i : ℕ) → i < faces s → twoAt s (faceStart s i) ≡ markFC → MarkOk s (faceRecord s i)
@@ -206,7 +208,7 @@ module _ (l : Limits) (s : List ℕ) where
   -- ---- the last record
 
   end-order : endFault s ≡ inOrder (lastRecord s) (eqb (twoAt s (endStart s)) markEN) true true true true
-  unfolding endFault rule
+  unfolding endFault refuseUnless
   end-order = refl
 
   end-mark : twoAt s (endStart s) ≡ markEN → MarkOk s (lastRecord s)

@@ -9,13 +9,13 @@ use Rattle.scene.specs.Limits.{Limits}
 use Rattle.scene.specs.Records.{verts, lastRecord}
 use Rattle.scene.specs.declared.Refusal.{Refusal}
 use Rattle.scene.specs.declared.Refusal.the-variants.{Opening, Counts, Length, Mark, Coordinate, Weight, Corner}
-use Rattle.scene.specs.declared.Refusal.the-variants.{Unused, Edge, Room, Lacking, Same, Buffer, Nowhere}
+use Rattle.scene.specs.declared.Refusal.the-variants.{Unused, Edge, ListTooShort, NoSuchNumber, NotDistinct, BufferTooShort, FarAllZero}
 use Rattle.judge.specs.Judge.{judgedAt, headerFault, recordFault, unusedFault, edgeFault}
 use Rattle.judge.specs.declared.Judged.the-variants.{Accepted, Refused}
 use Rattle.rules.specs.Rules.{Between, MarkOk, CoordinatesOk, WeightOk, SomewhereOk, CornersOk, Used, SidesOk}
 use Rattle.rules.specs.Grounds.{AtRecord, AtVertex, Grounds}
 use Rattle.rules.specs.Accepted.{opens-iff, counts-iff, record-iff, vertex-iff, face-iff}
-use Rattle.rules.specs.Numbers.{turnOf, gives, gives-none, rule-alone, rule-next}
+use Rattle.rules.specs.Numbers.{checkOrder, gives, gives-none, rule-alone, rule-next}
 use Rattle.rules.specs.Faults.{record-mark, record-coordinate, record-weight, record-nowhere, record-corner, unused-here, edge-here}
 use Rattle.rules.specs.Parts.{judge-gives, by-header, by-records, by-unused, by-edges}
 
@@ -41,7 +41,7 @@ module _ (l : Limits) (s : List ℕ) where
 
   -- ---- refusals 4 to 7 and 14
 
-  at-record : (K : ℕ → Refusal) (X : ℕ → Type 0) → ((p : ℕ) → Between 4 8 (turnOf (K p))) →
+  at-record : (K : ℕ → Refusal) (X : ℕ → Type 0) → ((p : ℕ) → Between 4 8 (checkOrder (K p))) →
       ((k : ℕ) → 1 ≤ k → k ≤ lastRecord s → (p : ℕ) → (recordFault l s k ≡ Refused (K p)) ↔ ((k ≡ p) × X k)) →
       (p : ℕ) → (judgedAt l s ≡ Refused (K p)) ↔ (AtRecord l s p × X p)
   at-record K X numbers here p =
@@ -108,7 +108,7 @@ module _ (l : Limits) (s : List ℕ) where
 
   -- ---- the table
 
-  never-given : (r : Refusal) → 10 < turnOf r → (judgedAt l s ≡ Refused r) ↔ ⊥
+  never-given : (r : Refusal) → 10 < checkOrder r → (judgedAt l s ≡ Refused r) ↔ ⊥
   never-given r h = (λ e. let g = judge-gives l s .turn r e in omega arith, absurd)
 
   pub refused : (r : Refusal) → (judgedAt l s ≡ Refused r) ↔ Grounds l s r
@@ -119,15 +119,15 @@ module _ (l : Limits) (s : List ℕ) where
   refused (Coordinate k) = at-record Coordinate (λ k. MarkOk s k × ¬ CoordinatesOk l s k) (λ p. omega arith) (record-coordinate l s) k
   refused (Weight k) =
       at-record Weight (λ k. MarkOk s k × (CoordinatesOk l s k × ¬ WeightOk l s k)) (λ p. omega arith) (record-weight l s) k
-  refused (Nowhere k) =
-      at-record Nowhere (λ k. MarkOk s k × (CoordinatesOk l s k × (WeightOk l s k × ¬ SomewhereOk s k))) (λ p. omega arith)
+  refused (FarAllZero k) =
+      at-record FarAllZero (λ k. MarkOk s k × (CoordinatesOk l s k × (WeightOk l s k × ¬ SomewhereOk s k))) (λ p. omega arith)
       (record-nowhere l s) k
   refused (Corner k) =
       at-record Corner (λ k. MarkOk s k × (CoordinatesOk l s k × (WeightOk l s k × (SomewhereOk s k × ¬ CornersOk s k)))) (λ p. omega arith)
       (record-corner l s) k
   refused (Unused p) = refused-8 p
   refused (Edge k) = refused-9 k
-  refused (Room p) = never-given (Room p) (omega arith)
-  refused Lacking = never-given Lacking (omega arith)
-  refused Same = never-given Same (omega arith)
-  refused (Buffer p) = never-given (Buffer p) (omega arith)
+  refused (ListTooShort p) = never-given (ListTooShort p) (omega arith)
+  refused NoSuchNumber = never-given NoSuchNumber (omega arith)
+  refused NotDistinct = never-given NotDistinct (omega arith)
+  refused (BufferTooShort p) = never-given (BufferTooShort p) (omega arith)

@@ -2,7 +2,8 @@
 use Prim.Native.Nat.{ℕ}
 use Rattle.scene.specs.declared.Refusal.{Refusal}
 use Rattle.scene.specs.declared.Refusal.the-variants.{Opening, Counts, Length, Mark, Coordinate, Weight, Corner}
-use Rattle.scene.specs.declared.Refusal.the-variants.{Unused, Edge, Room, Lacking, Same, Buffer, Nowhere}
+use Rattle.scene.specs.declared.Refusal.the-variants.{Unused, Edge, ListTooShort, NoSuchNumber, NotDistinct, BufferTooShort}
+use Rattle.scene.specs.declared.Refusal.the-variants.{FarAllZero}
 
 abbrev pub numberOf : Refusal → ℕ
 numberOf Opening = 1
@@ -14,11 +15,11 @@ numberOf (Weight p) = 6
 numberOf (Corner p) = 7
 numberOf (Unused p) = 8
 numberOf (Edge p) = 9
-numberOf (Room p) = 10
-numberOf Lacking = 11
-numberOf Same = 12
-numberOf (Buffer p) = 13
-numberOf (Nowhere p) = 14
+numberOf (ListTooShort p) = 10
+numberOf NoSuchNumber = 11
+numberOf NotDistinct = 12
+numberOf (BufferTooShort p) = 13
+numberOf (FarAllZero p) = 14
 
 abbrev pub placeOf : Refusal → ℕ
 placeOf Opening = 0
@@ -30,8 +31,8 @@ placeOf (Weight p) = p
 placeOf (Corner p) = p
 placeOf (Unused p) = p
 placeOf (Edge p) = p
-placeOf (Room p) = p
-placeOf Lacking = 0
-placeOf Same = 0
-placeOf (Buffer p) = p
-placeOf (Nowhere p) = p
+placeOf (ListTooShort p) = p
+placeOf NoSuchNumber = 0
+placeOf NotDistinct = 0
+placeOf (BufferTooShort p) = p
+placeOf (FarAllZero p) = p

@@ -46,10 +46,10 @@ viewOf s =
 -- ---- its two solids: 1 is A, whose vertices are the points from 1 on and whose faces come first; else it is B, which comes behind
 
 abbrev pub solidA : View → Solid
-solidA v = record { low = 0; verts = v .vertsA; first = 0; count = v .facesA; other = v .facesA; others = v .facesB }
+solidA v = record { vert0 = 0; verts = v .vertsA; face0 = 0; faces = v .facesA; other0 = v .facesA; others = v .facesB }
 
 abbrev pub solidB : View → Solid
-solidB v = record { low = v .vertsA; verts = v .vertsB; first = v .facesA; count = v .facesB; other = 0; others = v .facesA }
+solidB v = record { vert0 = v .vertsA; verts = v .vertsB; face0 = v .facesA; faces = v .facesB; other0 = 0; others = v .facesA }
 
 unfoldable pub solid : View → ℕ → Solid
 solid v k = cond (eqb k 1) (solidA v) (solidB v)

@@ -62,11 +62,11 @@ pub enum Refusal {
     Corner(usize),
     Unused(usize),
     Edge(usize),
-    Room(usize),
-    Lacking,
-    Same,
-    Buffer(usize),
-    Nowhere(usize),
+    ListTooShort(usize),
+    NoSuchNumber,
+    NotDistinct,
+    BufferTooShort(usize),
+    FarAllZero(usize),
 }
 
 pub fn number(r: Refusal) -> usize
@@ -82,11 +82,11 @@ pub fn number(r: Refusal) -> usize
         Refusal::Corner(_) => 7,
         Refusal::Unused(_) => 8,
         Refusal::Edge(_) => 9,
-        Refusal::Room(_) => 10,
-        Refusal::Lacking => 11,
-        Refusal::Same => 12,
-        Refusal::Buffer(_) => 13,
-        Refusal::Nowhere(_) => 14,
+        Refusal::ListTooShort(_) => 10,
+        Refusal::NoSuchNumber => 11,
+        Refusal::NotDistinct => 12,
+        Refusal::BufferTooShort(_) => 13,
+        Refusal::FarAllZero(_) => 14,
     }
 }
 
@@ -103,11 +103,11 @@ pub fn place(r: Refusal) -> usize
         Refusal::Corner(p) => p,
         Refusal::Unused(p) => p,
         Refusal::Edge(p) => p,
-        Refusal::Room(p) => p,
-        Refusal::Lacking => 0,
-        Refusal::Same => 0,
-        Refusal::Buffer(p) => p,
-        Refusal::Nowhere(p) => p,
+        Refusal::ListTooShort(p) => p,
+        Refusal::NoSuchNumber => 0,
+        Refusal::NotDistinct => 0,
+        Refusal::BufferTooShort(p) => p,
+        Refusal::FarAllZero(p) => p,
     }
 }
 
@@ -126,14 +126,14 @@ pub struct Face {
     pub r: usize,
 }
 
-// A solid: its vertices are the points above low, `verts` of them; its faces are those above first, `count` of them; and the other solid's
-// are those above other, `others` of them.
+// A solid: its vertices are the `verts` points behind point vert0, its faces the `faces` faces behind face face0, and the other solid's faces
+// the `others` faces behind face other0.
 pub struct Solid {
-    pub low: usize,
+    pub vert0: usize,
     pub verts: usize,
-    pub first: usize,
-    pub count: usize,
-    pub other: usize,
+    pub face0: usize,
+    pub faces: usize,
+    pub other0: usize,
     pub others: usize,
 }
 

@@ -67,25 +67,25 @@ pub fn counts(s: &[u8]) -> Scene
 // Solid k, 1 for A and else B.
 pub fn solid(s: &[u8], k: usize) -> Solid
     ensures is { λ r. ⌜ r ≡ solid (viewOf (now (s .entry))) k ⌝ }
-    ensures small { λ r. ⌜ (r .low < 256) × (r .verts < 256) × (r .first < 256) × (r .count < 256) ⌝ }
+    ensures small { λ r. ⌜ (r .vert0 < 256) × (r .verts < 256) × (r .face0 < 256) × (r .faces < 256) ⌝ }
 {
     let c = counts(s);
     if k == 1 {
         return Solid {
-            low: 0,
+            vert0: 0,
             verts: c.vertices_a,
-            first: 0,
-            count: c.faces_a,
-            other: c.faces_a,
+            face0: 0,
+            faces: c.faces_a,
+            other0: c.faces_a,
             others: c.faces_b,
         };
     }
     Solid {
-        low: c.vertices_a,
+        vert0: c.vertices_a,
         verts: c.vertices_b,
-        first: c.faces_a,
-        count: c.faces_b,
-        other: 0,
+        face0: c.faces_a,
+        faces: c.faces_b,
+        other0: 0,
         others: c.faces_a,
     }
 }

@@ -16,11 +16,12 @@ use Rattle.scene.specs.declared.Row.{Row}
 use Rattle.scene.specs.declared.Face.{Face}
 use Rattle.scene.specs.declared.Refusal.{Refusal}
 use Rattle.scene.specs.declared.Refusal.the-variants.{Opening}
-use Rattle.judge.specs.Judge.{rule}
+use Rattle.judge.specs.Judge.{refuseUnless}
 use Rattle.judge.specs.declared.Judged.{Judged}
 use Rattle.judge.specs.declared.Judged.the-variants.{Accepted, Refused}
-use Rattle.session.specs.Session.{scene, fresh, isWhole, vertexFault, farFault, turnFault, changedBy, movedOf, farMovedOf, turned}
-use Rattle.session.specs.Session.{turnedIn, reversedOf}
+use Rattle.session.specs.Session.{scene, fresh, isWhole, vertexFault, farFault, turnFault, changedBy, movedOf, farMovedOf}
+use Rattle.session.specs.Session.{reversedFace}
+use Rattle.session.specs.Session.{reversedIn, reversedOf}
 use Rattle.session.specs.Laws.{row-fits, vertex-free, far-free}
 use Rattle.session.specs.Kept.{Empty, Holds, row-in, corners-in, vertex-room, far-room, face-room}
 use Rattle.session.specs.declared.Session.{Session}
@@ -35,7 +36,7 @@ pub record RowChanged (s : List ℕ) (j : ℕ) (v : Row) (t : List ℕ) : Type 0
 -- t is s with the first and third corners of the file's face i swapped
 pub record FaceTurned (s : List ℕ) (i : ℕ) (t : List ℕ) : Type 0 where
   pub long : length t ≡ length s
-  pub face : faceAt t i ≡ turned (faceAt s i)
+  pub face : faceAt t i ≡ reversedFace (faceAt s i)
   pub below : (k : ℕ) → k < faceStart s i + 2 → byteAt t k ≡ byteAt s k
   pub above : (k : ℕ) → faceStart s i + 5 ≤ k → byteAt t k ≡ byteAt s k
 
@@ -68,9 +69,9 @@ module _ (s : Session) where
   face-turned f q =
       let i : ℕ = f - 1 in
       let k : ℕ = faceStart (scene s) i in
-      let g : Face = turned (faceAt (scene s) i) in
+      let g : Face = reversedFace (faceAt (scene s) i) in
       let room = face-room s f q in
-      rw (changed-scene _ (turnedIn (s .bytes) (scene s) i) q ∙ corners-in s k g room)
+      rw (changed-scene _ (reversedIn (s .bytes) (scene s) i) q ∙ corners-in s k g room)
       (record {
         long = corners-length (scene s) k g;
         face = corners-back (scene s) i g room;
@@ -91,7 +92,7 @@ module _ (s : Session) where
 
   pub turn-refused : (f : ℕ) {r : Refusal} → turnFault (scene s) f ≡ Refused r → reversedOf s f ≡ record { answer = Refused r; session = s }
   unfolding reversedOf
-  turn-refused f q = ap (λ (j : Judged). changedBy j s (turnedIn (s .bytes) (scene s) (f - 1))) q
+  turn-refused f q = ap (λ (j : Judged). changedBy j s (reversedIn (s .bytes) (scene s) (f - 1))) q
 
   module _ (h : Holds s) (e : Empty s) where
     not-whole : isWhole (scene s) ≡ false
@@ -99,13 +100,13 @@ module _ (s : Session) where
     not-whole = ne-eqb (length (scene s)) (lengthOf (scene s)) (λ q. omega (arith, q, h .sized, e .none))
 
     pub empty-move : (p : ℕ) (v : Row) → movedOf s p v ≡ record { answer = Refused Opening; session = s }
-    unfolding vertexFault rule
+    unfolding vertexFault refuseUnless
     empty-move p v = vertex-refused p v (rw not-whole)
 
     pub empty-far : (v : Row) → farMovedOf s v ≡ record { answer = Refused Opening; session = s }
-    unfolding farFault rule
+    unfolding farFault refuseUnless
     empty-far v = far-refused v (rw not-whole)
 
     pub empty-turn : (f : ℕ) → reversedOf s f ≡ record { answer = Refused Opening; session = s }
-    unfolding turnFault rule
+    unfolding turnFault refuseUnless
     empty-turn f = turn-refused f (rw not-whole)

@@ -17,10 +17,10 @@ use Rattle.scene.specs.declared.Face.{Face}
 use Rattle.judge.specs.Judge.{judged}
 use Rattle.judge.specs.declared.Judged.{Judged}
 use Rattle.judge.specs.declared.Judged.the-variants.{Accepted, Refused}
-use Rattle.questions.specs.Answers.{answered, countedOf}
+use Rattle.questions.specs.Answers.{orRefuse, countedOf}
 use Rattle.questions.specs.declared.Counted.the-variants as counted
 use Rattle.session.specs.Session.{scene, noCounts, countsBy, fresh, openedBy, opened, vertexFault, farFault}
-use Rattle.session.specs.Session.{turnFault, changedBy, movedOf, farMovedOf, turned, turnedIn, reversedOf}
+use Rattle.session.specs.Session.{turnFault, changedBy, movedOf, farMovedOf, reversedFace, reversedIn, reversedOf}
 use Rattle.session.specs.Laws.{row-fits, vertex-free, far-free, turn-free}
 use Rattle.session.specs.Moved.{vertex-accepted, far-accepted}
 use Rattle.session.specs.Turned.{turned-accepted}
@@ -62,7 +62,7 @@ after s (o ∷ os) = after (step s o .session) os
 -- ---- a fresh count of an accepted scene
 
 counted-so : (s : List ℕ) → judged s ≡ Accepted → countedOf s ≡ counted.Counts (countsBy (countedOf s))
-unfolding countedOf answered
+unfolding countedOf orRefuse
 counted-so s h = rw h
 
 fresh-holds : (b : List ℕ) (n : ℕ) {s : List ℕ} → take n b ≡ s → n ≡ length s → judged s ≡ Accepted → Holds (fresh b n)
@@ -154,8 +154,8 @@ module _ (s : Session) where
   reversed-holds f h =
       let i : ℕ = f - 1 in
       let k : ℕ = faceStart (scene s) i in
-      let g : Face = turned (faceAt (scene s) i) in
-      changed-holds (turnFault (scene s) f) (turnedIn (s .bytes) (scene s) i) h (λ q. corners-in k g (face-room f q))
+      let g : Face = reversedFace (faceAt (scene s) i) in
+      changed-holds (turnFault (scene s) f) (reversedIn (s .bytes) (scene s) i) h (λ q. corners-in k g (face-room f q))
       (λ q. sym (corners-length (scene s) k g)) (λ q. turned-accepted (scene s) i (face-room f q) (full h (turn-free (scene s) f q .whole)))
 
 pub step-holds : (s : Session) (o : Operation) → Holds s → Holds (step s o .session)

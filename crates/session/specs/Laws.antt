@@ -13,7 +13,7 @@ use Rattle.scene.specs.Records.{verts, faces, lengthOf}
 use Rattle.scene.specs.Write.{RowFits}
 use Rattle.scene.specs.declared.Row.{Row}
 use Rattle.scene.specs.declared.Refusal.{Refusal}
-use Rattle.judge.specs.Judge.{judged, rule}
+use Rattle.judge.specs.Judge.{judged, refuseUnless}
 use Rattle.judge.specs.Tests.{accepts}
 use Rattle.judge.specs.declared.Judged.{Judged}
 use Rattle.judge.specs.declared.Judged.the-variants.{Accepted, Refused}
@@ -116,13 +116,14 @@ module _ (s : List ℕ) {o : Judged} (e : o ≡ judged s) where
 
 -- ---- a test that holds refuses
 
-pub refused-where : {o b : Bool} (f : ℕ → Refusal) {p q : ℕ} → o ≡ b → o ≡ true → p ≡ q → Refused (f p) ≡ rule (not b) (f q) Accepted
-unfolding rule
-refused-where f {q = q} e t h = ap (λ (p : ℕ). Refused (f p)) h ∙ ap (λ (b : Bool). rule (not b) (f q) Accepted) (sym t ∙ e)
+pub refused-where : {o b : Bool} (f : ℕ → Refusal) {p q : ℕ} → o ≡ b → o ≡ true → p ≡ q → Refused (f p) ≡ refuseUnless (not b) (f q)
+    Accepted
+unfolding refuseUnless
+refused-where f {q = q} e t h = ap (λ (p : ℕ). Refused (f p)) h ∙ ap (λ (b : Bool). refuseUnless (not b) (f q) Accepted) (sym t ∙ e)
 
-pub passed-where : {o b : Bool} (r : Refusal) → o ≡ b → o ≡ false → Accepted ≡ rule (not b) r Accepted
-unfolding rule
-passed-where r e t = ap (λ (b : Bool). rule (not b) r Accepted) (sym t ∙ e)
+pub passed-where : {o b : Bool} (r : Refusal) → o ≡ b → o ≡ false → Accepted ≡ refuseUnless (not b) r Accepted
+unfolding refuseUnless
+passed-where r e t = ap (λ (b : Bool). refuseUnless (not b) r Accepted) (sym t ∙ e)
 
 -- ---- the longest scene
 

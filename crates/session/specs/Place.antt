@@ -12,7 +12,7 @@ use Rattle.judge.specs.Judge.{judged, andThen}
 use Rattle.judge.specs.Laws.{then-first, then-rest}
 use Rattle.judge.specs.declared.Judged.{Judged}
 use Rattle.judge.specs.declared.Judged.the-variants.{Accepted, Refused}
-use Rattle.session.specs.Session.{vertexFault, farFault, turnFault, turnedIn}
+use Rattle.session.specs.Session.{vertexFault, farFault, turnFault, reversedIn}
 use Rattle.session.specs.Laws.{row-fits, vertex-free, far-free, turn-free, accepted-short}
 use Rattle.session.specs.Moved.{vertex-accepted, far-accepted}
 use Rattle.session.specs.Turned.{turned-accepted}
@@ -76,7 +76,7 @@ pub record FaceRoom (s : List ℕ) (f : ℕ) : Type 0 where
   pub low : 1 ≤ f
   pub high : f < 1024
   pub room : faceStart s (f - 1) + 5 ≤ length s
-  pub accepted : judged (turnedIn s s (f - 1)) ≡ Accepted
+  pub accepted : judged (reversedIn s s (f - 1)) ≡ Accepted
 
 pub face-room : (s : List ℕ) (f : ℕ) → reverseFault s f ≡ Accepted → FaceRoom s f
 unfolding reverseFault

@@ -9,8 +9,8 @@ use lib.Seq.{take-append-seam, drop-append-seam}
 use borrow.Author.Tests.{eq-eqb, ne-eqb, le-leb}
 use Rattle.scene.specs.Records.{lengthOf}
 use Rattle.scene.specs.declared.Refusal.{Refusal}
-use Rattle.scene.specs.declared.Refusal.the-variants.{Opening, Buffer}
-use Rattle.judge.specs.Judge.{judged, rule}
+use Rattle.scene.specs.declared.Refusal.the-variants.{Opening, BufferTooShort}
+use Rattle.judge.specs.Judge.{judged, refuseUnless}
 use Rattle.judge.specs.Tests.{accepts}
 use Rattle.judge.specs.declared.Judged.{Judged}
 use Rattle.judge.specs.declared.Judged.the-variants.{Accepted, Refused}
@@ -22,7 +22,7 @@ use Rattle.session.specs.declared.Session.{Session}
 
 -- 1 for the empty session, then 13 for a buffer of fewer than the scene's bytes, place the length needed
 unfoldable pub saveFault : List ℕ → ℕ → Judged
-saveFault s room = rule (isWhole s) Opening (rule (leb (length s) room) (Buffer (length s)) Accepted)
+saveFault s room = refuseUnless (isWhole s) Opening (refuseUnless (leb (length s) room) (BufferTooShort (length s)) Accepted)
 
 -- out is what the buffer held
 abbrev pub savedBy : Judged → List ℕ → List ℕ → List ℕ
@@ -50,11 +50,11 @@ save-room s room e = (simp accepts at e) .1 .0
 
 module _ (s : Session) where
   pub save-empty : Holds s → Empty s → (room : ℕ) → saveFault (scene s) room ≡ Refused Opening
-  unfolding saveFault isWhole rule
+  unfolding saveFault isWhole refuseUnless
   save-empty h e room = rw (ne-eqb (length (scene s)) (lengthOf (scene s)) (λ q. omega (arith, q, h .sized, e .none)))
 
   pub save-full : Full s → (room : ℕ) → length (scene s) ≤ room → saveFault (scene s) room ≡ Accepted
-  unfolding saveFault isWhole rule
+  unfolding saveFault isWhole refuseUnless
   save-full f room l =
       rw (
         eq-eqb (length (scene s)) (lengthOf (scene s)) (accepted limits (scene s) .0 (f .accepted) .header .long),
@@ -83,6 +83,6 @@ read-after-write s f out l = rw (saved-front s f out l) (opened-scene (scene s) 
 -- write after read gives the same bytes: an accepted scene that was opened is saved as it was
 pub write-after-read : (b : List ℕ) → judged b ≡ Accepted → (out : List ℕ) → length b ≤ length out →
     savedBy (saveFault (scene (opened b .session)) (length out)) (scene (opened b .session)) out ≡ b ++ drop (length b) out
-unfolding saveFault isWhole rule
+unfolding saveFault isWhole refuseUnless
 write-after-read b q out l =
     rw (opened-scene b q, eq-eqb (length b) (lengthOf b) (accepted limits b .0 q .header .long), le-leb (length b) (length out) l)

@@ -11,8 +11,8 @@ use Rattle.scene.specs.Tables.{faceAt}
 use Rattle.scene.specs.Write.{rowPut, cornersPut}
 use Rattle.scene.specs.declared.Row.{Row}
 use Rattle.scene.specs.declared.Face.{Face}
-use Rattle.scene.specs.declared.Refusal.the-variants.{Opening, Coordinate, Weight, Lacking, Nowhere}
-use Rattle.judge.specs.Judge.{judged, rule, andThen}
+use Rattle.scene.specs.declared.Refusal.the-variants.{Opening, Coordinate, Weight, NoSuchNumber, FarAllZero}
+use Rattle.judge.specs.Judge.{judged, refuseUnless, andThen}
 use Rattle.judge.specs.declared.Judged.{Judged}
 use Rattle.judge.specs.declared.Judged.the-variants.{Accepted, Refused}
 use Rattle.questions.specs.Answers.{countedOf}
@@ -64,25 +64,25 @@ sizesOf v = record { x = natAbs (v .x); y = natAbs (v .y); z = natAbs (v .z); w 
 -- of point p: 5, then 6, where its weight's size is at least `least`
 unfoldable pub rowFault : (least p : ℕ) → Sizes → Judged
 rowFault least p m =
-    rule (leb (m .x) (limits .mostCoordinate)) (Coordinate p)
-    (rule (leb (m .y) (limits .mostCoordinate)) (Coordinate p)
-    (rule (leb (m .z) (limits .mostCoordinate)) (Coordinate p)
-    (rule (within least (limits .mostWeight) (m .w)) (Weight p) Accepted)))
+    refuseUnless (leb (m .x) (limits .mostCoordinate)) (Coordinate p)
+    (refuseUnless (leb (m .y) (limits .mostCoordinate)) (Coordinate p)
+    (refuseUnless (leb (m .z) (limits .mostCoordinate)) (Coordinate p)
+    (refuseUnless (within least (limits .mostWeight) (m .w)) (Weight p) Accepted)))
 
 unfoldable pub isNowhere : Sizes → Bool
 isNowhere m = eqb (m .x) 0 && (eqb (m .y) 0 && (eqb (m .z) 0 && eqb (m .w) 0))
 
 unfoldable pub vertexFault : List ℕ → ℕ → Row → Judged
-vertexFault s p v = rule (isWhole s) Opening (rule (within 1 (verts s) p) Lacking (rowFault 1 p (sizesOf v)))
+vertexFault s p v = refuseUnless (isWhole s) Opening (refuseUnless (within 1 (verts s) p) NoSuchNumber (rowFault 1 p (sizesOf v)))
 
 -- the far point, numbered behind the vertices, may have weight 0, but not four zeros
 unfoldable pub farFault : List ℕ → Row → Judged
 farFault s v =
-    rule (isWhole s) Opening
-    (andThen (rowFault 0 (verts s + 1) (sizesOf v)) (rule (not (isNowhere (sizesOf v))) (Nowhere (verts s + 1)) Accepted))
+    refuseUnless (isWhole s) Opening
+    (andThen (rowFault 0 (verts s + 1) (sizesOf v)) (refuseUnless (not (isNowhere (sizesOf v))) (FarAllZero (verts s + 1)) Accepted))
 
 unfoldable pub turnFault : List ℕ → ℕ → Judged
-turnFault s f = rule (isWhole s) Opening (rule (within 1 (faces s) f) Lacking Accepted)
+turnFault s f = refuseUnless (isWhole s) Opening (refuseUnless (within 1 (faces s) f) NoSuchNumber Accepted)
 
 -- ---- move a vertex, move the far point, reverse a face: the session with b for its bytes, or as it was
 
@@ -97,11 +97,11 @@ unfoldable pub farMovedOf : Session → Row → Changed
 farMovedOf s v = changedBy (farFault (scene s) v) s (rowPut (s .bytes) 0 v)
 
 -- a face with its first and third corners swapped
-abbrev pub turned : Face → Face
-turned f = record { p = f .r; q = f .q; r = f .p }
+abbrev pub reversedFace : Face → Face
+reversedFace f = record { p = f .r; q = f .q; r = f .p }
 
-abbrev pub turnedIn : List ℕ → List ℕ → ℕ → List ℕ
-turnedIn b s i = cornersPut b (faceStart s i) (turned (faceAt s i))
+abbrev pub reversedIn : List ℕ → List ℕ → ℕ → List ℕ
+reversedIn b s i = cornersPut b (faceStart s i) (reversedFace (faceAt s i))
 
 unfoldable pub reversedOf : Session → ℕ → Changed
-reversedOf s f = changedBy (turnFault (scene s) f) s (turnedIn (s .bytes) (scene s) (f - 1))
+reversedOf s f = changedBy (turnFault (scene s) f) s (reversedIn (s .bytes) (scene s) (f - 1))

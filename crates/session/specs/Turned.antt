@@ -21,21 +21,21 @@ use Rattle.rules.specs.TableRules.{TableOk, TablesOk, Marked}
 use Rattle.rules.specs.Accepted.{accepted}
 use Rattle.rules.specs.Bridge.{by-tables}
 use Rattle.rules.specs.Frame.{Same, SameCounts, two-frame, row-frame, face-frame}
-use Rattle.session.specs.Session.{turned, turnedIn}
+use Rattle.session.specs.Session.{reversedFace, reversedIn}
 
 -- ---- a face that is another, or another with two corners swapped
 
 abbrev Alike : Face → Face → Type 0
-Alike g f = (g ≡ f) ⊎ (g ≡ turned f)
+Alike g f = (g ≡ f) ⊎ (g ≡ reversedFace f)
 
-corner-turned : (i : ℕ) (f : Face) → Corner i f → Corner i (turned f)
+corner-turned : (i : ℕ) (f : Face) → Corner i f → Corner i (reversedFace f)
 corner-turned i f (inl e) = inr (inr e)
 corner-turned i f (inr (inl e)) = inr (inl e)
 corner-turned i f (inr (inr e)) = inl e
 
 corner-alike : (i : ℕ) {g f : Face} → Alike g f → Corner i f ↔ Corner i g
 corner-alike i (inl e) = rw e (λ h. h, λ h. h)
-corner-alike i {f = f} (inr e) = rw e (corner-turned i f, corner-turned i (turned f))
+corner-alike i {f = f} (inr e) = rw e (corner-turned i f, corner-turned i (reversedFace f))
 
 both-alike : (i j : ℕ) {g f : Face} → Alike g f → Both i j f ↔ Both i j g
 both-alike i j a =
@@ -118,10 +118,10 @@ module _ (s : List ℕ) (i : ℕ) where
   at = faceStart s i
 
   abbrev s′ : List ℕ
-  s′ = turnedIn s s i
+  s′ = reversedIn s s i
 
   front-same : (k n : ℕ) → k + n ≤ 15 + verts s * 9 → Same s′ s k n
-  front-same k n h m a b = corners-below s at (turned (faceAt s i)) m (omega arith)
+  front-same k n h m a b = corners-below s at (reversedFace (faceAt s i)) m (omega arith)
 
   counts-same : SameCounts s′ s
   counts-same = front-same 2 4 (omega arith)
@@ -130,8 +130,8 @@ module _ (s : List ℕ) (i : ℕ) where
   apart k m above below = go (decLt i k)
     where
       go : Dec (i < k) → byteAt s′ m ≡ byteAt s m
-      go (yes l) = corners-above s at (turned (faceAt s i)) m (above l)
-      go (no l) = corners-below s at (turned (faceAt s i)) m (below l)
+      go (yes l) = corners-above s at (reversedFace (faceAt s i)) m (above l)
+      go (no l) = corners-below s at (reversedFace (faceAt s i)) m (below l)
 
   mark-same : (k : ℕ) → Same s′ s (faceStart s k) 2
   mark-same k m a b = apart k m (λ l. omega arith) (λ l. omega arith)
@@ -149,7 +149,7 @@ module _ (s : List ℕ) (i : ℕ) where
       let vb = counts-same 4 (omega arith) (omega arith) in
       let fb = counts-same 5 (omega arith) (omega arith) in
       record {
-        long = corners-length s at (turned (faceAt s i)) ∙ m .long ∙ omega arith;
+        long = corners-length s at (reversedFace (faceAt s i)) ∙ m .long ∙ omega arith;
         opening = two-frame s′ s 0 (front-same 0 2 (omega arith)) ∙ m .opening;
         far = two-frame s′ s (pointStart 0) (front-same 6 2 (omega arith)) ∙ m .far;
         vertex = λ j a b. two-frame s′ s (pointStart j) (front-same (pointStart j) 2 (omega arith)) ∙ m .vertex j a (omega arith);
@@ -162,7 +162,8 @@ module _ (s : List ℕ) (i : ℕ) where
     alike k = go (ℕ-discrete k i)
       where
         go : Dec (k ≡ i) → Alike (faceAt s′ k) (faceAt s k)
-        go (yes e) = inr (ap (faceAt s′) e ∙ corners-back s i (turned (faceAt s i)) room ∙ ap (λ (k : ℕ). turned (faceAt s k)) (sym e))
+        go (yes e) = inr (ap (faceAt s′) e ∙ corners-back s i (reversedFace (faceAt s i)) room ∙ ap (λ (k : ℕ). reversedFace (faceAt s k))
+            (sym e))
         go (no d) = inl (face-frame s′ s counts-same k (other-same k d))
 
     tables-same : TablesOk limits (tablesOf s) → TablesOk limits (tablesOf s′)
@@ -185,7 +186,7 @@ module _ (s : List ℕ) (i : ℕ) where
           somewhere = rw (row-same 0 (omega arith)) (t .somewhere);
         }
 
-    pub turned-accepted : judged s ≡ Accepted → judged (turnedIn s s i) ≡ Accepted
+    pub turned-accepted : judged s ≡ Accepted → judged (reversedIn s s i) ≡ Accepted
     turned-accepted q =
         let m = by-tables limits s .0 (accepted limits s .0 q) in
         accepted limits s′ .1 (by-tables limits s′ .1 (marked-same (m .0), tables-same (m .1)))

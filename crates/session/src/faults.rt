@@ -101,7 +101,7 @@ pub fn vertex_fault(s: &[u8], p: usize, v: Row) -> Judged
         return Judged::Refused(Refusal::Opening);
     }
     if !is_within(1, offsets::vertices(s), p) {
-        return Judged::Refused(Refusal::Lacking);
+        return Judged::Refused(Refusal::NoSuchNumber);
     }
     row_fault(1, p, sizes_of(v))
 }
@@ -118,7 +118,7 @@ pub fn far_fault(s: &[u8], v: Row) -> Judged
         return Judged::Refused(r);
     }
     if is_nowhere(m) {
-        return Judged::Refused(Refusal::Nowhere(p));
+        return Judged::Refused(Refusal::FarAllZero(p));
     }
     Judged::Accepted
 }
@@ -130,7 +130,7 @@ pub fn turn_fault(s: &[u8], f: usize) -> Judged
         return Judged::Refused(Refusal::Opening);
     }
     if !is_within(1, offsets::faces(s), f) {
-        return Judged::Refused(Refusal::Lacking);
+        return Judged::Refused(Refusal::NoSuchNumber);
     }
     Judged::Accepted
 }

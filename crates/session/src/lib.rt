@@ -7,7 +7,7 @@ ghost use Rattle.scene.specs.Records.{pointStart, faceStart};
 ghost use Rattle.scene.specs.Tables.{faceAt};
 ghost use Rattle.scene.specs.Write.{RowFits, FaceFits, rowPut};
 ghost use Rattle.questions.specs.Answers.{countedOf};
-ghost use Rattle.session.specs.Session.{countsBy, empty, fresh, turned, turnedIn, opened, movedOf, farMovedOf, reversedOf};
+ghost use Rattle.session.specs.Session.{countsBy, empty, fresh, reversedFace, reversedIn, opened, movedOf, farMovedOf, reversedOf};
 ghost use Rattle.session.specs.Laws.{Whole};
 use judge::Judged;
 use kernel::counts::count;
@@ -120,9 +120,9 @@ fn with_row(b: [u8; Scene::LONGEST], n: usize, j: usize, v: Row) -> Session
 }
 
 // The corners of the file's face i, the first and the third swapped.
-fn turned(s: &[u8], i: usize) -> Face
+fn reversed_face(s: &[u8], i: usize) -> Face
     requires { ⌜ i < 1024 ⌝ }
-    ensures { λ r. ⌜ (r ≡ turned (faceAt (now (s .entry)) i)) × FaceFits r ⌝ }
+    ensures { λ r. ⌜ (r ≡ reversedFace (faceAt (now (s .entry)) i)) × FaceFits r ⌝ }
 {
     let at = offsets::face_start(s, i);
     Face {
@@ -135,10 +135,10 @@ fn turned(s: &[u8], i: usize) -> Face
 // The session with the file's face i reversed.
 fn with_face(b: [u8; Scene::LONGEST], n: usize, i: usize) -> Session
     requires { ⌜ (i < 1024) × (n ≤ longest limits) × (faceStart (take n b) i + 5 ≤ longest limits) ⌝ }
-    ensures { λ r. ⌜ r ≡ fresh (turnedIn b (take n b) i) n ⌝ }
+    ensures { λ r. ⌜ r ≡ fresh (reversedIn b (take n b) i) n ⌝ }
 {
     let at = offsets::face_start(&b[..n], i);
-    let f = turned(&b[..n], i);
+    let f = reversed_face(&b[..n], i);
     let mut a = b;
     write::put_corners(&mut a, at, f);
     fresh(a, n)

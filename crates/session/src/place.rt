@@ -2,10 +2,10 @@
 ghost use mathlib.Core.Path.{_≡_};
 ghost use Prim.Native.Nat.{_-_};
 ghost use Rattle.scene.specs.Write.{rowPut};
-ghost use Rattle.session.specs.Session.{turnedIn};
+ghost use Rattle.session.specs.Session.{reversedIn};
 ghost use Rattle.session.specs.Place.{moveFault, moveFarFault, reverseFault, IsChanged};
 use crate::faults;
-use crate::turned;
+use crate::reversed_face;
 use judge::Judged;
 use scene::Row;
 use scene::offsets;
@@ -65,7 +65,7 @@ pub fn move_far(s: &mut [u8], v: Row) -> Judged
 }
 
 pub fn reverse(s: &mut [u8], f: usize) -> Judged
-    ensures { λ r. ⌜ IsChanged (reverseFault (now (s .entry)) f) (now (s .entry)) (turnedIn (now (s .entry)) (now (s .entry)) (f - 1))
+    ensures { λ r. ⌜ IsChanged (reverseFault (now (s .entry)) f) (now (s .entry)) (reversedIn (now (s .entry)) (now (s .entry)) (f - 1))
         (now (s .exit)) r ⌝ }
 {
     let j = reverse_fault(s, f);
@@ -73,7 +73,7 @@ pub fn reverse(s: &mut [u8], f: usize) -> Judged
         Judged::Refused(r) => Judged::Refused(r),
         Judged::Accepted => {
             let at = offsets::face_start(s, f - 1);
-            let t = turned(s, f - 1);
+            let t = reversed_face(s, f - 1);
             write::put_corners(s, at, t);
             Judged::Accepted
         }

@@ -17,7 +17,7 @@ fn save_fault(s: &[u8], room: usize) -> Judged
         return Judged::Refused(Refusal::Opening);
     }
     if !faults::at_most(s.len(), room) {
-        return Judged::Refused(Refusal::Buffer(s.len()));
+        return Judged::Refused(Refusal::BufferTooShort(s.len()));
     }
     Judged::Accepted
 }

@@ -13,7 +13,7 @@ use Rattle.laws.specs.Range.{fold, over, lowestOf}
 use Rattle.laws.specs.Walk.{mask-first}
 use Rattle.survey_links.specs.Bits.{test-zero}
 use Rattle.scene.specs.declared.Solid.{Solid}
-use Rattle.question_listing.specs.Hits.{Seen, isInside, insideCount, lowestInside}
+use Rattle.question_listing.specs.Hits.{PierceView, enclosedVertex, enclosedCount, lowestEnclosed}
 use Rattle.survey_enclosed.specs.Walk.{insideWord}
 
 -- the lowest vertex of the word w, of the n points above low; the number behind the last where there is none
@@ -35,37 +35,39 @@ lowest-at p z a (suc n) (suc d) l t h =
     rw (h a (omega arith) (omega arith))
     (lowest-at p z (suc a) n d (omega arith) (ap p (sym e) ∙ t) (λ j b c. h j (omega arith) (omega arith)) ∙ sym e)
 
-module _ (s : Seen) (k : Solid) {w : ℕ} (e : w ≡ insideWord s k) where
-  pub inside-ones : ones w ≡ insideCount s k
-  unfolding insideWord insideCount
+module _ (s : PierceView) (k : Solid) {w : ℕ} (e : w ≡ insideWord s k) where
+  pub inside-ones : ones w ≡ enclosedCount s k
+  unfolding insideWord enclosedCount
   inside-ones =
-      ap ones e ∙ mask-ones (isInside s k) (λ u. u) (k .low + 1) (k .verts)
-      ∙ sym (count-run (λ u. u) (isInside s k) (isInside s k) (k .low + 1) (k .low + 1 + k .verts) (k .verts) (omega arith) (λ u. refl))
+      ap ones e ∙ mask-ones (enclosedVertex s k) (λ u. u) (k .vert0 + 1) (k .verts)
+      ∙ sym (count-run (λ u. u) (enclosedVertex s k) (enclosedVertex s k) (k .vert0 + 1) (k .vert0 + 1 + k .verts) (k .verts) (omega arith)
+          (λ u. refl))
 
-  pub inside-lowest : k .verts ≤ 64 → lowestOfWord w (k .low) (k .verts) ≡ lowestInside s k
-  unfolding insideWord lowestInside lowestOf over
+  pub inside-lowest : k .verts ≤ 64 → lowestOfWord w (k .vert0) (k .verts) ≡ lowestEnclosed s k
+  unfolding insideWord lowestEnclosed lowestOf over
   inside-lowest few = by (ℕ-discrete w 0)
     where
       high : ℕ
-      high = k .low + 1 + k .verts
+      high = k .vert0 + 1 + k .verts
 
-      off : w ≡ 0 → (j : ℕ) → k .low + 1 ≤ j → j < k .low + 1 + (high - (k .low + 1)) → isInside s k j ≡ false
+      off : w ≡ 0 → (j : ℕ) → k .vert0 + 1 ≤ j → j < k .vert0 + 1 + (high - (k .vert0 + 1)) → enclosedVertex s k j ≡ false
       off z j a b =
-          let m : ℕ = j - (k .low + 1) in
-          let at : k .low + 1 + m ≡ j = omega arith in
-          sym (ap (isInside s k) at) ∙ sym (mask-test (λ m. isInside s k (k .low + 1 + m)) (k .verts) m (omega arith))
+          let m : ℕ = j - (k .vert0 + 1) in
+          let at : k .vert0 + 1 + m ≡ j = omega arith in
+          sym (ap (enclosedVertex s k) at) ∙ sym (mask-test (λ m. enclosedVertex s k (k .vert0 + 1 + m)) (k .verts) m (omega arith))
           ∙ ap (λ (x : ℕ). testBit x m) (sym e ∙ z) ∙ test-zero m
 
-      place : (j : ℕ) → k .low + 1 ≤ j → k .low + 1 + (j - (k .low + 1)) ≡ j
+      place : (j : ℕ) → k .vert0 + 1 ≤ j → k .vert0 + 1 + (j - (k .vert0 + 1)) ≡ j
       place j a = omega arith
 
-      by : Dec (w ≡ 0) → lowestOfWord w (k .low) (k .verts) ≡ fold (λ u rest. cond (isInside s k u) u rest) high (k .low + 1)
-          (high - (k .low + 1))
+      by : Dec (w ≡ 0) → lowestOfWord w (k .vert0) (k .verts) ≡ fold (λ u rest. cond (enclosedVertex s k u) u rest) high (k .vert0 + 1)
+          (high - (k .vert0 + 1))
       by (yes z) =
-          ap (λ (b : Bool). cond b high (k .low + 1 + trailingZeros 64 w)) (eq-eqb w 0 z)
-          ∙ sym (lowest-none (isInside s k) high (k .low + 1) (high - (k .low + 1)) (off z))
+          ap (λ (b : Bool). cond b high (k .vert0 + 1 + trailingZeros 64 w)) (eq-eqb w 0 z)
+          ∙ sym (lowest-none (enclosedVertex s k) high (k .vert0 + 1) (high - (k .vert0 + 1)) (off z))
       by (no d) =
-          let f = mask-first (λ m. isInside s k (k .low + 1 + m)) 64 (k .verts) few e (omega arith) in
-          ap (λ (b : Bool). cond b high (k .low + 1 + trailingZeros 64 w)) (ne-eqb w 0 d)
-          ∙ sym (lowest-at (isInside s k) high (k .low + 1) (high - (k .low + 1)) (trailingZeros 64 w) (omega (arith, f .below)) (f .passes)
-          (λ j a b. sym (ap (isInside s k) (place j a)) ∙ f .none (j - (k .low + 1)) (omega arith) (omega arith)))
+          let f = mask-first (λ m. enclosedVertex s k (k .vert0 + 1 + m)) 64 (k .verts) few e (omega arith) in
+          ap (λ (b : Bool). cond b high (k .vert0 + 1 + trailingZeros 64 w)) (ne-eqb w 0 d)
+          ∙ sym (lowest-at (enclosedVertex s k) high (k .vert0 + 1) (high - (k .vert0 + 1)) (trailingZeros 64 w) (omega (arith, f .below))
+              (f .passes)
+          (λ j a b. sym (ap (enclosedVertex s k) (place j a)) ∙ f .none (j - (k .vert0 + 1)) (omega arith) (omega arith)))

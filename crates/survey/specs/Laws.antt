@@ -11,7 +11,7 @@ use Rattle.laws.specs.Lists.{Each, each-left, each-right}
 use Rattle.laws.specs.Runs.{upTo, bounded, each-upTo, each-only}
 use Rattle.scene_edges.specs.Edges.{joined}
 use Rattle.scene.specs.declared.Solid.{Solid}
-use Rattle.question_listing.specs.Hits.{Seen, Sound, solidHits}
+use Rattle.question_listing.specs.Hits.{PierceView, Sound, solidHits}
 use Rattle.pierce_masks.specs.Faces.{width}
 use Rattle.survey_edges.specs.Table.{Entry, entryIn, entriesIn, entryHits, tableHits}
 use Rattle.survey_edges.specs.Entries.{entry-most}
@@ -32,9 +32,9 @@ marked-edges low n {l} {m} {odds} e h = subst (λ (x : List Entry). Marked low n
 
 -- ---- the listing
 
-pub surveyed-pairs : (s : Seen) (a b : Solid) (t : Survey) (ends-a masks-a ends-b masks-b : List ℕ) → Sound s a → Sound s b →
+pub surveyed-pairs : (s : PierceView) (a b : Solid) (t : Survey) (ends-a masks-a ends-b masks-b : List ℕ) → Sound s a → Sound s b →
     Surveyed s a ends-a masks-a (t .a) → Surveyed s b ends-b masks-b (t .b) →
-    pairsOf t (a .other) (b .other) ends-a masks-a ends-b masks-b ≡ solidHits s a ++ solidHits s b
+    pairsOf t (a .other0) (b .other0) ends-a masks-a ends-b masks-b ≡ solidHits s a ++ solidHits s b
 unfolding pairsOf
 surveyed-pairs s a b t ends-a masks-a ends-b masks-b sa sb p q =
     ap₂ _++_ (table-hits s a sa ends-a masks-a (t .a .edges) (p .edges)) (table-hits s b sb ends-b masks-b (t .b .edges) (q .edges))
@@ -61,15 +61,15 @@ module _ (P : Entry → Type 0) where
       by (yes e) before = rw e (each-right P (upTo (λ i. f i ∷ []) n) (f n ∷ []) h .0)
       by (no d) before = before (omega arith)
 
-pub ends-in : (s : Seen) (k : Solid) (ends masks : List ℕ) (n : ℕ) → entriesIn ends masks n ≡ solidEdges s k →
-    (j : ℕ) → j < n → EndsIn (k .low) (k .verts) (entryIn ends masks j)
+pub ends-in : (s : PierceView) (k : Solid) (ends masks : List ℕ) (n : ℕ) → entriesIn ends masks n ≡ solidEdges s k →
+    (j : ℕ) → j < n → EndsIn (k .vert0) (k .verts) (entryIn ends masks j)
 unfolding entriesIn solidEdges vertexEdges
 ends-in s k ends masks n e j b =
-    let P : Entry → Type 0 = EndsIn (k .low) (k .verts) in
+    let P : Entry → Type 0 = EndsIn (k .vert0) (k .verts) in
     let all : Each P (solidEdges s k) =
-    each-upTo P (λ i. vertexEdges s k (k .low + 1 + i)) (k .verts)
+    each-upTo P (λ i. vertexEdges s k (k .vert0 + 1 + i)) (k .verts)
     (λ i h. each-upTo P _ (k .verts)
-    (λ m c. each-only P (ltb (k .low + 1 + i) (k .low + 1 + m) && joined (s .face) k (k .low + 1 + i) (k .low + 1 + m))
-    (entry s k (k .low + 1 + i) (k .low + 1 + m) ∷ [])
+    (λ m c. each-only P (ltb (k .vert0 + 1 + i) (k .vert0 + 1 + m) && joined (s .face) k (k .vert0 + 1 + i) (k .vert0 + 1 + m))
+    (entry s k (k .vert0 + 1 + i) (k .vert0 + 1 + m) ∷ [])
     (record { low-end = (omega arith, omega arith); high-end = (omega arith, omega arith) }, tt))) in
     each-at P (entryIn ends masks) n j (rw e all) b

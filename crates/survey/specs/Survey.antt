@@ -5,16 +5,16 @@ use mathlib.Core.List.{List, _++_}
 use Prim.Native.Nat.{ℕ, _*_, _≤_}
 use lib.ListN.{length}
 use Rattle.scene.specs.declared.Solid.{Solid}
-use Rattle.question_listing.specs.Hits.{Seen, Hit}
+use Rattle.question_listing.specs.Hits.{PierceView, Hit}
 use Rattle.survey_links.specs.Links.{words}
 use Rattle.survey_edges.specs.Table.{mostEdges, entriesIn, tableHits}
 use Rattle.survey_edges.specs.Edges.{solidEdges}
 use Rattle.survey_enclosed.specs.Walk.{insideWord}
-use Rattle.survey.specs.declared.Part.{Part}
+use Rattle.survey.specs.declared.SolidSurvey.{SolidSurvey}
 use Rattle.survey.specs.declared.Survey.{Survey}
 
 -- of one solid
-pub record Surveyed (s : Seen) (k : Solid) (ends masks : List ℕ) (p : Part) : Type 0 where
+pub record Surveyed (s : PierceView) (k : Solid) (ends masks : List ℕ) (p : SolidSurvey) : Type 0 where
   pub edges : entriesIn ends masks (p .edges) ≡ solidEdges s k
   pub fits : p .edges ≤ mostEdges
   pub inside : p .inside ≡ insideWord s k

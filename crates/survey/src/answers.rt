@@ -6,7 +6,7 @@ ghost use lib.Count.{ones};
 ghost use lib.ListN.{length};
 ghost use Rattle.scene.specs.Limits.{limits};
 ghost use Rattle.question_listing.specs.First.{firstOf};
-ghost use Rattle.question_listing.specs.Pour.{Pours};
+ghost use Rattle.question_listing.specs.WritePairs.{WritesPairs};
 ghost use Rattle.survey.specs.Survey.{Fits, pairsOf};
 ghost use Rattle.survey.specs.Inside.{lowestOfWord};
 use crate::Survey;
@@ -15,7 +15,7 @@ use survey_edges::Ends;
 use survey_edges::Masks;
 use survey_edges::count;
 use survey_edges::first::find;
-use survey_edges::pour::pour;
+use survey_edges::pairs::write_pairs;
 
 // How many pairs, whatever the ends and the numbers of the faces.
 pub fn count_pairs(t: Survey, amasks: &Masks, bmasks: &Masks) -> usize
@@ -48,7 +48,7 @@ pub fn first_pair(
 }
 
 // The pairs from the one numbered `from` on, as far as there is room; how many there are in all.
-pub fn pour_pairs(
+pub fn write_all_pairs(
     t: Survey,
     a: usize,
     b: usize,
@@ -60,11 +60,12 @@ pub fn pour_pairs(
     out: &mut [u16],
 ) -> usize
     requires { ⌜ Fits t × (a ≤ 2 * limits .mostFaces) × (b ≤ 2 * limits .mostFaces) ⌝ }
-    ensures { λ r. ⌜ Pours (pairsOf t a b (now (aends .entry)) (now (amasks .entry)) (now (bends .entry)) (now (bmasks .entry))) from 0
+    ensures { λ r. ⌜ WritesPairs (pairsOf t a b (now (aends .entry)) (now (amasks .entry)) (now (bends .entry))
+        (now (bmasks .entry))) from 0
         (now (out .entry)) (now (out .exit)) r ⌝ }
 {
-    let c = pour(aends, amasks, t.a.edges, a, from, 0, out);
-    pour(bends, bmasks, t.b.edges, b, from, c, out)
+    let c = write_pairs(aends, amasks, t.a.edges, a, from, 0, out);
+    write_pairs(bends, bmasks, t.b.edges, b, from, c, out)
 }
 
 // How many vertices of the word are enclosed.

@@ -1,7 +1,7 @@
 // The survey of a scene: everything of it is worked out once, and all answers are read off tables.
-ghost use Rattle.survey_sides.specs.Lent.{Told};
-ghost use Rattle.survey_narrow.specs.Lent.{Parted};
-ghost use Rattle.question_listing.specs.Hits.{seenIn};
+ghost use Rattle.survey_sides.specs.Lent.{SidesFilled};
+ghost use Rattle.survey_narrow.specs.Lent.{Separated};
+ghost use Rattle.question_listing.specs.Hits.{viewIn};
 ghost use Rattle.survey_enclosed.specs.Ready.{Ready};
 ghost use Rattle.survey.specs.Survey.{Surveyed, Sized, Wide};
 use pierce_engine::Engine;
@@ -14,27 +14,27 @@ use survey_edges::Masks;
 use survey_enclosed::enclosed_word;
 use survey_enclosed::odds::fill_odds;
 use survey_links::WORDS;
-use survey_links::Words;
+use survey_links::VertexSets;
 use survey_links::fill_links;
 use survey_masks::fill_solid;
-use survey_narrow::cuts::Cuts;
+use survey_narrow::separating_faces::SeparatingFaces;
 use survey_setup::make_planes;
-use survey_setup::tell_parts;
-use survey_setup::tell_sides;
+use survey_setup::fill_narrowing;
+use survey_setup::fill_sides;
 use survey_sides::planes::Planes;
 
 pub mod answers;
 
 // Of one solid: how many edges it has, and the word of its enclosed vertices.
-pub struct Part {
+pub struct SolidSurvey {
     pub edges: usize,
     pub inside: u64,
 }
 
 // Of both.
 pub struct Survey {
-    pub a: Part,
-    pub b: Part,
+    pub a: SolidSurvey,
+    pub b: SolidSurvey,
 }
 
 // The edges of the solid go into the lent table.
@@ -46,18 +46,18 @@ pub fn survey_solid(
     k: Solid,
     ends: &mut Ends,
     masks: &mut Masks,
-) -> Part
-    requires { ⌜ Ready (seenIn n (now rows) (now corners)) k × Sized (now ends) (now masks) ⌝ }
-    ensures { λ r. ⌜ Surveyed (seenIn n (now (rows .entry)) (now (corners .entry))) k (now (ends .exit)) (now (masks .exit)) r ⌝ }
+) -> SolidSurvey
+    requires { ⌜ Ready (viewIn n (now rows) (now corners)) k × Sized (now ends) (now masks) ⌝ }
+    ensures { λ r. ⌜ Surveyed (viewIn n (now (rows .entry)) (now (corners .entry))) k (now (ends .exit)) (now (masks .exit)) r ⌝ }
 {
     let mut planes: Planes = [0; 4 * (Scene::MOST_FACES + 1)];
-    let mut words: survey_sides::words::Words = [0; 2 * (Scene::MOST_POINTS + 1)];
-    let own: survey_sides::words::Words = [0; 2 * (Scene::MOST_POINTS + 1)];
-    let cuts: Cuts = [0; 2 * (Scene::MOST_FACES + 1)];
-    let mut links: Words = [0; WORDS];
-    let mut odds: Words = [0; WORDS];
+    let mut words: survey_sides::point_masks::PointMasks = [0; 2 * (Scene::MOST_POINTS + 1)];
+    let own: survey_sides::point_masks::PointMasks = [0; 2 * (Scene::MOST_POINTS + 1)];
+    let separating: SeparatingFaces = [0; 2 * (Scene::MOST_FACES + 1)];
+    let mut links: VertexSets = [0; WORDS];
+    let mut odds: VertexSets = [0; WORDS];
     make_planes(rows, corners, k, &mut planes);
-    tell_sides(rows, corners, &planes, n, k, &mut words);
+    fill_sides(rows, corners, &planes, n, k, &mut words);
     survey_part(
         engine,
         rows,
@@ -66,7 +66,7 @@ pub fn survey_solid(
         k,
         &words,
         &own,
-        &cuts,
+        &separating,
         ends,
         masks,
         &mut links,
@@ -81,22 +81,22 @@ fn survey_part(
     corners: &Corners,
     n: usize,
     k: Solid,
-    words: &survey_sides::words::Words,
-    own: &survey_sides::words::Words,
-    cuts: &Cuts,
+    words: &survey_sides::point_masks::PointMasks,
+    own: &survey_sides::point_masks::PointMasks,
+    separating: &SeparatingFaces,
     ends: &mut Ends,
     masks: &mut Masks,
-    links: &mut Words,
-    odds: &mut Words,
-) -> Part
-    requires solid { ⌜ Ready (seenIn n (now rows) (now corners)) k × Sized (now ends) (now masks) ⌝ }
-    requires tables { ⌜ Told (seenIn n (now rows) (now corners)) k (now words)
-        × Parted (seenIn n (now rows) (now corners)) k (now own) (now cuts) ⌝ }
+    links: &mut VertexSets,
+    odds: &mut VertexSets,
+) -> SolidSurvey
+    requires solid { ⌜ Ready (viewIn n (now rows) (now corners)) k × Sized (now ends) (now masks) ⌝ }
+    requires tables { ⌜ SidesFilled (viewIn n (now rows) (now corners)) k (now words)
+        × Separated (viewIn n (now rows) (now corners)) k (now own) (now separating) ⌝ }
     requires lent { ⌜ Wide (now links) × Wide (now odds) ⌝ }
-    ensures told { λ r. ⌜ Surveyed (seenIn n (now (rows .entry)) (now (corners .entry))) k (now (ends .exit)) (now (masks .exit)) r ⌝ }
+    ensures told { λ r. ⌜ Surveyed (viewIn n (now (rows .entry)) (now (corners .entry))) k (now (ends .exit)) (now (masks .exit)) r ⌝ }
     ensures lent { λ _. ⌜ Wide (now (links .exit)) × Wide (now (odds .exit)) ⌝ }
 {
-    let low = k.low;
+    let low = k.vert0;
     let verts = k.verts;
     fill_links(corners, k, links);
     let edges = fill_solid(
@@ -108,13 +108,13 @@ fn survey_part(
         links,
         words,
         own,
-        cuts,
+        separating,
         ends,
         masks,
     );
     fill_odds(ends, masks, edges, low, verts, odds);
     let inside = enclosed_word(engine, rows, corners, n, k, links, odds, words);
-    Part { edges, inside }
+    SolidSurvey { edges, inside }
 }
 
 // Of both solids, each into its own table. Planes, and what narrows the questions, are made for A, then for B in the
@@ -131,23 +131,23 @@ pub fn survey_scene(
     bends: &mut Ends,
     bmasks: &mut Masks,
 ) -> Survey
-    requires { ⌜ Ready (seenIn n (now rows) (now corners)) a × Ready (seenIn n (now rows) (now corners)) b ⌝ }
+    requires { ⌜ Ready (viewIn n (now rows) (now corners)) a × Ready (viewIn n (now rows) (now corners)) b ⌝ }
     requires { ⌜ Sized (now aends) (now amasks) × Sized (now bends) (now bmasks) ⌝ }
-    ensures { λ r. ⌜ Surveyed (seenIn n (now (rows .entry)) (now (corners .entry))) a (now (aends .exit)) (now (amasks .exit)) (r .a) ⌝ }
-    ensures { λ r. ⌜ Surveyed (seenIn n (now (rows .entry)) (now (corners .entry))) b (now (bends .exit)) (now (bmasks .exit)) (r .b) ⌝ }
+    ensures { λ r. ⌜ Surveyed (viewIn n (now (rows .entry)) (now (corners .entry))) a (now (aends .exit)) (now (amasks .exit)) (r .a) ⌝ }
+    ensures { λ r. ⌜ Surveyed (viewIn n (now (rows .entry)) (now (corners .entry))) b (now (bends .exit)) (now (bmasks .exit)) (r .b) ⌝ }
 {
     let mut planes: Planes = [0; 4 * (Scene::MOST_FACES + 1)];
-    let mut wa: survey_sides::words::Words = [0; 2 * (Scene::MOST_POINTS + 1)];
-    let mut wb: survey_sides::words::Words = [0; 2 * (Scene::MOST_POINTS + 1)];
-    let mut own: survey_sides::words::Words = [0; 2 * (Scene::MOST_POINTS + 1)];
-    let mut cuts: Cuts = [0; 2 * (Scene::MOST_FACES + 1)];
-    let mut links: Words = [0; WORDS];
-    let mut odds: Words = [0; WORDS];
+    let mut wa: survey_sides::point_masks::PointMasks = [0; 2 * (Scene::MOST_POINTS + 1)];
+    let mut wb: survey_sides::point_masks::PointMasks = [0; 2 * (Scene::MOST_POINTS + 1)];
+    let mut own: survey_sides::point_masks::PointMasks = [0; 2 * (Scene::MOST_POINTS + 1)];
+    let mut separating: SeparatingFaces = [0; 2 * (Scene::MOST_FACES + 1)];
+    let mut links: VertexSets = [0; WORDS];
+    let mut odds: VertexSets = [0; WORDS];
     make_planes(rows, corners, a, &mut planes);
-    tell_sides(rows, corners, &planes, n, a, &mut wa);
+    fill_sides(rows, corners, &planes, n, a, &mut wa);
     make_planes(rows, corners, b, &mut planes);
-    tell_sides(rows, corners, &planes, n, b, &mut wb);
-    tell_parts(corners, a, b, &wb, &mut own, &mut cuts);
+    fill_sides(rows, corners, &planes, n, b, &mut wb);
+    fill_narrowing(corners, a, b, &wb, &mut own, &mut separating);
     let of_a = survey_part(
         engine,
         rows,
@@ -156,13 +156,13 @@ pub fn survey_scene(
         a,
         &wa,
         &own,
-        &cuts,
+        &separating,
         aends,
         amasks,
         &mut links,
         &mut odds,
     );
-    tell_parts(corners, b, a, &wa, &mut own, &mut cuts);
+    fill_narrowing(corners, b, a, &wa, &mut own, &mut separating);
     let of_b = survey_part(
         engine,
         rows,
@@ -171,7 +171,7 @@ pub fn survey_scene(
         b,
         &wb,
         &own,
-        &cuts,
+        &separating,
         bends,
         bmasks,
         &mut links,

@@ -74,37 +74,37 @@ module _ (g : ℕ → ℕ → Bool) where
 module _ (face : ℕ → Face) (k : Solid) where
   -- an edge from the i-th vertex to the j-th, from 0, lower point first
   abbrev pub isEdge : (i j : ℕ) → Bool
-  isEdge i j = ltb (k .low + 1 + i) (k .low + 1 + j) && joined face k (k .low + 1 + i) (k .low + 1 + j)
+  isEdge i j = ltb (k .vert0 + 1 + i) (k .vert0 + 1 + j) && joined face k (k .vert0 + 1 + i) (k .vert0 + 1 + j)
 
   -- where b sides of a face pass at most, two edges that pass come with b faces
-  pub edges-where : Closed (run face (k .first + 1) (k .count)) → (g : ℕ → ℕ → Bool) (b : ℕ) → ((f : Face) → sidesWhere g f ≤ b) →
-      2 * pairSum (λ i j. digit (g (k .low + 1 + i) (k .low + 1 + j) && isEdge i j)) (k .verts) ≤ k .count * b
+  pub edges-where : Closed (run face (k .face0 + 1) (k .faces)) → (g : ℕ → ℕ → Bool) (b : ℕ) → ((f : Face) → sidesWhere g f ≤ b) →
+      2 * pairSum (λ i j. digit (g (k .vert0 + 1 + i) (k .vert0 + 1 + j) && isEdge i j)) (k .verts) ≤ k .faces * b
   edges-where closed g b most =
       omega (
         arith,
         pairs-add edges edges (k .verts),
         pairs-le (λ i j. edges i j + edges i j) (λ i j. count (sides i j) own) (k .verts) twice,
-        list-most sides (k .verts) b (λ f. omega (arith, triangle-most g (k .low + 1) (k .verts) f, most f)) own,
-        ap (λ (n : ℕ). n * b) (length-run face (k .first + 1) (k .count)),
+        list-most sides (k .verts) b (λ f. omega (arith, triangle-most g (k .vert0 + 1) (k .verts) f, most f)) own,
+        ap (λ (n : ℕ). n * b) (length-run face (k .face0 + 1) (k .faces)),
       )
     where
       own : List Face
-      own = run face (k .first + 1) (k .count)
+      own = run face (k .face0 + 1) (k .faces)
 
       edges : (i j : ℕ) → ℕ
-      edges i j = digit (g (k .low + 1 + i) (k .low + 1 + j) && isEdge i j)
+      edges i j = digit (g (k .vert0 + 1 + i) (k .vert0 + 1 + j) && isEdge i j)
 
       sides : (i j : ℕ) → Face → Bool
-      sides i j f = g (k .low + 1 + i) (k .low + 1 + j) && hasEdge (edgeOf (k .low + 1 + i) (k .low + 1 + j)) f
+      sides i j f = g (k .vert0 + 1 + i) (k .vert0 + 1 + j) && hasEdge (edgeOf (k .vert0 + 1 + i) (k .vert0 + 1 + j)) f
 
       twice : (i j : ℕ) → edges i j + edges i j ≤ count (sides i j) own
       twice i j = go (g u v) (isEdge i j) refl
         where
           u : ℕ
-          u = k .low + 1 + i
+          u = k .vert0 + 1 + i
 
           v : ℕ
-          v = k .low + 1 + j
+          v = k .vert0 + 1 + j
 
           go : (c e : Bool) → isEdge i j ≡ e → digit (c && e) + digit (c && e) ≤ count (λ f. c && hasEdge (edgeOf u v) f) own
           go false e h = omega arith

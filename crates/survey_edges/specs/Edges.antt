@@ -12,20 +12,20 @@ use Rattle.scene.specs.Limits.{limits}
 use Rattle.scene_edges.specs.Edges.{joined, neighbours}
 use Rattle.scene.specs.declared.Solid.{Solid}
 use Rattle.pierce.specs.Closed.{Closed}
-use Rattle.question_listing.specs.Hits.{Seen, Sound, Own, edgeMask}
+use Rattle.question_listing.specs.Hits.{PierceView, Sound, Own, edgeMask}
 use Rattle.survey_edges.specs.Table.{Entry, entriesIn, each}
 
-module _ (s : Seen) (k : Solid) where
+module _ (s : PierceView) (k : Solid) where
   abbrev pub entry : (u v : ℕ) → Entry
   entry u v = record { low = u; high = v; mask = edgeMask s k u v }
 
   -- from u to the solid's higher vertices, in rising order
   unfoldable pub vertexEdges : ℕ → List Entry
   vertexEdges u =
-      upTo (λ m. only (ltb u (k .low + 1 + m) && joined (s .face) k u (k .low + 1 + m)) (entry u (k .low + 1 + m) ∷ [])) (k .verts)
+      upTo (λ m. only (ltb u (k .vert0 + 1 + m) && joined (s .face) k u (k .vert0 + 1 + m)) (entry u (k .vert0 + 1 + m) ∷ [])) (k .verts)
 
   unfoldable pub solidEdges : List Entry
-  solidEdges = upTo (λ i. vertexEdges (k .low + 1 + i)) (k .verts)
+  solidEdges = upTo (λ i. vertexEdges (k .vert0 + 1 + i)) (k .verts)
 
   -- ---- as the code goes: by the bits of a word, bit t for the t-th vertex above u
 
@@ -34,14 +34,14 @@ module _ (s : Seen) (k : Solid) where
 
   -- w has u's higher neighbours
   pub record Higher (u w : ℕ) : Type 0 where
-    pub small : w < 2 ^ (k .low + k .verts - u)
+    pub small : w < 2 ^ (k .vert0 + k .verts - u)
     pub edges : bitEdges u w ≡ vertexEdges u
 
   -- what the limits and the rules give: the solid is closed, so that its edges have room in a table
   pub record Within : Type 0 where
     pub sound : Sound s k
-    pub few : k .count ≤ limits .mostFaces
-    pub closed : Closed (run (s .face) (k .first + 1) (k .count))
+    pub few : k .faces ≤ limits .mostFaces
+    pub closed : Closed (run (s .face) (k .face0 + 1) (k .faces))
 
   -- the word of each vertex of the solid has its neighbours
   abbrev pub AreLinks : List ℕ → Type 0

@@ -14,7 +14,7 @@ use Rattle.survey_links.specs.Bits.{word-bits, word-first, test-zero}
 use Rattle.pierce_masks.specs.Faces.{width, valueOf}
 use Rattle.pierce_masks.specs.declared.Mask.{Mask}
 use Rattle.question_listing.specs.Hits.{Hit}
-use Rattle.question_listing.specs.Pour.{maskHit, maskHits}
+use Rattle.question_listing.specs.WritePairs.{maskHit, maskHits}
 use Rattle.question_listing.specs.First.{firstOf, first-none, first-found}
 use Rattle.question_listing.specs.declared.find.Found.the-variants.{Nothing, Pair}
 use Rattle.survey_edges.specs.Table.{Entry, entryHits}

@@ -20,9 +20,9 @@ use Rattle.scene_edges.specs.Edges as words
 use Rattle.scene_edges.specs.Edges.{joined, neighbours, Corners}
 use Rattle.scene.specs.declared.Solid.{Solid}
 use Rattle.pierce_masks.specs.Faces.{width}
-use Rattle.question_listing.specs.Hits.{Seen, Hit, Sound, edgeMask, edgeHits, pairHits, vertexHits, solidHits}
+use Rattle.question_listing.specs.Hits.{PierceView, Hit, Sound, edgeMask, edgeHits, pairHits, vertexHits, solidHits}
 use Rattle.question_listing.specs.Laws.{edge-hits}
-use Rattle.question_listing.specs.Pour.{maskHit}
+use Rattle.question_listing.specs.WritePairs.{maskHit}
 use Rattle.survey_edges.specs.Table.{Entry, entryIn, entriesIn, entryHits, each, tableHits}
 use Rattle.survey_edges.specs.Runs.{upTo-none, each-upTo, each-one, each-only, each-passing}
 use Rattle.survey_edges.specs.Edges.{entry, vertexEdges, solidEdges, bitEdges, Higher}
@@ -38,17 +38,17 @@ both-false true b e = e
 both-false false b e = refl
 
 -- a neighbour is a vertex of the solid
-pub not-joined : (face : ℕ → Face) (k : Solid) (u v : ℕ) → Corners face k → (Vertex (k .low) (k .low + k .verts) v → ⊥) →
+pub not-joined : (face : ℕ → Face) (k : Solid) (u v : ℕ) → Corners face k → (Vertex (k .vert0) (k .vert0 + k .verts) v → ⊥) →
     joined face k u v ≡ false
 unfolding joined anyOf over hasBoth
 not-joined face k u v corners out =
-    any-none (λ f. hasBoth u v (face f)) (k .first + 1) (k .first + 1 + k .count - (k .first + 1))
+    any-none (λ f. hasBoth u v (face f)) (k .face0 + 1) (k .face0 + 1 + k .faces - (k .face0 + 1))
     (λ f a b. both-false (isCorner u (face f)) (isCorner v (face f))
-    (outside (k .low) (k .verts) v (face f) (corners f (omega arith) (omega arith)) out))
+    (outside (k .vert0) (k .verts) v (face f) (corners f (omega arith) (omega arith)) out))
 
 -- the vertices above the i-th (from 0) that an edge joins it to: bit j stands for the j-th of those above
 unfoldable upWord : (ℕ → Face) → Solid → ℕ → ℕ
-upWord face k i = maskOf (λ j. joined face k (k .low + 1 + i) (k .low + 1 + i + 1 + j)) (words.width - (i + 1))
+upWord face k i = maskOf (λ j. joined face k (k .vert0 + 1 + i) (k .vert0 + 1 + i + 1 + j)) (words.width - (i + 1))
 
 -- what passes nowhere from n on
 mask-cut : (g : ℕ → Bool) (n d : ℕ) → n ≤ d → ((m : ℕ) → n ≤ m → g m ≡ false) → maskOf g d ≡ maskOf g n
@@ -57,19 +57,19 @@ mask-cut g n d l h =
     let z : maskOf (λ m. g (n + m)) (d - n) ≡ 0 = mask-none (λ m. g (n + m)) (d - n) (λ m b. h (n + m) (omega arith)) in
     ap (maskOf g) (sym e) ∙ mask-join g n (d - n) ∙ rw z (omega arith)
 
-module _ (s : Seen) (k : Solid) (sound : Sound s k) where
-  beyond : (u m : ℕ) → k .verts ≤ m → joined (s .face) k u (k .low + 1 + m) ≡ false
-  beyond u m l = not-joined (s .face) k u (k .low + 1 + m) (sound .corners) (λ h. omega arith)
+module _ (s : PierceView) (k : Solid) (sound : Sound s k) where
+  beyond : (u m : ℕ) → k .verts ≤ m → joined (s .face) k u (k .vert0 + 1 + m) ≡ false
+  beyond u m l = not-joined (s .face) k u (k .vert0 + 1 + m) (sound .corners) (λ h. omega arith)
 
   pub neighbours-small : (u : ℕ) → neighbours (s .face) k u < 2 ^ k .verts
   unfolding neighbours
   neighbours-small u =
-      rw (mask-cut (λ m. joined (s .face) k u (k .low + 1 + m)) (k .verts) words.width (omega (arith, sound .vertices .0)) (beyond u))
-      (mask-lt (λ m. joined (s .face) k u (k .low + 1 + m)) (k .verts))
+      rw (mask-cut (λ m. joined (s .face) k u (k .vert0 + 1 + m)) (k .verts) words.width (omega (arith, sound .vertices .0)) (beyond u))
+      (mask-lt (λ m. joined (s .face) k u (k .vert0 + 1 + m)) (k .verts))
 
   module _ (i : ℕ) (here : i < k .verts) where
     abbrev u : ℕ
-    u = k .low + 1 + i
+    u = k .vert0 + 1 + i
 
     abbrev above : ℕ → Bool
     above j = joined (s .face) k u (u + 1 + j)
@@ -77,14 +77,14 @@ module _ (s : Seen) (k : Solid) (sound : Sound s k) where
     abbrev edge : ℕ → List Entry
     edge j = entry s k u (u + 1 + j) ∷ []
 
-    place : (j : ℕ) → k .low + 1 + (i + 1 + j) ≡ u + 1 + j
+    place : (j : ℕ) → k .vert0 + 1 + (i + 1 + j) ≡ u + 1 + j
     place j = omega arith
 
     -- those above i of the neighbours' word
     shifted : {w : ℕ} → w ≡ neighbours (s .face) k u → w / 2 ^ (i + 1) ≡ upWord (s .face) k i
     unfolding neighbours upWord
     shifted e =
-        let g : ℕ → Bool = λ m. joined (s .face) k u (k .low + 1 + m) in
+        let g : ℕ → Bool = λ m. joined (s .face) k u (k .vert0 + 1 + m) in
         let d : i + 1 + (words.width - (i + 1)) ≡ words.width = omega (arith, sound .vertices .0) in
         let up = maskOf (λ j. g (i + 1 + j)) (words.width - (i + 1)) in
         ap (λ (x : ℕ). x / 2 ^ (i + 1))
@@ -101,8 +101,8 @@ module _ (s : Seen) (k : Solid) (sound : Sound s k) where
     unfolding upWord vertexEdges
     by-bits =
         let fits : words.width - (i + 1) ≤ 64 = omega arith in
-        let pair : ℕ → List Entry = λ m. only (ltb u (k .low + 1 + m) && joined (s .face) k u (k .low + 1 + m))
-        (entry s k u (k .low + 1 + m) ∷ []) in
+        let pair : ℕ → List Entry = λ m. only (ltb u (k .vert0 + 1 + m) && joined (s .face) k u (k .vert0 + 1 + m))
+        (entry s k u (k .vert0 + 1 + m) ∷ []) in
         let all : i + 1 + (k .verts - (i + 1)) ≡ k .verts = omega arith in
         let wide : k .verts - (i + 1) + (words.width - k .verts) ≡ words.width - (i + 1) = omega (arith, sound .vertices .0) in
         let few : List Entry = upTo (λ j. only (above j) (edge j)) (k .verts - (i + 1)) in
@@ -117,8 +117,8 @@ module _ (s : Seen) (k : Solid) (sound : Sound s k) where
         (ap (upTo pair) (sym all) ∙ upTo-join pair (i + 1) (k .verts - (i + 1))
         ∙ ap₂ _++_
         (upTo-none pair (i + 1)
-        (λ m b. ap (λ (t : Bool). only (t && joined (s .face) k u (k .low + 1 + m)) (entry s k u (k .low + 1 + m) ∷ []))
-        (le-ltb u (k .low + 1 + m) (omega arith))))
+        (λ m b. ap (λ (t : Bool). only (t && joined (s .face) k u (k .vert0 + 1 + m)) (entry s k u (k .vert0 + 1 + m) ∷ []))
+        (le-ltb u (k .vert0 + 1 + m) (omega arith))))
         (upTo-same (λ j. pair (i + 1 + j)) (λ j. only (above j) (edge j)) (k .verts - (i + 1))
         (λ j b. ap (λ (v : ℕ). only (ltb u v && joined (s .face) k u v) (entry s k u v ∷ [])) (place j)
         ∙ ap (λ (t : Bool). only (t && above j) (edge j)) (lt-ltb u (u + 1 + j) (omega arith)))))
@@ -126,7 +126,7 @@ module _ (s : Seen) (k : Solid) (sound : Sound s k) where
     pub higher : {w : ℕ} → w ≡ neighbours (s .face) k u → Higher s k u (w / 2 ^ (i + 1))
     unfolding upWord
     higher e =
-        let n : k .low + k .verts - u ≡ k .verts - (i + 1) = omega arith in
+        let n : k .vert0 + k .verts - u ≡ k .verts - (i + 1) = omega arith in
         record {
           small =
               rw (shifted e, n)
@@ -138,36 +138,36 @@ module _ (s : Seen) (k : Solid) (sound : Sound s k) where
   -- ---- the pairs of all edges
 
   -- a mask has no faces beyond the solid's
-  all-faces : (u v : ℕ) → entryHits (k .other) (entry s k u v) ≡ edgeHits s k u v
+  all-faces : (u v : ℕ) → entryHits (k .other0) (entry s k u v) ≡ edgeHits s k u v
   unfolding entryHits edgeMask
   all-faces u v =
       let w : ℕ = edgeMask s k u v in
-      let g : ℕ → List Hit = λ i. maskHit (testBit w i) u v (k .other + 1 + i) in
+      let g : ℕ → List Hit = λ i. maskHit (testBit w i) u v (k .other0 + 1 + i) in
       let d : k .others + (width - k .others) ≡ width = omega (arith, sound .other .1) in
       let small : w < 2 ^ k .others = mask-lt _ (k .others) in
       ap (upTo g) (sym d) ∙ upTo-join g (k .others) (width - k .others)
       ∙ ap (λ (l : List Hit). upTo g (k .others) ++ l)
-      (upTo-none _ (width - k .others) (λ j b. ap (λ (t : Bool). maskHit t u v (k .other + 1 + (k .others + j)))
+      (upTo-none _ (width - k .others) (λ j b. ap (λ (t : Bool). maskHit t u v (k .other0 + 1 + (k .others + j)))
       (test-beyond (k .others) (k .others + j) small (omega arith))))
       ∙ append-nil (upTo g (k .others)) ∙ edge-hits s k u v refl
 
-  pub edges-hits : each (entryHits (k .other)) (solidEdges s k) ≡ solidHits s k
+  pub edges-hits : each (entryHits (k .other0)) (solidEdges s k) ≡ solidHits s k
   unfolding solidEdges solidHits vertexEdges vertexHits pairHits
   edges-hits =
-      let g : Entry → List Hit = entryHits (k .other) in
-      each-upTo g (λ i. vertexEdges s k (k .low + 1 + i)) (k .verts)
+      let g : Entry → List Hit = entryHits (k .other0) in
+      each-upTo g (λ i. vertexEdges s k (k .vert0 + 1 + i)) (k .verts)
       ∙ upTo-same _ _ (k .verts)
       (λ i b. each-upTo g _ (k .verts)
       ∙ upTo-same _ _ (k .verts)
-      (λ m c. each-only g (ltb (k .low + 1 + i) (k .low + 1 + m) && joined (s .face) k (k .low + 1 + i) (k .low + 1 + m))
-      (entry s k (k .low + 1 + i) (k .low + 1 + m) ∷ [])
-      ∙ ap (only (ltb (k .low + 1 + i) (k .low + 1 + m) && joined (s .face) k (k .low + 1 + i) (k .low + 1 + m)))
-      (each-one g (entry s k (k .low + 1 + i) (k .low + 1 + m)) ∙ all-faces (k .low + 1 + i) (k .low + 1 + m))))
+      (λ m c. each-only g (ltb (k .vert0 + 1 + i) (k .vert0 + 1 + m) && joined (s .face) k (k .vert0 + 1 + i) (k .vert0 + 1 + m))
+      (entry s k (k .vert0 + 1 + i) (k .vert0 + 1 + m) ∷ [])
+      ∙ ap (only (ltb (k .vert0 + 1 + i) (k .vert0 + 1 + m) && joined (s .face) k (k .vert0 + 1 + i) (k .vert0 + 1 + m)))
+      (each-one g (entry s k (k .vert0 + 1 + i) (k .vert0 + 1 + m)) ∙ all-faces (k .vert0 + 1 + i) (k .vert0 + 1 + m))))
 
   -- so a table of the solid's edges has the solid's part of the listing
   pub table-hits : (ends masks : List ℕ) (n : ℕ) → entriesIn ends masks n ≡ solidEdges s k →
-      tableHits (k .other) ends masks n ≡ solidHits s k
+      tableHits (k .other0) ends masks n ≡ solidHits s k
   unfolding entriesIn
   table-hits ends masks n e =
-      upTo-same _ _ n (λ j b. sym (each-one (entryHits (k .other)) (entryIn ends masks j)))
-      ∙ sym (each-upTo (entryHits (k .other)) (λ j. entryIn ends masks j ∷ []) n) ∙ ap (each (entryHits (k .other))) e ∙ edges-hits
+      upTo-same _ _ n (λ j b. sym (each-one (entryHits (k .other0)) (entryIn ends masks j)))
+      ∙ sym (each-upTo (entryHits (k .other0)) (λ j. entryIn ends masks j ∷ []) n) ∙ ap (each (entryHits (k .other0))) e ∙ edges-hits

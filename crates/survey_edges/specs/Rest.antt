@@ -8,14 +8,14 @@ use lib.Count.{trailingZeros}
 use lib.ListN.{length}
 use Rattle.laws.specs.Walk.{places, places-none, walk-turn}
 use Rattle.question_listing.specs.Hits.{Hit}
-use Rattle.question_listing.specs.Pour.{Pours, poured, stepped, maskHits}
+use Rattle.question_listing.specs.WritePairs.{WritesPairs, pairsWritten, stepped, maskHits}
 use Rattle.survey_edges.specs.Table.{each}
 use Rattle.survey_edges.specs.Runs.{each-place}
 
 -- l is left of whole once d has become d₁, and n pairs are behind
 pub record Rest (l whole : List Hit) (from seen : ℕ) (d d₁ : List ℕ) (n : ℕ) : Type 0 where
   pub count : n + length l ≡ seen + length whole
-  pub held : poured d₁ from n l ≡ poured d from seen whole
+  pub held : pairsWritten d₁ from n l ≡ pairsWritten d from seen whole
   pub long : length d₁ ≡ length d
 
 -- the faces of the bits of w
@@ -30,7 +30,7 @@ module _ (u v first : ℕ) where
   rest-start {w} {from} {seen} d h =
       record {
         count = ap (λ (l : List Hit). seen + length l) (sym (bits-hits h));
-        held = ap (poured d from seen) (sym (bits-hits h));
+        held = ap (pairsWritten d from seen) (sym (bits-hits h));
         long = refl;
       }
 
@@ -39,7 +39,7 @@ module _ (u v first : ℕ) where
       Rest (bitHits u v first w) whole from seen d d₁ n → d₂ ≡ stepped d₁ from n (record { low = u; high = v; face = f }) →
       length d₂ ≡ length d₁ →
       Rest (bitHits u v first (bitAnd w (w - 1))) whole from seen d d₂ (n + 1)
-  unfolding each poured
+  unfolding each pairsWritten
   rest-turn w {whole} {from} {seen} {n} {f} {d} {d₁} {d₂} some h ef s e l =
       let t = walk-turn 64 w some h in
       let g : List ℕ → List Hit = each (λ t. record { low = u; high = v; face = first + 1 + t } ∷ []) in
@@ -47,20 +47,20 @@ module _ (u v first : ℕ) where
       record {
         count = omega (arith, s .count, ap length turn);
         held =
-            ap (λ (x : List ℕ). poured x from (n + 1) (bitHits u v first (bitAnd w (w - 1))))
+            ap (λ (x : List ℕ). pairsWritten x from (n + 1) (bitHits u v first (bitAnd w (w - 1))))
             (e ∙ ap (λ (y : ℕ). stepped d₁ from n (record { low = u; high = v; face = y })) ef)
-            ∙ ap (poured d₁ from n) (sym turn) ∙ s .held;
+            ∙ ap (pairsWritten d₁ from n) (sym turn) ∙ s .held;
         long = l ∙ s .long;
       }
 
   pub rest-end : {w : ℕ} {whole : List Hit} {from seen n : ℕ} {d d₁ : List ℕ} → w ≡ 0 → Rest (bitHits u v first w) whole from seen d d₁ n →
-      Pours whole from seen d d₁ n
-  unfolding each poured
+      WritesPairs whole from seen d d₁ n
+  unfolding each pairsWritten
   rest-end {w} {whole} {from} {seen} {n} {d} {d₁} e s =
       let none : bitHits u v first w ≡ [] =
       ap (bitHits u v first) e ∙ ap (each (λ t. record { low = u; high = v; face = first + 1 + t } ∷ [])) (places-none 64 0) in
       record {
         count = omega (arith, s .count, ap length none);
-        held = sym (ap (poured d₁ from n) none) ∙ s .held;
+        held = sym (ap (pairsWritten d₁ from n) none) ∙ s .held;
         long = s .long;
       }

@@ -52,14 +52,14 @@ some-counted P g h (x ∷ xs) (inr s) = go (g x) (some-counted P g h xs s)
     go true l = omega arith
     go false l = l
 
-pub two-faces : (face : ℕ → Face) (k : Solid) → Closed (run face (k .first + 1) (k .count)) → (i j : ℕ) → i < j → joined face k i j ≡ true →
-    2 ≤ count (hasEdge (edgeOf i j)) (run face (k .first + 1) (k .count))
+pub two-faces : (face : ℕ → Face) (k : Solid) → Closed (run face (k .face0 + 1) (k .faces)) → (i j : ℕ) → i < j → joined face k i j ≡ true →
+    2 ≤ count (hasEdge (edgeOf i j)) (run face (k .face0 + 1) (k .faces))
 unfolding joined
 two-faces face k closed i j lt h =
-    let own : List Face = run face (k .first + 1) (k .count) in
+    let own : List Face = run face (k .face0 + 1) (k .faces) in
     let n : ℕ = count (hasEdge (edgeOf i j)) own in
     let in-one : Some (λ f. hasBoth i j f ≡ true) own =
-    any-iff (λ f. hasBoth i j f ≡ true) face (λ f. hasBoth i j (face f)) (k .first + 1) (k .first + 1 + k .count) (k .count) (omega arith)
+    any-iff (λ f. hasBoth i j f ≡ true) face (λ f. hasBoth i j (face f)) (k .face0 + 1) (k .face0 + 1 + k .faces) (k .faces) (omega arith)
     (λ f. (λ x. x, λ x. x)) .0 h in
     let even : n % 2 ≡ 0 = sym (oddN-mod n) ∙ ap digit (odd-count (hasEdge (edgeOf i j)) own ∙ closed (edgeOf i j)) in
     omega (arith, some-counted (λ f. hasBoth i j f ≡ true) (hasEdge (edgeOf i j)) (has-edge i j lt) own in-one)

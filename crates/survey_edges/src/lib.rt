@@ -9,7 +9,7 @@ use pierce_masks::Mask;
 use scene::Scene;
 
 pub mod first;
-pub mod pour;
+pub mod pairs;
 
 // The edges of a solid that a table has room for: a face has three, and each lies in two faces at least.
 pub const MOST_EDGES: usize = 3 * Scene::MOST_FACES / 2;

@@ -17,7 +17,7 @@ use Rattle.scene.specs.Faces.{Vertex}
 use Rattle.scene_edges.specs.Edges.{joined}
 use Rattle.scene.specs.declared.Solid.{Solid}
 use Rattle.pierce_masks.specs.Faces.{isOdd}
-use Rattle.question_listing.specs.Hits.{Seen, Own, isInside}
+use Rattle.question_listing.specs.Hits.{PierceView, Own, enclosedVertex}
 use Rattle.survey_edges.specs.Table.{Entry, entryIn, entriesIn}
 
 -- p passes for one of the list
@@ -39,9 +39,9 @@ pub record Marked (low n : ℕ) (l : List Entry) (odds : List ℕ) : Type 0 wher
   pub at : (u : ℕ) → Vertex low (low + n) u → getD odds u 0 ≡ maskOf (λ m. anyIn (marks u (low + 1 + m)) l) 64
 
 -- an edge's oddness is that of its ends' enclosure
-abbrev pub AreOdds : (s : Seen) (k : Solid) → List ℕ → Type 0
-AreOdds s k odds = (u m : ℕ) → Own s k u → m < k .verts → joined (s .face) k u (k .low + 1 + m) ≡ true →
-    testBit (getD odds u 0) m ≡ isInside s k u ⊕ isInside s k (k .low + 1 + m)
+abbrev pub AreOdds : (s : PierceView) (k : Solid) → List ℕ → Type 0
+AreOdds s k odds = (u m : ℕ) → Own s k u → m < k .verts → joined (s .face) k u (k .vert0 + 1 + m) ≡ true →
+    testBit (getD odds u 0) m ≡ enclosedVertex s k u ⊕ enclosedVertex s k (k .vert0 + 1 + m)
 
 -- one entry more
 pub record MarksEntry (low n : ℕ) (e : Entry) (before after : List ℕ) : Type 0 where

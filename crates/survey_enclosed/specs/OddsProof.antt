@@ -15,7 +15,7 @@ use Rattle.scene.specs.Faces.{isCorner, hasBoth}
 use Rattle.scene_edges.specs.Edges.{joined}
 use Rattle.scene.specs.declared.Solid.{Solid}
 use Rattle.pierce_masks.specs.Faces.{isOdd}
-use Rattle.question_listing.specs.Hits.{Seen, Own, edgeMask, isInside}
+use Rattle.question_listing.specs.Hits.{PierceView, Own, edgeMask, enclosedVertex}
 use Rattle.survey_edges.specs.Table.{Entry}
 use Rattle.survey_edges.specs.Edges.{entry, vertexEdges, solidEdges}
 use Rattle.survey_enclosed.specs.Ready.{Ready, across}
@@ -65,27 +65,27 @@ and-none : (a b : Bool) → b ≡ false → (a && b) ≡ false
 and-none true b e = e
 and-none false b e = refl
 
-module _ (s : Seen) (k : Solid) where
+module _ (s : PierceView) (k : Solid) where
   -- no edge passes
   none-of : (u v : ℕ) → ((x y : ℕ) → x < y → marks u v (entry s k x y) ≡ false) → anyIn (marks u v) (solidEdges s k) ≡ false
   unfolding solidEdges vertexEdges
   none-of u v h =
       any-nowhere (marks u v) _ (k .verts)
       (λ i b. any-nowhere (marks u v) _ (k .verts)
-      (λ m c. one-or-none (marks u v) (entry s k (k .low + 1 + i) (k .low + 1 + m))
-      (ltb (k .low + 1 + i) (k .low + 1 + m) && joined (s .face) k (k .low + 1 + i) (k .low + 1 + m))
-      (λ e. h (k .low + 1 + i) (k .low + 1 + m)
-      (ltb-true (k .low + 1 + i) (k .low + 1 + m) (and-left (ltb (k .low + 1 + i) (k .low + 1 + m)) _ e)))))
+      (λ m c. one-or-none (marks u v) (entry s k (k .vert0 + 1 + i) (k .vert0 + 1 + m))
+      (ltb (k .vert0 + 1 + i) (k .vert0 + 1 + m) && joined (s .face) k (k .vert0 + 1 + i) (k .vert0 + 1 + m))
+      (λ e. h (k .vert0 + 1 + i) (k .vert0 + 1 + m)
+      (ltb-true (k .vert0 + 1 + i) (k .vert0 + 1 + m) (and-left (ltb (k .vert0 + 1 + i) (k .vert0 + 1 + m)) _ e)))))
 
   -- the edge of u and v passes
   found : (u v : ℕ) → Own s k u → Own s k v → u < v → joined (s .face) k u v ≡ true → isOdd (edgeMask s k u v) ≡ true →
       anyIn (marks u v) (solidEdges s k) ≡ true
   unfolding solidEdges vertexEdges marks
   found u v hu hv l j o =
-      let i : ℕ = u - (k .low + 1) in
-      let m : ℕ = v - (k .low + 1) in
-      let eu : k .low + 1 + i ≡ u = omega arith in
-      let ev : k .low + 1 + m ≡ v = omega arith in
+      let i : ℕ = u - (k .vert0 + 1) in
+      let m : ℕ = v - (k .vert0 + 1) in
+      let eu : k .vert0 + 1 + i ≡ u = omega arith in
+      let ev : k .vert0 + 1 + m ≡ v = omega arith in
       any-found (marks u v) _ i (k .verts) (omega arith)
       (any-found (marks u v) _ m (k .verts) (omega arith)
       (ap₂ (λ (x y : ℕ). anyIn (marks u v) (only (ltb x y && joined (s .face) k x y) (entry s k x y ∷ []))) eu ev
@@ -111,8 +111,8 @@ module _ (s : Seen) (k : Solid) where
   pub joined-back : (u v : ℕ) → joined (s .face) k u v ≡ joined (s .face) k v u
   unfolding joined hasBoth
   joined-back u v i =
-      anyOf (λ f. law (all λ a. all λ b. a && b ≐ b && a) tt (isCorner u (s .face f)) (isCorner v (s .face f)) i) (k .first + 1)
-      (k .first + 1 + k .count)
+      anyOf (λ f. law (all λ a. all λ b. a && b ≐ b && a) tt (isCorner u (s .face f)) (isCorner v (s .face f)) i) (k .face0 + 1)
+      (k .face0 + 1 + k .faces)
 
   marks-back : (u v : ℕ) → _≡_ {A = Entry → Bool} (marks u v) (marks v u)
   unfolding marks
@@ -125,25 +125,26 @@ module _ (s : Seen) (k : Solid) where
   unfolding marks
   same-none u v x y e l = and-none (isOdd (edgeMask s k x y)) _ (unmatched x y u v (λ p q. omega arith) (λ p q. omega arith))
 
-  pub odds-are : Ready s k → {odds : List ℕ} → Marked (k .low) (k .verts) (solidEdges s k) odds → AreOdds s k odds
+  pub odds-are : Ready s k → {odds : List ℕ} → Marked (k .vert0) (k .verts) (solidEdges s k) odds → AreOdds s k odds
   odds-are r {odds} m u j hu h e =
       ap (λ (w : ℕ). testBit w j) (m .at u hu)
-      ∙ mask-test (λ i. anyIn (marks u (k .low + 1 + i)) (solidEdges s k)) 64 j (omega (arith, r .within .sound .vertices .0))
+      ∙ mask-test (λ i. anyIn (marks u (k .vert0 + 1 + i)) (solidEdges s k)) 64 j (omega (arith, r .within .sound .vertices .0))
       ∙ by (decLt u v) (ℕ-discrete u v)
     where
       v : ℕ
-      v = k .low + 1 + j
+      v = k .vert0 + 1 + j
 
       hv : Own s k v
       hv = (omega arith, omega arith)
 
-      by : Dec (u < v) → Dec (u ≡ v) → anyIn (marks u v) (solidEdges s k) ≡ isInside s k u ⊕ isInside s k v
+      by : Dec (u < v) → Dec (u ≡ v) → anyIn (marks u v) (solidEdges s k) ≡ enclosedVertex s k u ⊕ enclosedVertex s k v
       by (yes l) d = edge-odd u v hu hv l e ∙ across s k r u v hu hv (omega arith)
       by (no l) (yes d) =
           none-of u v (λ x y b. same-none u v x y d b)
-          ∙ sym (ap (λ (w : ℕ). isInside s k u ⊕ isInside s k w) (sym d) ∙ law (all λ a. a ⊕ a ≐ false) tt (isInside s k u))
+          ∙ sym (ap (λ (w : ℕ). enclosedVertex s k u ⊕ enclosedVertex s k w) (sym d) ∙ law (all λ a. a ⊕ a ≐ false) tt
+              (enclosedVertex s k u))
       by (no l) (no d) =
           ap (λ (p : Entry → Bool). anyIn p (solidEdges s k)) (marks-back u v)
           ∙ edge-odd v u hv hu (omega arith) (sym (joined-back u v) ∙ e)
           ∙ across s k r v u hv hu (omega arith)
-          ∙ law (all λ a. all λ b. a ⊕ b ≐ b ⊕ a) tt (isInside s k v) (isInside s k u)
+          ∙ law (all λ a. all λ b. a ⊕ b ≐ b ⊕ a) tt (enclosedVertex s k v) (enclosedVertex s k u)

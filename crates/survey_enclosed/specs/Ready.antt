@@ -10,25 +10,25 @@ use Rattle.scene.specs.declared.Solid as own
 use Rattle.pierce_masks.specs.Faces.{isOdd}
 use Rattle.pierce.specs.Parity.{Solid}
 use Rattle.pierce.specs.Scene.{scene-enclosed}
-use Rattle.question_listing.specs.Hits.{Seen, Own, edgeMask, isInside}
+use Rattle.question_listing.specs.Hits.{PierceView, Own, edgeMask, enclosedVertex}
 use Rattle.survey_edges.specs.Edges.{Within}
 
-module _ (s : Seen) (k : own.Solid) where
+module _ (s : PierceView) (k : own.Solid) where
   -- the other solid's vertices are the points above `low`, up to `high`
   pub record Ready : Type 0 where
     pub within : Within s k
     pub low : ℕ
     pub high : ℕ
-    pub closed : Solid (s .points) low high (run (s .face) (k .other + 1) (k .others))
+    pub closed : Solid (s .points) low high (run (s .face) (k .other0 + 1) (k .others))
     pub apart : (u : ℕ) → Own s k u → Vertex low high u → ⊥
     pub far : Vertex low high (s .points) → ⊥
-    pub before : k .low + k .verts < s .points
+    pub before : k .vert0 + k .verts < s .points
 
   -- exactly one end of an edge of an odd mask is enclosed
-  pub across : Ready → (u v : ℕ) → Own s k u → Own s k v → u ≢ v → isOdd (edgeMask s k u v) ≡ isInside s k u ⊕ isInside s k v
-  unfolding edgeMask isInside
+  pub across : Ready → (u v : ℕ) → Own s k u → Own s k v → u ≢ v → isOdd (edgeMask s k u v) ≡ enclosedVertex s k u ⊕ enclosedVertex s k v
+  unfolding edgeMask enclosedVertex
   across r u v hu hv d =
-      scene-enclosed (s .points) (s .row) (r .within .sound .weighted) (s .face) (k .other) (k .others) (r .closed) u v
+      scene-enclosed (s .points) (s .row) (r .within .sound .weighted) (s .face) (k .other0) (k .others) (r .closed) u v
       (record {
         u-in = omega (arith, r .before);
         v-in = omega (arith, r .before);

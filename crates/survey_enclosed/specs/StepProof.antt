@@ -18,12 +18,12 @@ use Rattle.laws.specs.Walk.{First}
 use Rattle.survey_links.specs.Bits.{test-or, test-and, test-xor, test-one, same-bits, word-first}
 use Rattle.scene_edges.specs.Edges.{joined, neighbours}
 use Rattle.scene.specs.declared.Solid.{Solid}
-use Rattle.question_listing.specs.Hits.{Seen, Own, isInside}
+use Rattle.question_listing.specs.Hits.{PierceView, Own, enclosedVertex}
 use Rattle.survey_edges.specs.Edges.{AreLinks}
 use Rattle.survey_edges.specs.Order.{neighbours-small}
 use Rattle.survey_enclosed.specs.Ready.{Ready}
 use Rattle.survey_enclosed.specs.Odds.{AreOdds}
-use Rattle.survey_enclosed.specs.Walk.{Reached, passed, fresh, turned, stepOf}
+use Rattle.survey_enclosed.specs.Walk.{Reached, passed, fresh, flipped, stepOf}
 use Rattle.survey_enclosed.specs.WalkProof.{or-false}
 use Rattle.survey_enclosed.specs.declared.Spread.{Spread}
 
@@ -49,21 +49,21 @@ step-law false true o true false h = rw (h refl refl)
 step-law false true o false true h = rw (h refl refl)
 step-law false true o false false h = rw (h refl refl)
 
-turned-bit : (new odd m : ℕ) (c : Bool) → testBit (turned new odd c) m ≡ cond c (testBit new m ⊕ testBit odd m) (testBit odd m)
-turned-bit new odd m true = test-xor new odd m
-turned-bit new odd m false = refl
+flipped-bit : (new odd m : ℕ) (c : Bool) → testBit (flipped new odd c) m ≡ cond c (testBit new m ⊕ testBit odd m) (testBit odd m)
+flipped-bit new odd m true = test-xor new odd m
+flipped-bit new odd m false = refl
 
-turned-small : (n new odd : ℕ) (c : Bool) → new < 2 ^ n → odd < 2 ^ n → turned new odd c < 2 ^ n
-turned-small n new odd true a b = xor-lt n new odd a b
-turned-small n new odd false a b = b
+flipped-small : (n new odd : ℕ) (c : Bool) → new < 2 ^ n → odd < 2 ^ n → flipped new odd c < 2 ^ n
+flipped-small n new odd true a b = xor-lt n new odd a b
+flipped-small n new odd false a b = b
 
-module _ (s : Seen) (k : Solid) (ready : Ready s k) (links odds : List ℕ) (are-links : AreLinks s k links)
+module _ (s : PierceView) (k : Solid) (ready : Ready s k) (links odds : List ℕ) (are-links : AreLinks s k links)
     (are-odds : AreOdds s k odds) (t : Spread) (r : Reached s k t) (some : 0 < bitAnd (t .known) (t .left)) where
   abbrev i : ℕ
   i = passed t
 
   abbrev u : ℕ
-  u = k .low + 1 + i
+  u = k .vert0 + 1 + i
 
   abbrev new : ℕ
   new = fresh (getD links u 0) t
@@ -86,10 +86,10 @@ module _ (s : Seen) (k : Solid) (ready : Ready s k) (links odds : List ℕ) (are
   link-small : getD links u 0 < 2 ^ k .verts
   link-small = rw (are-links u own) (neighbours-small s k (ready .within .sound) u)
 
-  link-bit : (m : ℕ) → m < k .verts → testBit (getD links u 0) m ≡ joined (s .face) k u (k .low + 1 + m)
+  link-bit : (m : ℕ) → m < k .verts → testBit (getD links u 0) m ≡ joined (s .face) k u (k .vert0 + 1 + m)
   unfolding neighbours
   link-bit m h =
-      ap (λ (w : ℕ). testBit w m) (are-links u own) ∙ mask-test (λ m. joined (s .face) k u (k .low + 1 + m)) 64 m (omega (arith, few))
+      ap (λ (w : ℕ). testBit w m) (are-links u own) ∙ mask-test (λ m. joined (s .face) k u (k .vert0 + 1 + m)) 64 m (omega (arith, few))
 
   new-small : new < 2 ^ k .verts
   new-small =
@@ -102,7 +102,7 @@ module _ (s : Seen) (k : Solid) (ready : Ready s k) (links odds : List ℕ) (are
       ∙ ap (λ (b : Bool). b ⊕ testBit (t .known) m) (test-or (getD links u 0) (t .known) m)
 
   abbrev enclosed : ℕ → Bool
-  enclosed m = isInside s k (k .low + 1 + m)
+  enclosed m = enclosedVertex s k (k .vert0 + 1 + m)
 
   known-here : testBit (t .inside) i ≡ enclosed i
   known-here = r .right i here ∙ ap (λ (b : Bool). b && enclosed i) (both .0)
@@ -118,12 +118,12 @@ module _ (s : Seen) (k : Solid) (ready : Ready s k) (links odds : List ℕ) (are
       left-bit m h ∙ ap₂ _⊕_ (r .rest m h e) (ne-eqb i m (λ q. true≢false (sym (both .0) ∙ ap (testBit (t .known)) q ∙ e)))
 
   right-kept : (m : ℕ) → m < k .verts →
-      testBit (bitOr (t .inside) (turned new (bitAnd new (getD odds u 0)) (testBit (t .inside) i))) m
+      testBit (bitOr (t .inside) (flipped new (bitAnd new (getD odds u 0)) (testBit (t .inside) i))) m
       ≡ (testBit (bitOr (t .known) new) m && enclosed m)
   right-kept m h =
-      test-or (t .inside) (turned new (bitAnd new (getD odds u 0)) (testBit (t .inside) i)) m
+      test-or (t .inside) (flipped new (bitAnd new (getD odds u 0)) (testBit (t .inside) i)) m
       ∙ ap₂ _||_ (r .right m h)
-      (turned-bit new (bitAnd new (getD odds u 0)) m (testBit (t .inside) i)
+      (flipped-bit new (bitAnd new (getD odds u 0)) m (testBit (t .inside) i)
       ∙ ap₂ (λ (x y : Bool). cond (testBit (t .inside) i) (x ⊕ y) y) (new-bit m)
       (test-and new (getD odds u 0) m ∙ ap (λ (b : Bool). b && testBit (getD odds u 0) m) (new-bit m))
       ∙ ap (λ (c : Bool). cond c (n ⊕ (n && o)) (n && o)) known-here)
@@ -137,20 +137,20 @@ module _ (s : Seen) (k : Solid) (ready : Ready s k) (links odds : List ℕ) (are
       o : Bool
       o = testBit (getD odds u 0) m
 
-  pub step-reached : Reached s k (stepOf links odds (k .low) t)
+  pub step-reached : Reached s k (stepOf links odds (k .vert0) t)
   unfolding stepOf
   step-reached =
       record {
         inside-in =
-            or-lt (k .verts) (t .inside) (turned new (bitAnd new (getD odds u 0)) (testBit (t .inside) i)) (r .inside-in)
-            (turned-small (k .verts) new (bitAnd new (getD odds u 0)) (testBit (t .inside) i) new-small odd-small);
+            or-lt (k .verts) (t .inside) (flipped new (bitAnd new (getD odds u 0)) (testBit (t .inside) i)) (r .inside-in)
+            (flipped-small (k .verts) new (bitAnd new (getD odds u 0)) (testBit (t .inside) i) new-small odd-small);
         known-in = or-lt (k .verts) (t .known) new (r .known-in) new-small;
         left-in = xor-lt (k .verts) (t .left) (2 ^ i) (r .left-in) (pow-lt here);
         rest = λ m h e. rest-kept m h (or-false (testBit (t .known) m) (testBit new m) (sym (test-or (t .known) new m) ∙ e));
         right = right-kept;
       }
 
-  pub step-less : stepOf links odds (k .low) t .left < t .left
+  pub step-less : stepOf links odds (k .vert0) t .left < t .left
   unfolding stepOf
   step-less =
       let e : bitAnd (t .left) (2 ^ i) ≡ 2 ^ i =

@@ -13,7 +13,7 @@ use Rattle.laws.specs.Mask.{maskOf, mask-test, mask-same, testBit}
 use Rattle.laws.specs.Walk.{First}
 use Rattle.survey_links.specs.Bits.{test-or, test-and, test-one, test-zero, word-bits, word-first}
 use Rattle.scene.specs.declared.Solid.{Solid}
-use Rattle.question_listing.specs.Hits.{Seen, isInside}
+use Rattle.question_listing.specs.Hits.{PierceView, enclosedVertex}
 use Rattle.survey_enclosed.specs.Walk.{insideWord, Reached, Started}
 use Rattle.survey_enclosed.specs.declared.Spread.{Spread}
 
@@ -59,7 +59,7 @@ told-yes x y e = rw e
 pub told-no : (x y : ℕ) {o : Bool} → o ≡ false → y ≡ cond o x y
 told-no x y e = rw e
 
-module _ (s : Seen) (k : Solid) where
+module _ (s : PierceView) (k : Solid) where
   -- ---- at first nothing is known, and all is left
 
   pub reached-none : Reached s k (record { inside = 0; known = 0; left = 2 ^ k .verts - 1 })
@@ -69,7 +69,7 @@ module _ (s : Seen) (k : Solid) where
         known-in = pow-pos (k .verts);
         left-in = all-small (k .verts);
         rest = λ m h e. all-set (k .verts) m h;
-        right = λ m h. test-zero m ∙ sym (ap (λ (b : Bool). b && isInside s k (k .low + 1 + m)) (test-zero m));
+        right = λ m h. test-zero m ∙ sym (ap (λ (b : Bool). b && enclosedVertex s k (k .vert0 + 1 + m)) (test-zero m));
       }
 
   -- in the end all is known
@@ -77,8 +77,8 @@ module _ (s : Seen) (k : Solid) where
   unfolding insideWord
   reached-all {t} r e =
       sym (word-bits (k .verts) (r .inside-in))
-      ∙ mask-same (testBit (t .inside)) (λ m. isInside s k (k .low + 1 + m)) (k .verts)
-      (λ m h. r .right m h ∙ ap (λ (b : Bool). b && isInside s k (k .low + 1 + m)) (known m h (testBit (t .known) m) refl))
+      ∙ mask-same (testBit (t .inside)) (λ m. enclosedVertex s k (k .vert0 + 1 + m)) (k .verts)
+      (λ m h. r .right m h ∙ ap (λ (b : Bool). b && enclosedVertex s k (k .vert0 + 1 + m)) (known m h (testBit (t .known) m) refl))
     where
       known : (m : ℕ) → m < k .verts → (b : Bool) → testBit (t .known) m ≡ b → testBit (t .known) m ≡ true
       known m h true q = q
@@ -91,7 +91,7 @@ module _ (s : Seen) (k : Solid) where
 
   pub started-asked : (t : Spread) {i b : ℕ} {o : Bool} (inside : ℕ) → k .verts ≤ 64 → Reached s k t → 0 < t .left →
       i ≡ trailingZeros 64 (t .left) → b ≡ 2 ^ i →
-      o ≡ isInside s k (k .low + 1 + i) → inside ≡ cond o (bitOr (t .inside) b) (t .inside) →
+      o ≡ enclosedVertex s k (k .vert0 + 1 + i) → inside ≡ cond o (bitOr (t .inside) b) (t .inside) →
       Started s k t (record { inside = inside; known = bitOr (t .known) b; left = t .left })
   started-asked t {i} {b} {o} inside few r some ei eb eo en =
       let f : First (testBit (t .left)) 0 (k .verts) i = rw ei (word-first 64 (k .verts) few (r .left-in) some) in
@@ -106,10 +106,10 @@ module _ (s : Seen) (k : Solid) where
           rest = λ m h e. r .rest m h (or-false (testBit (t .known) m) (testBit b m) (sym (test-or (t .known) b m) ∙ e));
           right = λ m h.
               ap (λ (w : ℕ). testBit w m) en ∙ asked-bit o m ∙ ap₂ (λ (x y : Bool). x || (o && y)) (r .right m h) (bit m h)
-              ∙ asked-law (testBit (t .known) m) (isInside s k (k .low + 1 + m)) o (eqb i m)
-              (λ q. eo ∙ ap (λ (j : ℕ). isInside s k (k .low + 1 + j)) (eqb-true i m q))
-              ∙ ap (λ (y : Bool). (testBit (t .known) m || y) && isInside s k (k .low + 1 + m)) (sym (bit m h))
-              ∙ ap (λ (y : Bool). y && isInside s k (k .low + 1 + m)) (sym (test-or (t .known) b m));
+              ∙ asked-law (testBit (t .known) m) (enclosedVertex s k (k .vert0 + 1 + m)) o (eqb i m)
+              (λ q. eo ∙ ap (λ (j : ℕ). enclosedVertex s k (k .vert0 + 1 + j)) (eqb-true i m q))
+              ∙ ap (λ (y : Bool). (testBit (t .known) m || y) && enclosedVertex s k (k .vert0 + 1 + m)) (sym (bit m h))
+              ∙ ap (λ (y : Bool). y && enclosedVertex s k (k .vert0 + 1 + m)) (sym (test-or (t .known) b m));
         };
         same = refl;
         some = set-some i (bitAnd (bitOr (t .known) b) (t .left))

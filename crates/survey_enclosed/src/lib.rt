@@ -5,18 +5,18 @@ ghost use Prim.Native.Nat.{_+_, _-_, _^_, _<_};
 ghost use Rattle.laws.specs.Mask.{testBit};
 ghost use Rattle.scene.specs.Faces.{Vertex};
 ghost use Rattle.survey_links.specs.Links.{words};
-ghost use Rattle.question_listing.specs.Hits.{seenIn, Sound, isInside};
+ghost use Rattle.question_listing.specs.Hits.{viewIn, Sound, enclosedVertex};
 ghost use Rattle.survey_edges.specs.Edges.{AreLinks};
-ghost use Rattle.survey_sides.specs.Lent.{Told};
+ghost use Rattle.survey_sides.specs.Lent.{SidesFilled};
 ghost use Rattle.survey_enclosed.specs.Ready.{Ready};
 ghost use Rattle.survey_enclosed.specs.Odds.{AreOdds};
-ghost use Rattle.survey_enclosed.specs.Walk.{insideWord, Reached, Started, passed, turned, stepOf};
+ghost use Rattle.survey_enclosed.specs.Walk.{insideWord, Reached, Started, passed, flipped, stepOf};
 use pierce_engine::Engine;
 use pierce_masks::is_odd;
 use scene::Corners;
 use scene::Rows;
 use scene::Solid;
-use survey_links::Words;
+use survey_links::VertexSets;
 use survey_sides::mask;
 
 pub mod odds;
@@ -43,20 +43,20 @@ fn has(w: u64, i: usize) -> bool
 }
 
 // By its mask toward the far point.
-fn is_inside(
+fn is_enclosed(
     engine: Engine,
     rows: &Rows,
     corners: &Corners,
     n: usize,
     k: Solid,
-    words: &survey_sides::words::Words,
+    words: &survey_sides::point_masks::PointMasks,
     u: usize,
 ) -> bool
-    requires solid { ⌜ Sound (seenIn n (now rows) (now corners)) k × Vertex (k .low) (k .low + k .verts) u ⌝ }
-    requires sides { ⌜ Told (seenIn n (now rows) (now corners)) k (now words) ⌝ }
-    ensures { λ r. ⌜ r ≡ isInside (seenIn n (now (rows .entry)) (now (corners .entry))) k u ⌝ }
+    requires solid { ⌜ Sound (viewIn n (now rows) (now corners)) k × Vertex (k .vert0) (k .vert0 + k .verts) u ⌝ }
+    requires sides { ⌜ SidesFilled (viewIn n (now rows) (now corners)) k (now words) ⌝ }
+    ensures { λ r. ⌜ r ≡ enclosedVertex (viewIn n (now (rows .entry)) (now (corners .entry))) k u ⌝ }
 {
-    is_odd(mask(engine, rows, corners, words, n, u, n, k.other, k.others))
+    is_odd(mask(engine, rows, corners, words, n, u, n, k.other0, k.others))
 }
 
 // Where no vertex that is known is left, the lowest that is left is asked of the far point.
@@ -66,12 +66,12 @@ fn start(
     corners: &Corners,
     n: usize,
     k: Solid,
-    words: &survey_sides::words::Words,
+    words: &survey_sides::point_masks::PointMasks,
     t: Spread,
 ) -> Spread
-    requires solid { ⌜ Ready (seenIn n (now rows) (now corners)) k × Reached (seenIn n (now rows) (now corners)) k t × (0 < t .left) ⌝ }
-    requires sides { ⌜ Told (seenIn n (now rows) (now corners)) k (now words) ⌝ }
-    ensures { λ r. ⌜ Started (seenIn n (now (rows .entry)) (now (corners .entry))) k t r ⌝ }
+    requires solid { ⌜ Ready (viewIn n (now rows) (now corners)) k × Reached (viewIn n (now rows) (now corners)) k t × (0 < t .left) ⌝ }
+    requires sides { ⌜ SidesFilled (viewIn n (now rows) (now corners)) k (now words) ⌝ }
+    ensures { λ r. ⌜ Started (viewIn n (now (rows .entry)) (now (corners .entry))) k t r ⌝ }
 {
     let inside = t.inside;
     let known = t.known;
@@ -81,7 +81,7 @@ fn start(
     }
     let i = u64::trailing_zeros(left) as usize;
     let b = bit(i);
-    if is_inside(engine, rows, corners, n, k, words, k.low + 1 + i) {
+    if is_enclosed(engine, rows, corners, n, k, words, k.vert0 + 1 + i) {
         return Spread {
             inside: inside | b,
             known: known | b,
@@ -96,8 +96,8 @@ fn start(
 }
 
 // Of the fresh neighbours those that are enclosed: the odd ones, or the others where the vertex is enclosed itself.
-fn turned(fresh: u64, odd: u64, enclosed: bool) -> u64
-    ensures { λ r. ⌜ r ≡ turned fresh odd enclosed ⌝ }
+fn flipped(fresh: u64, odd: u64, enclosed: bool) -> u64
+    ensures { λ r. ⌜ r ≡ flipped fresh odd enclosed ⌝ }
 {
     if enclosed {
         return fresh ^ odd;
@@ -106,7 +106,7 @@ fn turned(fresh: u64, odd: u64, enclosed: bool) -> u64
 }
 
 // A vertex that is known and left makes its neighbours known, and is passed.
-fn step(links: &Words, odds: &Words, low: usize, t: Spread) -> Spread
+fn step(links: &VertexSets, odds: &VertexSets, low: usize, t: Spread) -> Spread
     requires { ⌜ (passed t < 64) × (low + 1 + passed t < words) ⌝ }
     ensures { λ r. ⌜ r ≡ stepOf (now (links .entry)) (now (odds .entry)) low t ⌝ }
 {
@@ -116,7 +116,7 @@ fn step(links: &Words, odds: &Words, low: usize, t: Spread) -> Spread
     let i = u64::trailing_zeros(known & left) as usize;
     let u = low + 1 + i;
     let fresh = (links[u] | known) ^ known;
-    let over = turned(fresh, fresh & odds[u], has(inside, i));
+    let over = flipped(fresh, fresh & odds[u], has(inside, i));
     Spread {
         inside: inside | over,
         known: known | fresh,
@@ -131,16 +131,16 @@ pub fn enclosed_word(
     corners: &Corners,
     n: usize,
     k: Solid,
-    links: &Words,
-    odds: &Words,
-    words: &survey_sides::words::Words,
+    links: &VertexSets,
+    odds: &VertexSets,
+    words: &survey_sides::point_masks::PointMasks,
 ) -> u64
-    requires solid { ⌜ Ready (seenIn n (now rows) (now corners)) k × AreLinks (seenIn n (now rows) (now corners)) k (now links)
-        × AreOdds (seenIn n (now rows) (now corners)) k (now odds) ⌝ }
-    requires sides { ⌜ Told (seenIn n (now rows) (now corners)) k (now words) ⌝ }
-    ensures { λ r. ⌜ r ≡ insideWord (seenIn n (now (rows .entry)) (now (corners .entry))) k ⌝ }
+    requires solid { ⌜ Ready (viewIn n (now rows) (now corners)) k × AreLinks (viewIn n (now rows) (now corners)) k (now links)
+        × AreOdds (viewIn n (now rows) (now corners)) k (now odds) ⌝ }
+    requires sides { ⌜ SidesFilled (viewIn n (now rows) (now corners)) k (now words) ⌝ }
+    ensures { λ r. ⌜ r ≡ insideWord (viewIn n (now (rows .entry)) (now (corners .entry))) k ⌝ }
 {
-    let low = k.low;
+    let low = k.vert0;
     let mut t = Spread {
         inside: 0,
         known: 0,

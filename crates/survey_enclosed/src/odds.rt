@@ -9,7 +9,7 @@ use pierce_masks::is_odd;
 use survey_edges::Ends;
 use survey_edges::Masks;
 use survey_edges::mask_at;
-use survey_links::Words;
+use survey_links::VertexSets;
 use survey_links::bit;
 use survey_links::clear;
 use survey_links::join;
@@ -21,7 +21,7 @@ fn wide(x: u16) -> usize
 }
 
 // The ends of edge j, where its mask is odd, are marked in each other's words.
-fn mark_entry(ends: &Ends, masks: &Masks, j: usize, low: usize, verts: usize, odds: &mut Words)
+fn mark_entry(ends: &Ends, masks: &Masks, j: usize, low: usize, verts: usize, odds: &mut VertexSets)
     requires { ⌜ (j < mostEdges) × (verts ≤ 64) × (low + verts < words) × (length (now odds) ≡ words) × EndsIn low verts
         (entryIn (now ends) (now masks) j) ⌝ }
     ensures { λ _. ⌜ MarksEntry low verts (entryIn (now (ends .entry)) (now (masks .entry)) j) (now (odds .entry)) (now (odds .exit)) ⌝ }
@@ -37,7 +37,7 @@ fn mark_entry(ends: &Ends, masks: &Masks, j: usize, low: usize, verts: usize, od
 }
 
 // The words of the vertices above low by the first n edges of the table.
-pub fn fill_odds(ends: &Ends, masks: &Masks, n: usize, low: usize, verts: usize, odds: &mut Words)
+pub fn fill_odds(ends: &Ends, masks: &Masks, n: usize, low: usize, verts: usize, odds: &mut VertexSets)
     requires room { ⌜ (n ≤ mostEdges) × (verts ≤ 64) × (low + verts < words) × (length (now odds) ≡ words) ⌝ }
     requires ends { ⌜ ((j : ℕ) → j < n → EndsIn low verts (entryIn (now ends) (now masks) j)) ⌝ }
     ensures { λ _. ⌜ Marked low verts (entriesIn (now (ends .entry)) (now (masks .entry)) n) (now (odds .exit)) ⌝ }

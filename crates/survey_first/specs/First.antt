@@ -9,7 +9,7 @@ use lib.Count.{trailingZeros}
 use Rattle.survey_links.specs.Bits.{word-first}
 use Rattle.scene.specs.declared.Solid.{Solid}
 use Rattle.laws.specs.Runs.{upTo}
-use Rattle.question_listing.specs.Hits.{Seen, Hit, Own, Sound, solidHits}
+use Rattle.question_listing.specs.Hits.{PierceView, Hit, Own, Sound, solidHits}
 use Rattle.question_listing.specs.First.{firstOf, first-left, first-right, first-found, first-end}
 use Rattle.question_listing.specs.declared.find.Found.{Found}
 use Rattle.question_listing.specs.declared.find.Found.the-variants.{Nothing, Pair}
@@ -19,23 +19,23 @@ use Rattle.survey_edges.specs.Edges.{Higher, entry, bitEdges, vertexEdges, soli
 use Rattle.survey_edges.specs.Order.{edges-hits}
 use Rattle.survey_masks.specs.Store.{edges-turn, edges-none}
 
-module _ (s : Seen) (k : Solid) where
+module _ (s : PierceView) (k : Solid) where
   -- the pairs of the edges l
   abbrev pub hitsOf : List Entry → List Hit
-  hitsOf = each (entryHits (k .other))
+  hitsOf = each (entryHits (k .other0))
 
   -- the pairs of the edges from the solid's first m vertices
   abbrev pub hitsTo : ℕ → List Hit
-  hitsTo = upTo (λ i. hitsOf (vertexEdges s k (k .low + 1 + i)))
+  hitsTo = upTo (λ i. hitsOf (vertexEdges s k (k .vert0 + 1 + i)))
 
   hits-all : Sound s k → hitsTo (k .verts) ≡ solidHits s k
   unfolding solidEdges
-  hits-all sound = sym (each-upTo (entryHits (k .other)) (λ i. vertexEdges s k (k .low + 1 + i)) (k .verts)) ∙ edges-hits s k sound
+  hits-all sound = sym (each-upTo (entryHits (k .other0)) (λ i. vertexEdges s k (k .vert0 + 1 + i)) (k .verts)) ∙ edges-hits s k sound
 
   -- the first of a vertex's pairs, where those before it have none; and none up to the last
   module _ (sound : Sound s k) where
     pub all-found : (i : ℕ) {o : Found} {a b f : ℕ} → i < k .verts → [] ≡ hitsTo i →
-        o ≡ firstOf (hitsOf (vertexEdges s k (k .low + 1 + i))) → o ≡ Pair a b f → Pair a b f ≡ firstOf (solidHits s k)
+        o ≡ firstOf (hitsOf (vertexEdges s k (k .vert0 + 1 + i))) → o ≡ Pair a b f → Pair a b f ≡ firstOf (solidHits s k)
     all-found i h e p q = first-found _ i (k .verts) h e p q ∙ ap firstOf (hits-all sound)
 
     pub all-end : {i : ℕ} → i ≤ k .verts → k .verts ≤ i → [] ≡ hitsTo i → Nothing ≡ firstOf (solidHits s k)
@@ -49,21 +49,21 @@ module _ (s : Seen) (k : Solid) where
   -- the lowest bit is a vertex
   pub left-own : (u w : ℕ) {h : ℕ} → Sound s k → Own s k u → Higher s k u h → w ≤ h → 0 < w → Own s k (u + 1 + trailingZeros 64 w)
   left-own u w sound own high l some =
-      let n : k .low + k .verts - u ≤ 64 = omega (arith, sound .vertices .0) in
-      let t = word-first 64 (k .low + k .verts - u) n (lt-of-le-of-lt l (high .small)) some .below in
+      let n : k .vert0 + k .verts - u ≤ 64 = omega (arith, sound .vertices .0) in
+      let t = word-first 64 (k .vert0 + k .verts - u) n (lt-of-le-of-lt l (high .small)) some .below in
       (omega arith, omega (arith, t))
 
   module _ (u w : ℕ) {v : ℕ} {o : Found} (some : 0 < w) (small : w < 2 ^ 64) (is-v : v ≡ u + 1 + trailingZeros 64 w)
-      (is-o : o ≡ firstOf (entryHits (k .other) (entry s k u v))) (left : Left u w) where
+      (is-o : o ≡ firstOf (entryHits (k .other0) (entry s k u v))) (left : Left u w) where
     abbrev here : List Hit
-    here = entryHits (k .other) (entry s k u v)
+    here = entryHits (k .other0) (entry s k u v)
 
     abbrev behind : List Hit
     behind = hitsOf (bitEdges s k u (bitAnd w (w - 1)))
 
     split : hitsOf (bitEdges s k u w) ≡ here ++ behind
     unfolding each
-    split = ap hitsOf (edges-turn s k u w some small) ∙ ap (λ (x : ℕ). entryHits (k .other) (entry s k u x) ++ behind) (sym is-v)
+    split = ap hitsOf (edges-turn s k u w some small) ∙ ap (λ (x : ℕ). entryHits (k .other0) (entry s k u x) ++ behind) (sym is-v)
 
     pub left-found : {a b f : ℕ} → o ≡ Pair a b f → Pair a b f ≡ firstOf (hitsOf (vertexEdges s k u))
     left-found e = first-left here behind is-o e ∙ ap firstOf (sym split) ∙ left

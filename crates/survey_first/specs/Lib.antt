@@ -1,4 +1,4 @@
 pub mod First
-pub mod Look
-pub mod Seek
+pub mod FirstLook
+pub mod FindFirst
 pub mod Still

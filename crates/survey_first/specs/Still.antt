@@ -18,7 +18,7 @@ use Rattle.scene_edges.specs.Edges.{joined}
 use Rattle.scene.specs.declared.Solid.{Solid}
 use Rattle.pierce_masks.specs.Faces.{isOdd}
 use Rattle.pierce.specs.Formula.{pierced}
-use Rattle.question_listing.specs.Hits.{Seen, Hit, Own, faceHits, edgeHits, pairHits, vertexHits, solidHits, edgeMask, isInside}
+use Rattle.question_listing.specs.Hits.{PierceView, Hit, Own, faceHits, edgeHits, pairHits, vertexHits, solidHits, edgeMask, enclosedVertex}
 use Rattle.survey_enclosed.specs.Ready.{Ready, across}
 use Rattle.survey_enclosed.specs.Odds.{AreOdds}
 use Rattle.survey_enclosed.specs.OddsProof.{joined-back}
@@ -42,18 +42,18 @@ passed-none : (b : Bool) (h : Hit) → [] ≡ only b (h ∷ []) → b ≡ false
 passed-none true h e = let z : _≡_ {A = ℕ} 0 1 = cc in absurd (omega arith)
 passed-none false h e = refl
 
-module _ (s : Seen) (k : Solid) (none : [] ≡ solidHits s k) where
+module _ (s : PierceView) (k : Solid) (none : [] ≡ solidHits s k) where
   -- ---- the mask of an edge
 
   edge-none : (u v : ℕ) → Own s k u → Own s k v → u < v → joined (s .face) k u v ≡ true → [] ≡ edgeHits s k u v
   unfolding solidHits vertexHits pairHits
   edge-none u v hu hv l j =
-      let i : ℕ = u - (k .low + 1) in
-      let m : ℕ = v - (k .low + 1) in
-      let eu : k .low + 1 + i ≡ u = omega arith in
-      let ev : k .low + 1 + m ≡ v = omega arith in
-      let here : [] ≡ only (ltb (k .low + 1 + i) (k .low + 1 + m) && joined (s .face) k (k .low + 1 + i) (k .low + 1 + m))
-      (edgeHits s k (k .low + 1 + i) (k .low + 1 + m)) =
+      let i : ℕ = u - (k .vert0 + 1) in
+      let m : ℕ = v - (k .vert0 + 1) in
+      let eu : k .vert0 + 1 + i ≡ u = omega arith in
+      let ev : k .vert0 + 1 + m ≡ v = omega arith in
+      let here : [] ≡ only (ltb (k .vert0 + 1 + i) (k .vert0 + 1 + m) && joined (s .face) k (k .vert0 + 1 + i) (k .vert0 + 1 + m))
+      (edgeHits s k (k .vert0 + 1 + i) (k .vert0 + 1 + m)) =
       part _ (k .verts) m (omega arith) (part _ (k .verts) i (omega arith) none) in
       here ∙ ap₂ (λ (x y : ℕ). only (ltb x y && joined (s .face) k x y) (edgeHits s k x y)) eu ev ∙ rw (lt-ltb u v l, j)
 
@@ -61,7 +61,7 @@ module _ (s : Seen) (k : Solid) (none : [] ≡ solidHits s k) where
   unfolding edgeHits faceHits edgeMask
   mask-zero u v e =
       mask-none _ (k .others)
-      (λ i b. passed-none (pierced (s .points) (s .row) u v (s .face (k .other + 1 + i))) _ (part _ (k .others) i b e))
+      (λ i b. passed-none (pierced (s .points) (s .row) u v (s .face (k .other0 + 1 + i))) _ (part _ (k .others) i b e))
 
   even : (u v : ℕ) → Own s k u → Own s k v → u < v → joined (s .face) k u v ≡ true → isOdd (edgeMask s k u v) ≡ false
   unfolding isOdd ones
@@ -73,14 +73,15 @@ module _ (s : Seen) (k : Solid) (none : [] ≡ solidHits s k) where
   odds-still r n u m hu b j = ap (λ (w : ℕ). testBit w m) (replicate-at n u 0) ∙ test-zero m ∙ by (decLt u v) (ℕ-discrete u v)
     where
       v : ℕ
-      v = k .low + 1 + m
+      v = k .vert0 + 1 + m
 
       hv : Own s k v
       hv = (omega arith, omega arith)
 
-      by : Dec (u < v) → Dec (u ≡ v) → false ≡ isInside s k u ⊕ isInside s k v
+      by : Dec (u < v) → Dec (u ≡ v) → false ≡ enclosedVertex s k u ⊕ enclosedVertex s k v
       by (yes l) d = sym (even u v hu hv l j) ∙ across s k r u v hu hv (omega arith)
-      by (no l) (yes d) = sym (ap (λ (w : ℕ). isInside s k u ⊕ isInside s k w) (sym d) ∙ law (all λ a. a ⊕ a ≐ false) tt (isInside s k u))
+      by (no l) (yes d) = sym
+          (ap (λ (w : ℕ). enclosedVertex s k u ⊕ enclosedVertex s k w) (sym d) ∙ law (all λ a. a ⊕ a ≐ false) tt (enclosedVertex s k u))
       by (no l) (no d) =
           sym (even v u hv hu (omega arith) (sym (joined-back s k u v) ∙ j)) ∙ across s k r v u hv hu (omega arith)
-          ∙ law (all λ a. all λ b. a ⊕ b ≐ b ⊕ a) tt (isInside s k v) (isInside s k u)
+          ∙ law (all λ a. all λ b. a ⊕ b ≐ b ⊕ a) tt (enclosedVertex s k v) (enclosedVertex s k u)

@@ -42,8 +42,8 @@ pub record LinksFace (low : ℕ) (f : Face) (before after : List ℕ) : Type 0 w
 -- each vertex of the solid has its neighbours; the words of other points are as they were
 pub record Linked (face : ℕ → Face) (k : Solid) (before after : List ℕ) : Type 0 where
   pub size : length after ≡ length before
-  pub own : (u : ℕ) → Vertex (k .low) (k .low + k .verts) u → getD after u 0 ≡ neighbours face k u
-  pub other : (u : ℕ) → (Vertex (k .low) (k .low + k .verts) u → ⊥) → getD after u 0 ≡ getD before u 0
+  pub own : (u : ℕ) → Vertex (k .vert0) (k .vert0 + k .verts) u → getD after u 0 ≡ neighbours face k u
+  pub other : (u : ℕ) → (Vertex (k .vert0) (k .vert0 + k .verts) u → ⊥) → getD after u 0 ≡ getD before u 0
 
 -- ---- emptied one by one
 
@@ -158,13 +158,13 @@ module _ (face : ℕ → Face) (low n first : ℕ) where
             ∙ or-zero-r (getD l u 0) ∙ s .other u h;
       }
 
-pub linking-all : (face : ℕ → Face) (k : Solid) (i : ℕ) {l before after : List ℕ} → i ≡ k .first + 1 + k .count →
-    Cleared (k .low) (k .verts) l before →
-    Linking face (k .low) (k .verts) (k .first) i before after → Linked face k l after
+pub linking-all : (face : ℕ → Face) (k : Solid) (i : ℕ) {l before after : List ℕ} → i ≡ k .face0 + 1 + k .faces →
+    Cleared (k .vert0) (k .verts) l before →
+    Linking face (k .vert0) (k .verts) (k .face0) i before after → Linked face k l after
 unfolding neighbours joined
 linking-all face k i e c s =
     record {
       size = s .size ∙ c .size;
-      own = λ u h. s .own u h ∙ ap (upto face (k .first + 1) (k .low) width u) e;
+      own = λ u h. s .own u h ∙ ap (upto face (k .face0 + 1) (k .vert0) width u) e;
       other = λ u h. s .other u h ∙ c .other u h;
     }

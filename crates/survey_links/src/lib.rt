@@ -16,7 +16,7 @@ use scene::decode::face_in;
 // The word of point i stands at i.
 pub const WORDS: usize = Scene::MOST_POINTS + 1;
 
-pub type Words = [u64; WORDS];
+pub type VertexSets = [u64; WORDS];
 
 // The bit of point i, of the points above low.
 pub fn bit(low: usize, i: usize) -> u64
@@ -27,7 +27,7 @@ pub fn bit(low: usize, i: usize) -> u64
 }
 
 // The bits of t join the word of u.
-pub fn join(links: &mut Words, u: usize, t: u64)
+pub fn join(links: &mut VertexSets, u: usize, t: u64)
     requires { ⌜ u < words ⌝ }
     ensures { λ _. ⌜ now (links .exit) ≡ ored (now (links .entry)) u t ⌝ }
 {
@@ -35,7 +35,7 @@ pub fn join(links: &mut Words, u: usize, t: u64)
 }
 
 // The words of the n points above low are emptied.
-pub fn clear(links: &mut Words, low: usize, n: usize)
+pub fn clear(links: &mut VertexSets, low: usize, n: usize)
     requires { ⌜ (length (now links) ≡ words) × (low + n < words) ⌝ }
     ensures { λ _. ⌜ Cleared low n (now (links .entry)) (now (links .exit)) ⌝ }
 {
@@ -47,7 +47,7 @@ pub fn clear(links: &mut Words, low: usize, n: usize)
 }
 
 // Each corner of the face has the three as neighbours.
-fn link_face(links: &mut Words, f: Face, low: usize)
+fn link_face(links: &mut VertexSets, f: Face, low: usize)
     requires { ⌜ (length (now links) ≡ words) × FaceOf low (low + width) f × FaceWithin limits f ⌝ }
     ensures { λ _. ⌜ LinksFace low f (now (links .entry)) (now (links .exit)) ⌝ }
 {
@@ -61,15 +61,15 @@ fn link_face(links: &mut Words, f: Face, low: usize)
 }
 
 // The neighbours of each vertex of the solid; the words of other points stay.
-pub fn fill_links(corners: &Corners, k: Solid, links: &mut Words)
-    requires solid { ⌜ Corners (faceIn (now corners)) k × (k .first + k .count ≤ 2 * limits .mostFaces) ⌝ }
-    requires room { ⌜ (length (now links) ≡ words) × (k .verts ≤ limits .mostVertices) × (k .low + k .verts ≤ mostPoints limits) ⌝ }
+pub fn fill_links(corners: &Corners, k: Solid, links: &mut VertexSets)
+    requires solid { ⌜ Corners (faceIn (now corners)) k × (k .face0 + k .faces ≤ 2 * limits .mostFaces) ⌝ }
+    requires room { ⌜ (length (now links) ≡ words) × (k .verts ≤ limits .mostVertices) × (k .vert0 + k .verts ≤ mostPoints limits) ⌝ }
     ensures { λ _. ⌜ Linked (faceIn (now (corners .entry))) k (now (links .entry)) (now (links .exit)) ⌝ }
 {
-    let low = k.low;
+    let low = k.vert0;
     let verts = k.verts;
-    let first = k.first;
-    let e = first + 1 + k.count;
+    let first = k.face0;
+    let e = first + 1 + k.faces;
     clear(links, low, verts);
     let mut f = first + 1;
     while f < e {

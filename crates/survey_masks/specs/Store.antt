@@ -13,7 +13,7 @@ use Rattle.laws.specs.Runs.{upTo, upTo-more, upTo-same}
 use Rattle.scene.specs.declared.Solid.{Solid}
 use Rattle.pierce_masks.specs.Faces.{valueOf}
 use Rattle.pierce_masks.specs.declared.Mask.{Mask}
-use Rattle.question_listing.specs.Hits.{Seen, edgeMask}
+use Rattle.question_listing.specs.Hits.{PierceView, edgeMask}
 use Rattle.survey_edges.specs.Table.{Entry, entryIn, entriesIn, each}
 use Rattle.survey_edges.specs.Edges.{entry, bitEdges, Filled}
 
@@ -71,7 +71,7 @@ pub record Filling (rest whole : List Entry) (at : ℕ) (ends masks ends′ mask
   pub masks-size : length masks′ ≡ length masks
   pub entries : entriesIn ends′ masks′ c ++ rest ≡ entriesIn ends masks at ++ whole
 
-module _ (s : Seen) (k : Solid) (u : ℕ) where
+module _ (s : PierceView) (k : Solid) (u : ℕ) where
   pub filling-start : (w : ℕ) {whole : List Entry} (at : ℕ) (ends masks : List ℕ) → bitEdges s k u w ≡ whole →
       Filling (bitEdges s k u w) whole at ends masks ends masks at
   filling-start w at ends masks e =

@@ -4,11 +4,11 @@ ghost use Prim.Native.Nat.{_+_, _*_, _<_, _≤_};
 ghost use lib.ListN.{length};
 ghost use Rattle.pierce_masks.specs.Faces.{valueOf};
 ghost use Rattle.scene.specs.Faces.{Vertex};
-ghost use Rattle.question_listing.specs.Hits.{seenIn, Sound, edgeMask};
+ghost use Rattle.question_listing.specs.Hits.{viewIn, Sound, edgeMask};
 ghost use Rattle.survey_edges.specs.Table.{mostEdges};
 ghost use Rattle.survey_edges.specs.Edges.{vertexEdges, solidEdges, Within, AreLinks, Filled};
-ghost use Rattle.survey_sides.specs.Lent.{Told};
-ghost use Rattle.survey_narrow.specs.Lent.{Parted};
+ghost use Rattle.survey_sides.specs.Lent.{SidesFilled};
+ghost use Rattle.survey_narrow.specs.Lent.{Separated};
 ghost use Rattle.survey_masks.specs.Store.{pairSet};
 use pierce_engine::Engine;
 use pierce_masks::Mask;
@@ -17,8 +17,8 @@ use scene::Rows;
 use scene::Solid;
 use survey_edges::Ends;
 use survey_edges::Masks;
-use survey_links::Words;
-use survey_narrow::cuts::Cuts;
+use survey_links::VertexSets;
+use survey_narrow::separating_faces::SeparatingFaces;
 use survey_narrow::mask;
 
 // The mask of the edge u, v of the solid against the other one, in a scene of n points.
@@ -28,17 +28,17 @@ pub fn edge_mask(
     corners: &Corners,
     n: usize,
     k: Solid,
-    words: &survey_sides::words::Words,
-    own: &survey_sides::words::Words,
-    cuts: &Cuts,
+    words: &survey_sides::point_masks::PointMasks,
+    own: &survey_sides::point_masks::PointMasks,
+    separating: &SeparatingFaces,
     u: usize,
     v: usize,
 ) -> Mask
-    requires solid { ⌜ Sound (seenIn n (now rows) (now corners)) k × Vertex (k .low) (k .low + k .verts) u
-        × Vertex (k .low) (k .low + k .verts) v × (u < v) ⌝ }
-    requires sides { ⌜ Told (seenIn n (now rows) (now corners)) k (now words)
-        × Parted (seenIn n (now rows) (now corners)) k (now own) (now cuts) ⌝ }
-    ensures { λ r. ⌜ valueOf r ≡ edgeMask (seenIn n (now (rows .entry)) (now (corners .entry))) k u v ⌝ }
+    requires solid { ⌜ Sound (viewIn n (now rows) (now corners)) k × Vertex (k .vert0) (k .vert0 + k .verts) u
+        × Vertex (k .vert0) (k .vert0 + k .verts) v × (u < v) ⌝ }
+    requires sides { ⌜ SidesFilled (viewIn n (now rows) (now corners)) k (now words)
+        × Separated (viewIn n (now rows) (now corners)) k (now own) (now separating) ⌝ }
+    ensures { λ r. ⌜ valueOf r ≡ edgeMask (viewIn n (now (rows .entry)) (now (corners .entry))) k u v ⌝ }
 {
     mask(
         engine,
@@ -46,11 +46,11 @@ pub fn edge_mask(
         corners,
         words,
         own,
-        cuts,
+        separating,
         n,
         u,
         v,
-        k.other,
+        k.other0,
         k.others,
     )
 }
@@ -84,30 +84,30 @@ fn fill_vertex(
     corners: &Corners,
     n: usize,
     k: Solid,
-    links: &Words,
-    words: &survey_sides::words::Words,
-    own: &survey_sides::words::Words,
-    cuts: &Cuts,
+    links: &VertexSets,
+    words: &survey_sides::point_masks::PointMasks,
+    own: &survey_sides::point_masks::PointMasks,
+    separating: &SeparatingFaces,
     i: usize,
     at: usize,
     ends: &mut Ends,
     masks: &mut Masks,
 ) -> usize
-    requires solid { ⌜ Sound (seenIn n (now rows) (now corners)) k × AreLinks (seenIn n (now rows) (now corners)) k (now links)
+    requires solid { ⌜ Sound (viewIn n (now rows) (now corners)) k × AreLinks (viewIn n (now rows) (now corners)) k (now links)
         × (i < k .verts) ⌝ }
     requires room { ⌜ (length (now ends) ≡ 2 * mostEdges) × (length (now masks) ≡ 2 * mostEdges)
-        × (at + length (vertexEdges (seenIn n (now rows) (now corners)) k (k .low + 1 + i)) ≤ mostEdges) ⌝ }
-    requires sides { ⌜ Told (seenIn n (now rows) (now corners)) k (now words)
-        × Parted (seenIn n (now rows) (now corners)) k (now own) (now cuts) ⌝ }
-    ensures { λ r. ⌜ Filled (vertexEdges (seenIn n (now (rows .entry)) (now (corners .entry))) k (k .low + 1 + i)) at
+        × (at + length (vertexEdges (viewIn n (now rows) (now corners)) k (k .vert0 + 1 + i)) ≤ mostEdges) ⌝ }
+    requires sides { ⌜ SidesFilled (viewIn n (now rows) (now corners)) k (now words)
+        × Separated (viewIn n (now rows) (now corners)) k (now own) (now separating) ⌝ }
+    ensures { λ r. ⌜ Filled (vertexEdges (viewIn n (now (rows .entry)) (now (corners .entry))) k (k .vert0 + 1 + i)) at
         (now (ends .entry)) (now (masks .entry)) (now (ends .exit)) (now (masks .exit)) r ⌝ }
 {
-    let u = k.low + 1 + i;
+    let u = k.vert0 + 1 + i;
     let mut left = links[u] >> (i + 1);
     let mut c = at;
     while left != 0 {
         let v = u + 1 + u64::trailing_zeros(left) as usize;
-        let m = edge_mask(engine, rows, corners, n, k, words, own, cuts, u, v);
+        let m = edge_mask(engine, rows, corners, n, k, words, own, separating, u, v);
         put_edge(ends, masks, c, narrow(u), narrow(v), m);
         c += 1;
         left = left & (left - 1);
@@ -122,18 +122,18 @@ pub fn fill_solid(
     corners: &Corners,
     n: usize,
     k: Solid,
-    links: &Words,
-    words: &survey_sides::words::Words,
-    own: &survey_sides::words::Words,
-    cuts: &Cuts,
+    links: &VertexSets,
+    words: &survey_sides::point_masks::PointMasks,
+    own: &survey_sides::point_masks::PointMasks,
+    separating: &SeparatingFaces,
     ends: &mut Ends,
     masks: &mut Masks,
 ) -> usize
-    requires solid { ⌜ Within (seenIn n (now rows) (now corners)) k × AreLinks (seenIn n (now rows) (now corners)) k (now links) ⌝ }
+    requires solid { ⌜ Within (viewIn n (now rows) (now corners)) k × AreLinks (viewIn n (now rows) (now corners)) k (now links) ⌝ }
     requires room { ⌜ (length (now ends) ≡ 2 * mostEdges) × (length (now masks) ≡ 2 * mostEdges) ⌝ }
-    requires sides { ⌜ Told (seenIn n (now rows) (now corners)) k (now words)
-        × Parted (seenIn n (now rows) (now corners)) k (now own) (now cuts) ⌝ }
-    ensures { λ r. ⌜ Filled (solidEdges (seenIn n (now (rows .entry)) (now (corners .entry))) k) 0
+    requires sides { ⌜ SidesFilled (viewIn n (now rows) (now corners)) k (now words)
+        × Separated (viewIn n (now rows) (now corners)) k (now own) (now separating) ⌝ }
+    ensures { λ r. ⌜ Filled (solidEdges (viewIn n (now (rows .entry)) (now (corners .entry))) k) 0
         (now (ends .entry)) (now (masks .entry)) (now (ends .exit)) (now (masks .exit)) r ⌝ }
 {
     let mut c: usize = 0;
@@ -147,7 +147,7 @@ pub fn fill_solid(
             links,
             words,
             own,
-            cuts,
+            separating,
             i,
             c,
             ends,

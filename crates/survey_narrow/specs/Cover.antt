@@ -22,7 +22,7 @@ use Rattle.pierce.specs.Formula.{pierced}
 use Rattle.pierce_masks.specs.declared.Mask.{Mask}
 use Rattle.survey_sides.specs.Sides.{above, sidesOf, masksBy, first64}
 use Rattle.survey_sides.specs.Tables.{maskIn}
-use Rattle.survey_narrow.specs.Parted.{parts, pierced-parts}
+use Rattle.survey_narrow.specs.Separated.{parts, pierced-parts}
 
 -- ---- the faces that part a face's corners, from the words of the corners
 

@@ -1,4 +1,4 @@
-pub mod Parted
+pub mod Separated
 pub mod Marks
 pub mod Cover
 pub mod Union

@@ -21,7 +21,7 @@ use Rattle.pierce_masks.specs.declared.Mask.{Mask}
 use Rattle.survey_sides.specs.Candidates.{kept, AtEach, kept-mask, each-mask}
 use Rattle.survey_sides.specs.Crossing.{Candidate, Candidates, crossedOf, pierced-differs}
 use Rattle.survey_sides.specs.Sides.{above, sidesOf, low-of, high-of, words-value, masksBy, first64}
-use Rattle.survey_narrow.specs.Parted.{parts}
+use Rattle.survey_narrow.specs.Separated.{parts}
 use Rattle.survey_narrow.specs.Cover.{covers, bothOf, both-is, Across, kept-by}
 use Rattle.survey_narrow.specs.Union.{noFaces, covers-trans}
 
@@ -46,7 +46,7 @@ pub record Around (n : ℕ) (row : ℕ → Row) (face : ℕ → Face) (own cut :
   pub owns : ℕ
   pub u-own : own u ≡ masksBy (isCorner u) face owned owns
   pub v-own : own v ≡ masksBy (isCorner v) face owned owns
-  pub cuts : (k : ℕ) → k < count → cut (1 + k) ≡ masksBy (parts row (face (first + 1 + k))) face owned owns
+  pub separating : (k : ℕ) → k < count → cut (1 + k) ≡ masksBy (parts row (face (first + 1 + k))) face owned owns
   pub any : (k : ℕ) → k < count → covers (cut 0) (cut (1 + k)) ≡ true
   pub across : (k : ℕ) → k < count → Across n low high owned owns face (face (first + 1 + k))
 
@@ -61,7 +61,8 @@ module _ (n : ℕ) (row : ℕ → Row) (face : ℕ → Face) (own cut : ℕ → 
     (h : Around n row face own cut u v first count) where
   pub all-parted : AllParted n row face cut at u v first count
   all-parted k l e =
-      kept-by n row face (h .low) (h .high) (h .owned) (h .owns) u v (face (first + 1 + k)) w six (d k l) (h .across k l) (h .cuts k l)
+      kept-by n row face (h .low) (h .high) (h .owned) (h .owns) u v (face (first + 1 + k)) w six (d k l) (h .across k l)
+          (h .separating k l)
       (s ∙ both-is face (h .owned) (h .owns) u v (h .u-own) (h .v-own)) e
 
   -- so where one of them parts no face at all, none is pierced

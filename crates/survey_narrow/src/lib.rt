@@ -12,8 +12,8 @@ ghost use Rattle.survey_sides.specs.Candidates.{AtEach};
 ghost use Rattle.survey_sides.specs.Tables.{maskIn};
 ghost use Rattle.survey_narrow.specs.Cover.{covers, bothOf};
 ghost use Rattle.survey_narrow.specs.Narrow.{Numbered, narrowedOf, EndsTold, Around, AllParted};
-use crate::cuts::Cuts;
-use crate::cuts::cut_at;
+use crate::separating_faces::SeparatingFaces;
+use crate::separating_faces::separating_at;
 use orient::minors::join;
 use pierce_engine::Engine;
 use pierce_masks::Mask;
@@ -22,12 +22,12 @@ use scene::Corners;
 use scene::Rows;
 use scene::decode::row_in;
 use survey_sides::crossed;
-use survey_sides::words::Words;
-use survey_sides::words::bit;
-use survey_sides::words::mask_at;
+use survey_sides::point_masks::PointMasks;
+use survey_sides::point_masks::bit;
+use survey_sides::point_masks::mask_at;
 
-pub mod cuts;
-pub mod own;
+pub mod separating_faces;
+pub mod faces_at_point;
 
 // The mask of u, v against the `count` faces of a solid, numbered from first + 1 on, in a scene of n points: as `survey_sides::mask`, with the
 // table of the faces at each point and that of the faces that part each face. Where a face at the edge parts none, nothing is asked.
@@ -35,9 +35,9 @@ pub fn mask(
     engine: Engine,
     rows: &Rows,
     corners: &Corners,
-    words: &Words,
-    own: &Words,
-    cuts: &Cuts,
+    words: &PointMasks,
+    own: &PointMasks,
+    separating: &SeparatingFaces,
     n: usize,
     u: usize,
     v: usize,
@@ -49,19 +49,19 @@ pub fn mask(
         × (first + count ≤ 2 * limits .mostFaces) × (count ≤ limits .mostFaces) ⌝ }
     requires edge { ⌜ Weighted n (rowIn (now rows)) × BesideAll n u v (faceIn (now corners)) first count ⌝ }
     requires sides { ⌜ EndsTold (rowIn (now rows)) (faceIn (now corners)) (maskIn (now words)) u v first count ⌝ }
-    requires around { ⌜ Around n (rowIn (now rows)) (faceIn (now corners)) (maskIn (now own)) (maskIn (now cuts)) u v first count ⌝ }
+    requires around { ⌜ Around n (rowIn (now rows)) (faceIn (now corners)) (maskIn (now own)) (maskIn (now separating)) u v first count ⌝ }
     ensures { λ r. ⌜ valueOf r ≡ maskAgainst n (rowIn (now (rows .entry))) (faceIn (now (corners .entry))) u v first count ⌝ }
 {
     let at = both(mask_at(own, u), mask_at(own, v));
-    if !has_all(cut_at(cuts, 0), at) {
+    if !has_all(separating_at(separating, 0), at) {
         return Mask { low: 0, high: 0 };
     }
-    mask_parted(
+    mask_separated(
         engine,
         rows,
         corners,
         words,
-        cuts,
+        separating,
         n,
         u,
         v,
@@ -72,12 +72,12 @@ pub fn mask(
 }
 
 // Where all of `at` part each face that is pierced.
-fn mask_parted(
+fn mask_separated(
     engine: Engine,
     rows: &Rows,
     corners: &Corners,
-    words: &Words,
-    cuts: &Cuts,
+    words: &PointMasks,
+    separating: &SeparatingFaces,
     n: usize,
     u: usize,
     v: usize,
@@ -90,13 +90,13 @@ fn mask_parted(
         × (first + count ≤ 2 * limits .mostFaces) × (count ≤ limits .mostFaces) ⌝ }
     requires edge { ⌜ Weighted n (rowIn (now rows)) × BesideAll n u v (faceIn (now corners)) first count ⌝ }
     requires sides { ⌜ EndsTold (rowIn (now rows)) (faceIn (now corners)) (maskIn (now words)) u v first count ⌝ }
-    requires parted { ⌜ AllParted n (rowIn (now rows)) (faceIn (now corners)) (maskIn (now cuts)) at u v first count ⌝ }
+    requires parted { ⌜ AllParted n (rowIn (now rows)) (faceIn (now corners)) (maskIn (now separating)) at u v first count ⌝ }
     ensures { λ r. ⌜ valueOf r ≡ maskAgainst n (rowIn (now (rows .entry))) (faceIn (now (corners .entry))) u v first count ⌝ }
 {
     let a = mask_at(words, u);
     let b = mask_at(words, v);
-    let near = narrowed(cuts, 0, at, a.low ^ b.low);
-    let next = narrowed(cuts, WORD, at, a.high ^ b.high);
+    let near = narrowed(separating, 0, at, a.low ^ b.low);
+    let next = narrowed(separating, WORD, at, a.high ^ b.high);
     let l = join(row_in(rows, u), row_in(rows, v));
     let low = crossed(engine, rows, corners, n, u, v, l, first, near);
     let high = crossed(engine, rows, corners, n, u, v, l, first + WORD, next);
@@ -107,15 +107,15 @@ fn mask_parted(
 }
 
 // Of the candidates, one word of the solid's faces behind its first `from`, those whose corners each of the faces `at` parts.
-fn narrowed(cuts: &Cuts, from: usize, at: Mask, candidates: u64) -> u64
+fn narrowed(separating: &SeparatingFaces, from: usize, at: Mask, candidates: u64) -> u64
     requires faces { ⌜ AtEach (Numbered from) candidates × (from ≤ 64) ⌝ }
-    ensures { λ r. ⌜ r ≡ narrowedOf (maskIn (now (cuts .entry))) from at candidates ⌝ }
+    ensures { λ r. ⌜ r ≡ narrowedOf (maskIn (now (separating .entry))) from at candidates ⌝ }
 {
     let mut left = candidates;
     let mut word: u64 = 0;
     while left != 0 {
         let k = u64::trailing_zeros(left) as usize;
-        word = word + (bit(has_all(cut_at(cuts, from + 1 + k), at)) << k);
+        word = word + (bit(has_all(separating_at(separating, from + 1 + k), at)) << k);
         left = left & (left - 1);
     }
     word

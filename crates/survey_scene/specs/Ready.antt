@@ -25,7 +25,7 @@ use Rattle.judge.specs.declared.Judged.the-variants.{Accepted}
 use Rattle.rules.specs.Given.{counts, weighted, rows-within, faces-within, face-of-a, face-of-b}
 use Rattle.orient.specs.Signs.{Upto, ne-sym}
 use Rattle.orient.specs.Terms.{termsAt, positiveAt}
-use Rattle.orient.specs.Weighted.{Weighted, Asked}
+use Rattle.orient.specs.Weighted.{Weighted, SignDefined}
 use Rattle.orient.specs.Sizes.{NumbersWithin}
 use Rattle.orient.specs.declared.Terms.{Terms}
 use Rattle.scene_edges.specs.Edges.{Corners}
@@ -33,8 +33,8 @@ use Rattle.pierce.specs.Beside.{Beside, BesideAll, beside}
 use Rattle.pierce_masks.specs.Faces.{isOdd}
 use Rattle.pierce.specs.Against.{maskAgainst}
 use Rattle.pierce.specs.Formula.{pierced}
-use Rattle.question_listing.specs.Hits.{Seen, seenIn, Sound}
-use Rattle.questions.specs.Answers.{seen, signFault, piercesFault, maskIn, otherSolid, isEnclosed, faces-are}
+use Rattle.question_listing.specs.Hits.{PierceView, viewIn, Sound}
+use Rattle.questions.specs.Answers.{pierceView, signFault, piercesFault, maskIn, otherSolid, isEnclosed, faces-are}
 use Rattle.questions.specs.Asked.{NotOf, Outside, sign-four, pierces-ends}
 use Rattle.questions.specs.declared.Signed.the-variants.{Sign}
 
@@ -81,14 +81,14 @@ module _ (s : List ℕ) (ok : judged s ≡ Accepted) where
   sign-fits {a} {b} {c} {d} r h =
       let f = sign-four v a b c d h in (rows-are r, point-fits (f .a-in), point-fits (f .b-in), point-fits (f .c-in), point-fits (f .d-in))
 
-  pub four-are : {rows : ℕ → Row} {a b c d : ℕ} → rows ≡ v .row → signFault v a b c d ≡ Accepted → Asked rows a b c d
+  pub four-are : {rows : ℕ → Row} {a b c d : ℕ} → rows ≡ v .row → signFault v a b c d ≡ Accepted → SignDefined rows a b c d
   four-are {a} {b} {c} {d} r h = record { points = points v; weighted = rw r scene-weighted; four = sign-four v a b c d h }
 
   -- ---- either solid: its numbers fit, and its faces have its vertices as corners
 
   record Placed (o : Solid) : Type 0 where
-    fits : (o .first + o .count ≤ 2 * limits .mostFaces) × (o .count ≤ limits .mostFaces)
-    vertices : (o .verts ≤ limits .mostVertices) × (o .low + o .verts ≤ verts s)
+    fits : (o .face0 + o .faces ≤ 2 * limits .mostFaces) × (o .faces ≤ limits .mostFaces)
+    vertices : (o .verts ≤ limits .mostVertices) × (o .vert0 + o .verts ≤ verts s)
     corners : Corners (v .face) o
 
   placed-a : Placed (solidA v)
@@ -115,12 +115,12 @@ module _ (s : List ℕ) (ok : judged s ≡ Accepted) where
   -- points that are none of its vertices, and its faces
   module _ {o : Solid} (p : Placed o) {u w : ℕ} (pu : Upto (points v) u) (pw : Upto (points v) w) (d : u ≢ w) (ou : NotOf o u)
       (ow : NotOf o w) where
-    beside-solid : BesideAll (points v) u w (v .face) (o .first) (o .count)
+    beside-solid : BesideAll (points v) u w (v .face) (o .face0) (o .faces)
     beside-solid i b =
-        beside (let l = p .vertices .1 in omega arith) pu pw d ou ow _ (p .corners (o .first + 1 + i) (omega arith) (omega arith))
+        beside (let l = p .vertices .1 in omega arith) pu pw d ou ow _ (p .corners (o .face0 + 1 + i) (omega arith) (omega arith))
 
   pub outside-beside : {u w k n : ℕ} {o : Solid} {corners : ℕ → Face} → Outside v u w k → n ≡ points v → corners ≡ v .face → o ≡ solid v k →
-      BesideAll n u w corners (o .first) (o .count)
+      BesideAll n u w corners (o .face0) (o .faces)
   outside-beside {k} h is-n are-corners is-o =
       rw (is-n, are-corners, is-o) (beside-solid (placed k) (h .u-point) (h .w-point) (h .differ) (h .u-out) (h .w-out))
 
@@ -129,8 +129,8 @@ module _ (s : List ℕ) (ok : judged s ≡ Accepted) where
       Outside v u w k → n ≡ points v → rows ≡ v .row → corners ≡ v .face → o ≡ solid v k →
       (AllWithin limits rows × FacesWithin limits corners)
       × (((6 ≤ n) × (n ≤ mostPoints limits) × (u ≤ mostPoints limits) × (w ≤ mostPoints limits))
-      × (((o .first + o .count ≤ 2 * limits .mostFaces) × (o .count ≤ limits .mostFaces))
-      × (Weighted n rows × BesideAll n u w corners (o .first) (o .count))))
+      × (((o .face0 + o .faces ≤ 2 * limits .mostFaces) × (o .faces ≤ limits .mostFaces))
+      × (Weighted n rows × BesideAll n u w corners (o .face0) (o .faces))))
   mask-fits {k} h is-n r f is-o =
       let t = far-fits is-n in (
         (rows-are r, rw f (faces-within limits s ok)),
@@ -167,8 +167,8 @@ module _ (s : List ℕ) (ok : judged s ≡ Accepted) where
 
   -- ---- both solids are ready, in the arrays too
 
-  sound-of : {o p : Solid} → Placed o → Placed p → o .other ≡ p .first → o .others ≡ p .count →
-      ((i : ℕ) → Vertex (o .low) (o .low + o .verts) i → NotOf p i) → Sound (seen v) o
+  sound-of : {o p : Solid} → Placed o → Placed p → o .other0 ≡ p .face0 → o .others ≡ p .faces →
+      ((i : ℕ) → Vertex (o .vert0) (o .vert0 + o .verts) i → NotOf p i) → Sound (pierceView v) o
   sound-of {o} {p} own theirs e d apart =
       let c = counts limits s ok in
       let l = own .vertices in
@@ -187,14 +187,14 @@ module _ (s : List ℕ) (ok : judged s ≡ Accepted) where
         outward = λ u hu. rw (e, d) (beside-solid theirs (omega arith) (omega arith) (omega arith) (apart u hu) far);
       }
 
-  pub sound-a : Sound (seen v) (solidA v)
+  pub sound-a : Sound (pierceView v) (solidA v)
   sound-a = sound-of placed-a placed-b refl refl (λ i h w. omega arith)
 
-  pub sound-b : Sound (seen v) (solidB v)
+  pub sound-b : Sound (pierceView v) (solidB v)
   sound-b = sound-of placed-b placed-a refl refl (λ i h w. omega arith)
 
-  pub sound : (k : ℕ) → Sound (seen v) (solid v k)
-  sound = either-solid v (Sound (seen v)) sound-a sound-b
+  pub sound : (k : ℕ) → Sound (pierceView v) (solid v k)
+  sound = either-solid v (Sound (pierceView v)) sound-a sound-b
 
 -- ---- the arrays hold what the scene denotes, so that what is found in them is so of it
 
@@ -208,17 +208,19 @@ pub decoded : (s : List ℕ) {n : ℕ} (rows : List ℤ) (corners : List ℕ) �
 decoded s rows corners e r f = record { are-points = e; are-rows = r; are-faces = f }
 
 module _ {s : List ℕ} {n : ℕ} {rows : List ℤ} {corners : List ℕ} (d : Decoded s n rows corners) where
-  pub seen-is : seenIn n rows corners ≡ seen (viewOf s)
+  pub seen-is : viewIn n rows corners ≡ pierceView (viewOf s)
   seen-is = λ i. record { points = d .are-points i; row = d .are-rows i; face = d .are-faces i }
 
   module _ {o : Solid} (k : ℕ) (is-o : o ≡ solid (viewOf s) k) where
-    pub found : {A : Type 0} (f : Seen → Solid → A) {r : A} → r ≡ f (seenIn n rows corners) o → r ≡ f (seen (viewOf s)) (solid (viewOf s) k)
+    pub found : {A : Type 0} (f : PierceView → Solid → A) {r : A} → r ≡ f (viewIn n rows corners) o → r ≡ f (pierceView (viewOf s))
+        (solid (viewOf s) k)
     found f p = p ∙ ap₂ f seen-is is-o
 
-    pub mask-found : (u w : ℕ) {r : ℕ} → r ≡ maskAgainst n (rowIn rows) (faceIn corners) u w (o .first) (o .count) →
+    pub mask-found : (u w : ℕ) {r : ℕ} → r ≡ maskAgainst n (rowIn rows) (faceIn corners) u w (o .face0) (o .faces) →
         r ≡ maskIn (viewOf s) u w k
     unfolding maskIn
-    mask-found u w p = p ∙ ap₂ (λ (x : Seen) (o : Solid). maskAgainst (x .points) (x .row) (x .face) u w (o .first) (o .count)) seen-is is-o
+    mask-found u w p = p ∙ ap₂ (λ (x : PierceView) (o : Solid). maskAgainst (x .points) (x .row) (x .face) u w (o .face0) (o .faces))
+        seen-is is-o
 
 module _ (s : List ℕ) {rows : ℕ → Row} (are-rows : rows ≡ viewOf s .row) where
   pub sign-found : (a b c d : ℕ) {t : Terms} {p : Bool} → t ≡ termsAt rows a b c d → p ≡ positiveAt rows a b c d →

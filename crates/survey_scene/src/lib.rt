@@ -6,7 +6,7 @@ ghost use Rattle.scene.specs.View.{viewOf};
 ghost use Rattle.survey.specs.Survey.{Sized};
 ghost use Rattle.questions.specs.Answers.{verdictIn, listingIn};
 ghost use Rattle.questions.specs.Listings.{lacksRoom, PouredIf};
-ghost use Rattle.survey_scene.specs.Surveys.{SurveyIs, SoughtIs, Settles};
+ghost use Rattle.survey_scene.specs.Surveys.{SurveyIs, FirstOrEnclosedIs, EnoughForVerdict};
 use pierce_engine::Engine;
 use question_listing::find::Found;
 use questions::Verdict;
@@ -20,12 +20,12 @@ use survey::Survey;
 use survey::answers::count_pairs;
 use survey::answers::first_pair;
 use survey::answers::lowest_inside;
-use survey::answers::pour_pairs;
+use survey::answers::write_all_pairs;
 use survey::survey_scene;
 use survey_edges::Ends;
 use survey_edges::Masks;
-use survey_first::Sought;
-use survey_first::seek;
+use survey_first::FirstOrEnclosed;
+use survey_first::find_first;
 
 // The survey of an accepted scene, each solid's edges into its own table.
 pub fn survey_of(
@@ -63,9 +63,9 @@ pub fn survey_of(
 }
 
 // What a verdict asks of it: nothing is asked behind the first pair.
-pub fn sought_of(engine: Engine, s: &[u8]) -> Sought
+pub fn first_or_enclosed(engine: Engine, s: &[u8]) -> FirstOrEnclosed
     requires { ⌜ judged (now s) ≡ Accepted ⌝ }
-    ensures { λ r. ⌜ SoughtIs (viewOf (now (s .entry))) r ⌝ }
+    ensures { λ r. ⌜ FirstOrEnclosedIs (viewOf (now (s .entry))) r ⌝ }
 {
     let mut rows: Rows = [0; Scene::ROWS];
     let mut corners: Corners = [0; Scene::CORNERS];
@@ -74,13 +74,13 @@ pub fn sought_of(engine: Engine, s: &[u8]) -> Sought
     let n = points(s);
     let a = solid(s, 1);
     let b = solid(s, 2);
-    seek(engine, &rows, &corners, n, a, b)
+    find_first(engine, &rows, &corners, n, a, b)
 }
 
 // By the first pair, and where there is none by the words of enclosed vertices.
-pub fn verdict_by(s: &[u8], t: Sought) -> Verdict
+pub fn verdict_by(s: &[u8], t: FirstOrEnclosed) -> Verdict
     requires { ⌜ judged (now s) ≡ Accepted ⌝ }
-    requires { ⌜ Settles (viewOf (now s)) t ⌝ }
+    requires { ⌜ EnoughForVerdict (viewOf (now s)) t ⌝ }
     ensures { λ r. ⌜ r ≡ verdictIn (viewOf (now (s .entry))) ⌝ }
 {
     let x = t.first;
@@ -89,12 +89,12 @@ pub fn verdict_by(s: &[u8], t: Sought) -> Verdict
     }
     let a = solid(s, 1);
     let b = solid(s, 2);
-    let p = lowest_inside(t.a, a.low, a.verts);
+    let p = lowest_inside(t.a, a.vert0, a.verts);
     if p <= a.verts {
         return Verdict::AInB(p);
     }
-    let q = lowest_inside(t.b, b.low, b.verts);
-    if q <= b.low + b.verts {
+    let q = lowest_inside(t.b, b.vert0, b.verts);
+    if q <= b.vert0 + b.verts {
         return Verdict::BInA(q);
     }
     Verdict::Apart
@@ -115,10 +115,10 @@ pub fn verdict_read(
 {
     let a = solid(s, 1);
     let b = solid(s, 2);
-    let x = first_pair(t, a.other, b.other, aends, amasks, bends, bmasks);
+    let x = first_pair(t, a.other0, b.other0, aends, amasks, bends, bmasks);
     verdict_by(
         s,
-        Sought {
+        FirstOrEnclosed {
             first: x,
             a: t.a.inside,
             b: t.b.inside,
@@ -138,7 +138,7 @@ fn lacks_room(all: bool, n: usize, places: usize) -> bool
 
 // The pairs from the one numbered `from` on, as far as there is room, and how many there are in all. Where all of them are asked for, and
 // there is no room for all, none is written: they are counted before any is.
-pub fn pour_read(
+pub fn write_read(
     t: Survey,
     s: &[u8],
     aends: &Ends,
@@ -159,5 +159,5 @@ pub fn pour_read(
     }
     let a = solid(s, 1);
     let b = solid(s, 2);
-    pour_pairs(t, a.other, b.other, aends, amasks, bends, bmasks, from, out)
+    write_all_pairs(t, a.other0, b.other0, aends, amasks, bends, bmasks, from, out)
 }

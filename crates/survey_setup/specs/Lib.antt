@@ -1,2 +1,2 @@
-pub mod Told
-pub mod Parted
+pub mod Sides
+pub mod Narrowing

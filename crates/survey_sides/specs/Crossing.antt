@@ -13,7 +13,7 @@ use Rattle.scene.specs.declared.Face.{Face}
 use Rattle.orient.specs.Rules.{rules}
 use Rattle.orient.specs.Signs.{mixed, ne-sym}
 use Rattle.orient.specs.Terms.{positiveAt}
-use Rattle.orient.specs.Weighted.{Weighted, Asked}
+use Rattle.orient.specs.Weighted.{Weighted, SignDefined}
 use Rattle.pierce.specs.Beside.{Beside, BesideAll, beside-low, beside-high}
 use Rattle.pierce_masks.specs.Faces.{maskBy, valueOf}
 use Rattle.pierce.specs.Against.{maskAgainst}
@@ -37,13 +37,13 @@ pub record Faced (row : ℕ → Row) (u v : ℕ) (f : Face) : Type 0 where
   pub beside : Beside points u v f
 
 module _ {row : ℕ → Row} {u v : ℕ} {f : Face} (k : Faced row u v f) where
-  pub ask-qp : Asked row u v (f .q) (f .p)
+  pub ask-qp : SignDefined row u v (f .q) (f .p)
   ask-qp = let d = k .beside in record { points = k .points; weighted = k .weighted; four = search ne-sym }
 
-  pub ask-qr : Asked row u v (f .q) (f .r)
+  pub ask-qr : SignDefined row u v (f .q) (f .r)
   ask-qr = let d = k .beside in record { points = k .points; weighted = k .weighted; four = search }
 
-  pub ask-pr : Asked row u v (f .p) (f .r)
+  pub ask-pr : SignDefined row u v (f .p) (f .r)
   ask-pr = let d = k .beside in record { points = k .points; weighted = k .weighted; four = search }
 
 module _ (s : ℕ → ℕ → ℕ → ℕ → Bool) (u v : ℕ) (f : Face) {qp qr : Bool} (x : qp ≡ s u v (f .q) (f .p)) (y : qr ≡ s u v (f .q) (f .r)) where

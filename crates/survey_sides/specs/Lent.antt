@@ -4,10 +4,10 @@ use mathlib.Core.Path.{_≡_}
 use mathlib.Core.List.{List}
 use Prim.Native.Nat.{ℕ}
 use Rattle.scene.specs.declared.Solid.{Solid}
-use Rattle.question_listing.specs.Hits.{Seen, Own}
+use Rattle.question_listing.specs.Hits.{PierceView, Own}
 use Rattle.survey_sides.specs.Sides.{sidesOf}
 use Rattle.survey_sides.specs.Tables.{maskIn}
 
-pub record Told (s : Seen) (k : Solid) (words : List ℕ) : Type 0 where
-  pub own : (u : ℕ) → Own s k u → maskIn words u ≡ sidesOf (s .row) (s .face) (k .other) (k .others) u
-  pub far : maskIn words (s .points) ≡ sidesOf (s .row) (s .face) (k .other) (k .others) (s .points)
+pub record SidesFilled (s : PierceView) (k : Solid) (words : List ℕ) : Type 0 where
+  pub own : (u : ℕ) → Own s k u → maskIn words u ≡ sidesOf (s .row) (s .face) (k .other0) (k .others) u
+  pub far : maskIn words (s .points) ≡ sidesOf (s .row) (s .face) (k .other0) (k .others) (s .points)

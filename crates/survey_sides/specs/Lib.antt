@@ -2,7 +2,7 @@ pub mod Planes
 pub mod Sizes
 pub mod Bits
 pub mod Sides
-pub mod Told
+pub mod PlaneAt
 pub mod Slopes
 pub mod SlopeSizes
 pub mod Units

@@ -10,7 +10,7 @@ use Rattle.scene.specs.declared.Row.{Row}
 use Rattle.scene.specs.declared.Face.{Face}
 use Rattle.orient.specs.Determinant.{Entries, det4}
 use Rattle.orient.specs.Columns.{partOf, c0-parts}
-use Rattle.orient.specs.Minors.{cross-of, three-of, crossOf, threeOf, joinOf}
+use Rattle.orient.specs.Minors.{minor-of, alternating-of, minorOf, alternatingOf, joinOf}
 use Rattle.orient.specs.Terms.{pointAt, c0At}
 use Rattle.orient.specs.Variables.{row, rows, det}
 use Rattle.orient.specs.declared.minors.Line.{Line}
@@ -19,15 +19,15 @@ use Rattle.orient.specs.declared.minors.Line.{Line}
 abbrev pub spanOf : Line → Row → Row
 spanOf l r =
     record {
-      x = threeOf (l .yz) (r .w) (l .yw) (r .z) (l .zw) (r .y);
-      y = threeOf (l .xz) (r .w) (l .xw) (r .z) (l .zw) (r .x);
-      z = threeOf (l .xy) (r .w) (l .xw) (r .y) (l .yw) (r .x);
-      w = threeOf (l .xy) (r .z) (l .xz) (r .y) (l .yz) (r .x);
+      x = alternatingOf (l .yz) (r .w) (l .yw) (r .z) (l .zw) (r .y);
+      y = alternatingOf (l .xz) (r .w) (l .xw) (r .z) (l .zw) (r .x);
+      z = alternatingOf (l .xy) (r .w) (l .xw) (r .y) (l .yw) (r .x);
+      w = alternatingOf (l .xy) (r .z) (l .xz) (r .y) (l .yz) (r .x);
     }
 
 -- a plane at a row: its minors along the last row of a determinant
 abbrev pub dotOf : Row → Row → ℤ
-dotOf p t = crossOf (p .w) (p .z) (t .z) (t .w) +ℤ crossOf (p .y) (p .x) (t .x) (t .y)
+dotOf p t = minorOf (p .w) (p .z) (t .z) (t .w) +ℤ minorOf (p .y) (p .x) (t .x) (t .y)
 
 -- the plane of three rows, and that of a face's corners, turned: below zero at a point above it
 unfoldable pub planeOf : Row → Row → Row → Row
@@ -40,22 +40,22 @@ planeFor row f = planeOf (row (f .q)) (row (f .p)) (row (f .r))
 
 module _ {R : Type 0} (_plus_ _minus_ _times_ : R → R → R) where
   infixl 6 _plus_
-  abbrev cross : R → R → R → R → R
-  cross = cross-of _plus_ _minus_ _times_
+  abbrev minor : R → R → R → R → R
+  minor = minor-of _plus_ _minus_ _times_
 
-  abbrev three : R → R → R → R → R → R → R
-  three = three-of _plus_ _minus_ _times_
+  abbrev alternating : R → R → R → R → R → R → R
+  alternating = alternating-of _plus_ _minus_ _times_
 
   abbrev by-plane : Entries R → Entries R → Entries R → Entries R → R
   by-plane a b c d =
-      let xy = cross (a .x) (a .y) (b .x) (b .y) in
-      let xz = cross (a .x) (a .z) (b .x) (b .z) in
-      let xw = cross (a .x) (a .w) (b .x) (b .w) in
-      let yz = cross (a .y) (a .z) (b .y) (b .z) in
-      let yw = cross (a .y) (a .w) (b .y) (b .w) in
-      let zw = cross (a .z) (a .w) (b .z) (b .w) in
-      cross (three xy (c .z) xz (c .y) yz (c .x)) (three xy (c .w) xw (c .y) yw (c .x)) (d .z) (d .w)
-      plus cross (three xz (c .w) xw (c .z) zw (c .x)) (three yz (c .w) yw (c .z) zw (c .y)) (d .x) (d .y)
+      let xy = minor (a .x) (a .y) (b .x) (b .y) in
+      let xz = minor (a .x) (a .z) (b .x) (b .z) in
+      let xw = minor (a .x) (a .w) (b .x) (b .w) in
+      let yz = minor (a .y) (a .z) (b .y) (b .z) in
+      let yw = minor (a .y) (a .w) (b .y) (b .w) in
+      let zw = minor (a .z) (a .w) (b .z) (b .w) in
+      minor (alternating xy (c .z) xz (c .y) yz (c .x)) (alternating xy (c .w) xw (c .y) yw (c .x)) (d .z) (d .w)
+      plus minor (alternating xz (c .w) xw (c .z) zw (c .x)) (alternating yz (c .w) yw (c .z) zw (c .y)) (d .x) (d .y)
 
 pub plane-dot : (a b c d : Row) → dotOf (planeOf a b c) d ≡ det4 a b c d
 unfolding det4 planeOf

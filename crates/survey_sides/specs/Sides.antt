@@ -15,7 +15,7 @@ use Rattle.scene.specs.declared.Row.{Row}
 use Rattle.scene.specs.declared.Face.{Face}
 use Rattle.orient.specs.Signs.{Four, Upto, ne-sym}
 use Rattle.orient.specs.Terms.{positiveAt}
-use Rattle.orient.specs.Weighted.{Weighted, Asked}
+use Rattle.orient.specs.Weighted.{Weighted, SignDefined}
 use Rattle.pierce.specs.Beside.{BesideAll, in-scene, apart}
 use Rattle.pierce_masks.specs.Faces.{maskBy, valueOf}
 use Rattle.pierce_masks.specs.declared.Mask.{Mask}
@@ -139,7 +139,7 @@ planeIn planes base k = rowIn planes (k - base)
 
 pub record Ready (row : ℕ → Row) (face : ℕ → Face) (plane : ℕ → Row) (t k : ℕ) : Type 0 where
   pub made : plane k ≡ planeFor row (face k)
-  pub asked : Asked row ((face k) .p) ((face k) .q) ((face k) .r) t
+  pub asked : SignDefined row ((face k) .p) ((face k) .q) ((face k) .r) t
 
 abbrev pub ReadyAll : (ℕ → Row) → (ℕ → Face) → (ℕ → Row) → (t first count : ℕ) → Type 0
 ReadyAll row face plane t first count = (k : ℕ) → k < count → Ready row face plane t (first + 1 + k)

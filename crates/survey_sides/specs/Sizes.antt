@@ -8,20 +8,20 @@ use Rattle.laws.specs.Size.{Small, _⊗_, _⊖_, _⊕_}
 use Rattle.scene.specs.Limits.{limits}
 use Rattle.scene.specs.Arrays.{RowWithin}
 use Rattle.scene.specs.declared.Row.{Row}
-use Rattle.orient.specs.Formed.{mostFormed, crossSize, threeSize, JoinWithin, RowSize, cross-size, three-size}
+use Rattle.orient.specs.Formed.{mostFormed, minorSize, alternatingSize, JoinWithin, RowSize, minor-size, alternating-size}
 use Rattle.orient.specs.Minors.{joinOf}
 use Rattle.survey_sides.specs.Planes.{planeOf, dotOf}
 use Rattle.orient.specs.declared.minors.Line.{Line}
 
 -- what is formed on the way to a plane, and to a plane at a row
 pub record SpanWithin (k : ℕ) (l : Line) (r : Row) : Type 0 where
-  pub x : threeSize (l .yz) (r .w) (l .yw) (r .z) (l .zw) (r .y) ≤ k
-  pub y : threeSize (l .xz) (r .w) (l .xw) (r .z) (l .zw) (r .x) ≤ k
-  pub z : threeSize (l .xy) (r .w) (l .xw) (r .y) (l .yw) (r .x) ≤ k
-  pub w : threeSize (l .xy) (r .z) (l .xz) (r .y) (l .yz) (r .x) ≤ k
+  pub x : alternatingSize (l .yz) (r .w) (l .yw) (r .z) (l .zw) (r .y) ≤ k
+  pub y : alternatingSize (l .xz) (r .w) (l .xw) (r .z) (l .zw) (r .x) ≤ k
+  pub z : alternatingSize (l .xy) (r .w) (l .xw) (r .y) (l .yw) (r .x) ≤ k
+  pub w : alternatingSize (l .xy) (r .z) (l .xz) (r .y) (l .yz) (r .x) ≤ k
 
 abbrev pub dotSize : Row → Row → ℕ
-dotSize p t = crossSize (p .w) (p .z) (t .z) (t .w) + crossSize (p .y) (p .x) (t .x) (t .y)
+dotSize p t = minorSize (p .w) (p .z) (t .z) (t .w) + minorSize (p .y) (p .x) (t .x) (t .y)
 
 -- on the way from three rows to their plane
 pub record PlaneWithin (k : ℕ) (a b c : Row) : Type 0 where
@@ -76,12 +76,12 @@ module _ {A K B L : ℕ} {a b : Row} (p : Upto A K a) (q : Upto B L b) where
   pub join-within : {k : ℕ} → flat A K B L + steep A K B L ≤ k → JoinWithin k a b
   join-within h =
       record {
-        xy = le-trans (cross-size (p .x) (p .y) (q .x) (q .y)) (le-trans (omega arith) h);
-        xz = le-trans (cross-size (p .x) (p .z) (q .x) (q .z)) (le-trans (omega arith) h);
-        xw = le-trans (cross-size (p .x) (p .w) (q .x) (q .w)) (le-trans (omega arith) h);
-        yz = le-trans (cross-size (p .y) (p .z) (q .y) (q .z)) (le-trans (omega arith) h);
-        yw = le-trans (cross-size (p .y) (p .w) (q .y) (q .w)) (le-trans (omega arith) h);
-        zw = le-trans (cross-size (p .z) (p .w) (q .z) (q .w)) (le-trans (omega arith) h);
+        xy = le-trans (minor-size (p .x) (p .y) (q .x) (q .y)) (le-trans (omega arith) h);
+        xz = le-trans (minor-size (p .x) (p .z) (q .x) (q .z)) (le-trans (omega arith) h);
+        xw = le-trans (minor-size (p .x) (p .w) (q .x) (q .w)) (le-trans (omega arith) h);
+        yz = le-trans (minor-size (p .y) (p .z) (q .y) (q .z)) (le-trans (omega arith) h);
+        yw = le-trans (minor-size (p .y) (p .w) (q .y) (q .w)) (le-trans (omega arith) h);
+        zw = le-trans (minor-size (p .z) (p .w) (q .z) (q .w)) (le-trans (omega arith) h);
       }
 
   module _ {C M : ℕ} {c : Row} (r : Upto C M c) where
@@ -103,10 +103,10 @@ module _ {A K B L : ℕ} {a b : Row} (p : Upto A K a) (q : Upto B L b) where
           first = join-within (le-trans (omega arith) h);
           whole =
               record {
-                x = le-trans (three-size (l .yz) (r .w) (l .yw) (r .z) (l .zw) (r .y)) (le-trans (omega arith) h);
-                y = le-trans (three-size (l .xz) (r .w) (l .xw) (r .z) (l .zw) (r .x)) (le-trans (omega arith) h);
-                z = le-trans (three-size (l .xy) (r .w) (l .xw) (r .y) (l .yw) (r .x)) (le-trans (omega arith) h);
-                w = le-trans (three-size (l .xy) (r .z) (l .xz) (r .y) (l .yz) (r .x)) (le-trans (omega arith) h);
+                x = le-trans (alternating-size (l .yz) (r .w) (l .yw) (r .z) (l .zw) (r .y)) (le-trans (omega arith) h);
+                y = le-trans (alternating-size (l .xz) (r .w) (l .xw) (r .z) (l .zw) (r .x)) (le-trans (omega arith) h);
+                z = le-trans (alternating-size (l .xy) (r .w) (l .xw) (r .y) (l .yw) (r .x)) (le-trans (omega arith) h);
+                w = le-trans (alternating-size (l .xy) (r .z) (l .xz) (r .y) (l .yz) (r .x)) (le-trans (omega arith) h);
               };
         }
 
@@ -116,7 +116,7 @@ dotUpto P Q C M = Q * M + P * C + (P * C + P * C)
 
 module _ {P Q C M : ℕ} {p t : Row} (m : Upto P Q p) (s : Upto C M t) where
   pub dot-size : dotSize p t ≤ dotUpto P Q C M
-  dot-size = add-le-add (cross-size (m .w) (m .z) (s .z) (s .w)) (cross-size (m .y) (m .x) (s .x) (s .y))
+  dot-size = add-le-add (minor-size (m .w) (m .z) (s .z) (s .w)) (minor-size (m .y) (m .x) (s .x) (s .y))
 
   pub dot-small : Small (dotUpto P Q C M) (dotOf p t)
   dot-small = (m .w ⊗ s .w ⊖ m .z ⊗ s .z) ⊕ (m .y ⊗ s .y ⊖ m .x ⊗ s .x)

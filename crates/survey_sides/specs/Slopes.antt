@@ -26,13 +26,13 @@ use Rattle.scene.specs.declared.Face.{Face}
 use Rattle.orient.specs.Bits.{tie-turned}
 use Rattle.orient.specs.Determinant.{Entries}
 use Rattle.orient.specs.Laws.{terms12}
-use Rattle.orient.specs.Minors.{cross-of}
+use Rattle.orient.specs.Minors.{minor-of}
 use Rattle.orient.specs.Shifts.{shiftAt, c1-rows}
 use Rattle.orient.specs.Terms.{pointAt, c1At}
 use Rattle.orient.specs.Variables.{row, rows}
 use Rattle.survey_sides.specs.Planes.{dotOf, planeOf, plane-dot}
 use Rattle.survey_sides.specs.Sides.{above}
-use Rattle.survey_sides.specs.Told.{InPlane}
+use Rattle.survey_sides.specs.PlaneAt.{InPlane}
 
 abbrev pub sumOf : Row → Row → Row → Row
 sumOf a b c =
@@ -55,7 +55,7 @@ slopeFor row f = slopeOf row (f .q) (f .p) (f .r)
 
 abbrev dot : Entries Expr → Entries Expr → Expr
 dot p t =
-    cross-of _⊕_ _⊖_ _⊗_ (p .w) (p .z) (t .z) (t .w) ⊕ cross-of _⊕_ _⊖_ _⊗_ (p .y) (p .x) (t .x) (t .y)
+    minor-of _⊕_ _⊖_ _⊗_ (p .w) (p .z) (t .z) (t .w) ⊕ minor-of _⊕_ _⊖_ _⊗_ (p .y) (p .x) (t .x) (t .y)
 
 abbrev total : Entries Expr → Entries Expr → Entries Expr → Entries Expr
 total a b c =

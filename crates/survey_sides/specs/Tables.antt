@@ -59,10 +59,10 @@ masksFrom g low = filled (λ l i m. wordSet l (low + 1 + i) m) (λ i. g (low + 1
 
 -- the sides of a solid's vertices against the other solid's faces
 abbrev pub wordsFor : (ℕ → Row) → (ℕ → Face) → Solid → List ℕ → List ℕ
-wordsFor row face k = masksFrom (sidesOf row face (k .other) (k .others)) (k .low) (k .verts)
+wordsFor row face k = masksFrom (sidesOf row face (k .other0) (k .others)) (k .vert0) (k .verts)
 
 abbrev pub ReadyFor : (ℕ → Row) → (ℕ → Face) → (ℕ → Row) → Solid → Type 0
-ReadyFor row face plane k = (i : ℕ) → i < k .verts → ReadyAll row face plane (k .low + 1 + i) (k .other) (k .others)
+ReadyFor row face plane k = (i : ℕ) → i < k .verts → ReadyAll row face plane (k .vert0 + 1 + i) (k .other0) (k .others)
 
 pub word-keeps : (l : List ℕ) (t : ℕ) (m : Mask) → length (wordSet l t m) ≡ length l
 word-keeps l t m = simp length-set
@@ -132,7 +132,7 @@ masks-join g low m (suc n) l =
 
 pub ready-from : (row : ℕ → Row) (face : ℕ → Face) (plane : ℕ → Row) (k : Solid) → ReadyFor row face plane k → (m i : ℕ) →
     m + i < k .verts →
-    ReadyAll row face plane (k .low + m + 1 + i) (k .other) (k .others)
+    ReadyAll row face plane (k .vert0 + m + 1 + i) (k .other0) (k .others)
 ready-from row face plane k h m i b =
-    let e : k .low + 1 + (m + i) ≡ k .low + m + 1 + i = omega arith in
-    subst (λ (t : ℕ). ReadyAll row face plane t (k .other) (k .others)) e (h (m + i) b)
+    let e : k .vert0 + 1 + (m + i) ≡ k .vert0 + m + 1 + i = omega arith in
+    subst (λ (t : ℕ). ReadyAll row face plane t (k .other0) (k .others)) e (h (m + i) b)

@@ -21,33 +21,33 @@ use Rattle.pierce_masks.specs.declared.Mask.{Mask}
 use Rattle.survey_sides.specs.Candidates.{kept, AtEach, kept-mask, kept-none, each-mask}
 use Rattle.survey_sides.specs.Sides.{above, sidesOf, masksBy, first64, Ready, ReadyAll, ready-low, ready-high}
 use Rattle.survey_sides.specs.Slopes.{isZero}
-use Rattle.survey_sides.specs.Told.{InPlane}
-use Rattle.survey_sides.specs.declared.tell.Digits.{Digits}
-use Rattle.survey_sides.specs.declared.tell.Told.{Told}
+use Rattle.survey_sides.specs.PlaneAt.{InPlane}
+use Rattle.survey_sides.specs.declared.digits.Digits.{Digits}
+use Rattle.survey_sides.specs.declared.digits.PointDigits.{PointDigits}
 
 -- c0 of a face's corners and a point, turned as the plane is
-abbrev pub turnedAt : (ℕ → Row) → ℕ → Face → ℤ
-turnedAt row t f = c0At row (f .q) (f .p) (f .r) t
+abbrev pub negatedAt : (ℕ → Row) → ℕ → Face → ℤ
+negatedAt row t f = c0At row (f .q) (f .p) (f .r) t
 
 -- above the face by its plane alone, and in its plane
 abbrev pub leads : (ℕ → Row) → ℕ → Face → Bool
-leads row t f = ltZ (turnedAt row t f) (pos 0)
+leads row t f = ltZ (negatedAt row t f) (pos 0)
 
 abbrev pub flat : (ℕ → Row) → ℕ → Face → Bool
-flat row t f = isZero (turnedAt row t f)
+flat row t f = isZero (negatedAt row t f)
 
 pub record AreDigits (row : ℕ → Row) (face : ℕ → Face) (first count t : ℕ) (p : Digits) : Type 0 where
   pub above : p .above ≡ maskBy (leads row t) face first count
   pub tied : p .tied ≡ maskBy (flat row t) face first count
 
-pub record IsTold (row : ℕ → Row) (face : ℕ → Face) (first count t : ℕ) (m : Told) : Type 0 where
+pub record AreDigitsOf (row : ℕ → Row) (face : ℕ → Face) (first count t : ℕ) (m : PointDigits) : Type 0 where
   pub low : AreDigits row face first (first64 count) t (m .low)
   pub high : AreDigits row face (first + 64) (count - 64) t (m .high)
 
-abbrev pub hasTies : Told → Bool
+abbrev pub hasTies : PointDigits → Bool
 hasTies m = not (eqb (m .low .tied) 0) || not (eqb (m .high .tied) 0)
 
-abbrev pub aboveOf : Told → Mask
+abbrev pub aboveOf : PointDigits → Mask
 aboveOf m = record { low = m .low .above; high = m .high .above }
 
 -- a digit of a face in whose plane the point lies, in a table of the planes of the faces above base
@@ -74,11 +74,11 @@ module _ (row : ℕ → Row) (t : ℕ) (f : Face) where
   abbrev c : ℤ
   c = c0At row (f .p) (f .q) (f .r) t
 
-  turned-is : turnedAt row t f ≡ negℤ c
-  turned-is = terms12 (pointAt row (f .p)) (pointAt row (f .q)) (pointAt row (f .r)) (pointAt row t) .e0
+  negated-is : negatedAt row t f ≡ negℤ c
+  negated-is = terms12 (pointAt row (f .p)) (pointAt row (f .q)) (pointAt row (f .r)) (pointAt row t) .e0
 
   pub flat-in : flat row t f ≡ true → InPlane row f t
-  flat-in e = by c (sym (ap isZero turned-is) ∙ e)
+  flat-in e = by c (sym (ap isZero negated-is) ∙ e)
     where
       by : (z : ℤ) → isZero (negℤ z) ≡ true → z ≡ pos 0
       by (pos zero) e = refl
@@ -89,7 +89,7 @@ module _ (row : ℕ → Row) (t : ℕ) (f : Face) where
   unfolding above positiveAt orientation
   digit-split =
       split (tied (pointAt row (f .p)) (pointAt row (f .q)) (pointAt row (f .r)) (pointAt row t)) c
-      ∙ sym (λ i. digit (ltZ (turned-is i) (pos 0)) + digit (isZero (turned-is i) && above row t f))
+      ∙ sym (λ i. digit (ltZ (negated-is i) (pos 0)) + digit (isZero (negated-is i) && above row t f))
 
 -- ---- a word
 
@@ -133,7 +133,7 @@ module _ (row : ℕ → Row) (face : ℕ → Face) (first count t : ℕ) {p : Di
   }
 
   pub told-one : count ≤ 64 → AreDigits row face first count t p →
-      IsTold row face first count t (record { low = p; high = record { above = 0; tied = 0 } })
+      AreDigitsOf row face first count t (record { low = p; high = record { above = 0; tied = 0 } })
   unfolding maskOf
   told-one h d =
       let z : 0 ≡ count - 64 = omega arith in
@@ -143,7 +143,7 @@ module _ (row : ℕ → Row) (face : ℕ → Face) (first count t : ℕ) {p : Di
       }
 
   pub told-two : {q : Digits} → 64 < count → AreDigits row face first 64 t p → AreDigits row face (first + 64) (count - 64) t q →
-      IsTold row face first count t (record { low = p; high = q })
+      AreDigitsOf row face first count t (record { low = p; high = q })
   told-two h d e = record { low = longer (omega arith) d; high = e }
 
 neither : (a b : Bool) → (not a || not b) ≡ false → (a ≡ true) × (b ≡ true)
@@ -151,8 +151,8 @@ neither true true e = (refl, refl)
 neither true false e = absurd (false≢true (sym e))
 neither false b e = absurd (false≢true (sym e))
 
-module _ (row : ℕ → Row) (face : ℕ → Face) (first count t : ℕ) (most : count ≤ limits .mostFaces) {m : Told}
-    (h : IsTold row face first count t m) where
+module _ (row : ℕ → Row) (face : ℕ → Face) (first count t : ℕ) (most : count ≤ limits .mostFaces) {m : PointDigits}
+    (h : AreDigitsOf row face first count t m) where
   low-few : first64 count ≤ 64
   low-few = omega arith
 

@@ -9,7 +9,7 @@ use Rattle.laws.specs.Ring.{Expr, ring, env}
 use Rattle.laws.specs.Ring.Expr.{var, lit, _⊕_, _⊖_, _⊗_}
 use Rattle.scene.specs.declared.Row.{Row}
 use Rattle.orient.specs.Determinant.{Entries}
-use Rattle.orient.specs.Minors.{cross-of, three-of, triple-of, crossOf, tripleOf, lessOf}
+use Rattle.orient.specs.Minors.{minor-of, alternating-of, triple-product-of, minorOf, tripleProduct, rowMinus}
 use Rattle.orient.specs.Ones.{isOne, one-is}
 use Rattle.orient.specs.Shifts.{shiftOf, shiftAt}
 use Rattle.survey_sides.specs.Planes.{planeOf}
@@ -34,13 +34,13 @@ units-are a b c e =
 -- ---- by directions
 
 -- the plane of a row of weight 1 and two directions
-abbrev pub seenPlane : Row → Row → Row → Row
-seenPlane u v c =
+abbrev pub planeFromDirections : Row → Row → Row → Row
+planeFromDirections u v c =
     record {
-      x = crossOf (u .y) (u .z) (v .y) (v .z);
-      y = crossOf (u .x) (u .z) (v .x) (v .z);
-      z = crossOf (u .x) (u .y) (v .x) (v .y);
-      w = tripleOf c u v;
+      x = minorOf (u .y) (u .z) (v .y) (v .z);
+      y = minorOf (u .x) (u .z) (v .x) (v .z);
+      z = minorOf (u .x) (u .y) (v .x) (v .y);
+      w = tripleProduct c u v;
     }
 
 -- a plane that has no other coefficient than the fourth
@@ -49,22 +49,23 @@ level n = record { x = pos 0; y = pos 0; z = pos 0; w = n }
 
 -- of three rows, and of three points with their shifts s, t and o
 abbrev pub unitPlane : (a b c : Row) → Row
-unitPlane a b c = seenPlane (lessOf a c) (lessOf b c) c
+unitPlane a b c = planeFromDirections (rowMinus a c) (rowMinus b c) c
 
 abbrev pub unitSlope : (a b c s t o : Row) → Row
 unitSlope a b c s t o =
-    sumOf (seenPlane (lessOf s o) (lessOf b c) c) (seenPlane (lessOf a c) (lessOf t o) c) (level (tripleOf o (lessOf a c) (lessOf b c)))
+    sumOf (planeFromDirections (rowMinus s o) (rowMinus b c) c) (planeFromDirections (rowMinus a c) (rowMinus t o) c)
+        (level (tripleProduct o (rowMinus a c) (rowMinus b c)))
 
 -- ---- rows of variables, three each, with the weight written as 1 or as 0
 
-abbrev three : Expr → Expr → Expr → Expr → Expr → Expr → Expr
-three = three-of _⊕_ _⊖_ _⊗_
+abbrev alternating : Expr → Expr → Expr → Expr → Expr → Expr → Expr
+alternating = alternating-of _⊕_ _⊖_ _⊗_
 
-abbrev cross : Expr → Expr → Expr → Expr → Expr
-cross = cross-of _⊕_ _⊖_ _⊗_
+abbrev minor : Expr → Expr → Expr → Expr → Expr
+minor = minor-of _⊕_ _⊖_ _⊗_
 
-abbrev triple : Entries Expr → Entries Expr → Entries Expr → Expr
-triple = triple-of _⊕_ _⊖_ _⊗_
+abbrev triple-product : Entries Expr → Entries Expr → Entries Expr → Expr
+triple-product = triple-product-of _⊕_ _⊖_ _⊗_
 
 abbrev entry : ℤ → ℕ → Entries Expr
 entry w j = record { x = var (3 * j); y = var (3 * j + 1); z = var (3 * j + 2); w = lit w }
@@ -75,31 +76,31 @@ one = entry (pos 1)
 abbrev way : ℕ → Entries Expr
 way = entry (pos 0)
 
-abbrev less : Entries Expr → Entries Expr → Entries Expr
-less a b = record { x = a .x ⊖ b .x; y = a .y ⊖ b .y; z = a .z ⊖ b .z; w = lit (pos 0) }
+abbrev row-minus : Entries Expr → Entries Expr → Entries Expr
+row-minus a b = record { x = a .x ⊖ b .x; y = a .y ⊖ b .y; z = a .z ⊖ b .z; w = lit (pos 0) }
 
 abbrev plane : Entries Expr → Entries Expr → Entries Expr → Entries Expr
 plane a b c =
-    let xy = cross (a .x) (a .y) (b .x) (b .y) in
-    let xz = cross (a .x) (a .z) (b .x) (b .z) in
-    let xw = cross (a .x) (a .w) (b .x) (b .w) in
-    let yz = cross (a .y) (a .z) (b .y) (b .z) in
-    let yw = cross (a .y) (a .w) (b .y) (b .w) in
-    let zw = cross (a .z) (a .w) (b .z) (b .w) in
+    let xy = minor (a .x) (a .y) (b .x) (b .y) in
+    let xz = minor (a .x) (a .z) (b .x) (b .z) in
+    let xw = minor (a .x) (a .w) (b .x) (b .w) in
+    let yz = minor (a .y) (a .z) (b .y) (b .z) in
+    let yw = minor (a .y) (a .w) (b .y) (b .w) in
+    let zw = minor (a .z) (a .w) (b .z) (b .w) in
     record {
-      x = three yz (c .w) yw (c .z) zw (c .y);
-      y = three xz (c .w) xw (c .z) zw (c .x);
-      z = three xy (c .w) xw (c .y) yw (c .x);
-      w = three xy (c .z) xz (c .y) yz (c .x);
+      x = alternating yz (c .w) yw (c .z) zw (c .y);
+      y = alternating xz (c .w) xw (c .z) zw (c .x);
+      z = alternating xy (c .w) xw (c .y) yw (c .x);
+      w = alternating xy (c .z) xz (c .y) yz (c .x);
     }
 
-abbrev seen : Entries Expr → Entries Expr → Entries Expr → Entries Expr
-seen u v c =
+abbrev by-directions : Entries Expr → Entries Expr → Entries Expr → Entries Expr
+by-directions u v c =
     record {
-      x = cross (u .y) (u .z) (v .y) (v .z);
-      y = cross (u .x) (u .z) (v .x) (v .z);
-      z = cross (u .x) (u .y) (v .x) (v .y);
-      w = triple c u v;
+      x = minor (u .y) (u .z) (v .y) (v .z);
+      y = minor (u .x) (u .z) (v .x) (v .z);
+      z = minor (u .x) (u .y) (v .x) (v .y);
+      w = triple-product c u v;
     }
 
 abbrev total : Entries Expr → Entries Expr → Entries Expr → Entries Expr
@@ -122,7 +123,7 @@ module _ (a b c : Row) where
   known = plane (one 0) (one 1) (one 2)
 
   abbrev made : Entries Expr
-  made = seen (less (one 0) (one 2)) (less (one 1) (one 2)) (one 2)
+  made = by-directions (row-minus (one 0) (one 2)) (row-minus (one 1) (one 2)) (one 2)
 
   plane-seen : unitPlane (unit a) (unit b) (unit c) ≡ planeOf (unit a) (unit b) (unit c)
   unfolding planeOf
@@ -144,11 +145,11 @@ module _ (a b c : Row) where
 
     abbrev fewer : Entries Expr
     fewer =
-        let u = less (one 0) (one 2) in
-        let v = less (one 1) (one 2) in
+        let u = row-minus (one 0) (one 2) in
+        let v = row-minus (one 1) (one 2) in
         let n : Expr = lit (pos 0) in
-        total (seen (less (way 3) (way 5)) v (one 2)) (seen u (less (way 4) (way 5)) (one 2))
-        (record { x = n; y = n; z = n; w = triple (way 5) u v })
+        total (by-directions (row-minus (way 3) (way 5)) v (one 2)) (by-directions u (row-minus (way 4) (way 5)) (one 2))
+        (record { x = n; y = n; z = n; w = triple-product (way 5) u v })
 
     abbrev three-planes : (a b c s t o : Row) → Row
     three-planes a b c s t o = sumOf (planeOf s b c) (planeOf a t c) (planeOf a b o)

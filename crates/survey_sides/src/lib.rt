@@ -15,9 +15,9 @@ ghost use Rattle.orient.specs.Minors.{joinOf};
 ghost use Rattle.survey_sides.specs.Sides.{above, sidesOf};
 ghost use Rattle.survey_sides.specs.Tables.{maskIn};
 ghost use Rattle.survey_sides.specs.Crossing.{crossedOf, Candidates};
-use crate::words::Words;
-use crate::words::bit;
-use crate::words::mask_at;
+use crate::point_masks::PointMasks;
+use crate::point_masks::bit;
+use crate::point_masks::mask_at;
 use orient::minors::Line;
 use orient::minors::join;
 use pierce_engine::Engine;
@@ -32,10 +32,10 @@ use scene::decode::row_in;
 mod crossing;
 pub mod planes;
 pub mod slopes;
-mod tell;
+mod digits;
 pub mod ties;
 mod units;
-pub mod words;
+pub mod point_masks;
 
 // The mask of u, v against the `count` faces of a solid, numbered from first + 1 on, in a scene of n points, where the table of words holds
 // the sides of u and v.
@@ -43,7 +43,7 @@ pub fn mask(
     engine: Engine,
     rows: &Rows,
     corners: &Corners,
-    words: &Words,
+    words: &PointMasks,
     n: usize,
     u: usize,
     v: usize,
@@ -58,7 +58,7 @@ pub fn mask(
         × (maskIn (now words) v ≡ sidesOf (rowIn (now rows)) (faceIn (now corners)) first count v) ⌝ }
     ensures { λ r. ⌜ valueOf r ≡ maskAgainst n (rowIn (now (rows .entry))) (faceIn (now (corners .entry))) u v first count ⌝ }
 {
-    between(
+    mask_from_sides(
         engine,
         rows,
         corners,
@@ -73,7 +73,7 @@ pub fn mask(
 }
 
 // The same by the sides of u and v themselves.
-pub fn between(
+pub fn mask_from_sides(
     engine: Engine,
     rows: &Rows,
     corners: &Corners,

@@ -11,9 +11,9 @@ ghost use Rattle.survey_sides.specs.Tables.{planesFrom};
 use crate::units;
 use crate::units::are_units;
 use orient::minors::Line;
-use orient::minors::cross;
+use orient::minors::minor;
 use orient::minors::join;
-use orient::minors::three;
+use orient::minors::alternating;
 use scene::Corners;
 use scene::Face;
 use scene::Row;
@@ -106,10 +106,10 @@ pub fn span(l: Line, r: Row) -> Row
     let yw = l.yw;
     let zw = l.zw;
     Row {
-        x: three(yz, rw, yw, rz, zw, ry),
-        y: three(xz, rw, xw, rz, zw, rx),
-        z: three(xy, rw, xw, ry, yw, rx),
-        w: three(xy, rz, xz, ry, yz, rx),
+        x: alternating(yz, rw, yw, rz, zw, ry),
+        y: alternating(xz, rw, xw, rz, zw, rx),
+        z: alternating(xy, rw, xw, ry, yw, rx),
+        w: alternating(xy, rz, xz, ry, yz, rx),
     }
 }
 
@@ -118,5 +118,5 @@ pub fn dot(p: Row, t: Row) -> i64
     requires { ⌜ dotSize p t ≤ mostFormed ⌝ }
     ensures { λ r. ⌜ r ≡ dotOf p t ⌝ }
 {
-    cross(p.w, p.z, t.z, t.w) + cross(p.y, p.x, t.x, t.y)
+    minor(p.w, p.z, t.z, t.w) + minor(p.y, p.x, t.x, t.y)
 }

@@ -18,10 +18,10 @@ use crate::planes::dot;
 use crate::planes::plane_at;
 use crate::planes::through;
 use crate::units::are_units;
-use crate::units::seen;
-use orient::minors::less;
+use crate::units::plane_from_directions;
+use orient::minors::row_minus;
 use orient::minors::sum;
-use orient::minors::triple;
+use orient::minors::triple_product;
 use orient::shift_at;
 use scene::Corners;
 use scene::Face;
@@ -36,7 +36,7 @@ pub type Slopes = [i64; 4 * (2 * Scene::MOST_FACES + 1)];
 
 // c1 of the corners of face k, turned as its plane is, and point t, whose row is r and whose shift is s. The planes are those of the faces
 // from base + 1 on.
-pub fn tilt_at(
+pub fn c1_at(
     rows: &Rows,
     corners: &Corners,
     planes: &Planes,
@@ -68,7 +68,7 @@ fn slope_at(rows: &Rows, corners: &Corners, k: usize, slopes: &mut Slopes) -> Ro
     ensures slope { λ r. ⌜ r ≡ slopeFor (rowIn (now (rows .entry))) (faceIn (now (corners .entry)) k) ⌝ }
     ensures sloped { λ r. ⌜ Sloped (rowIn (now (rows .entry))) (faceIn (now (corners .entry))) (now (slopes .exit)) ⌝ }
 {
-    let s = held(slopes, k);
+    let s = stored_slope(slopes, k);
     if is_blank(s) {
         let made = slope(rows, face_in(corners, k));
         put(slopes, k, made);
@@ -78,7 +78,7 @@ fn slope_at(rows: &Rows, corners: &Corners, k: usize, slopes: &mut Slopes) -> Ro
 }
 
 // What the table has of face k.
-fn held(slopes: &Slopes, k: usize) -> Row
+fn stored_slope(slopes: &Slopes, k: usize) -> Row
     requires { ⌜ k ≤ 2 * limits .mostFaces ⌝ }
     ensures { λ r. ⌜ r ≡ rowIn (now (slopes .entry)) k ⌝ }
 {
@@ -115,7 +115,7 @@ fn slope(rows: &Rows, f: Face) -> Row
     let q = row_in(rows, f.q);
     let r = row_in(rows, f.r);
     if are_units(q, p, r) {
-        return slope_seen(rows, f);
+        return slope_from_directions(rows, f);
     }
     added(
         through(shift_at(rows, f.q), p, r),
@@ -125,23 +125,23 @@ fn slope(rows: &Rows, f: Face) -> Row
 }
 
 // The same of corners of weight 1, by directions.
-fn slope_seen(rows: &Rows, f: Face) -> Row
+fn slope_from_directions(rows: &Rows, f: Face) -> Row
     requires { ⌜ AllWithin limits (rowIn (now rows)) × FaceWithin limits f
         × Units (rowIn (now rows) (f .q)) (rowIn (now rows) (f .p)) (rowIn (now rows) (f .r)) ⌝ }
     ensures { λ r. ⌜ r ≡ slopeFor (rowIn (now (rows .entry))) f ⌝ }
 {
     let r = row_in(rows, f.r);
     let o = shift_at(rows, f.r);
-    let u = less(row_in(rows, f.q), r);
-    let v = less(row_in(rows, f.p), r);
+    let u = row_minus(row_in(rows, f.q), r);
+    let v = row_minus(row_in(rows, f.p), r);
     added(
-        seen(less(shift_at(rows, f.q), o), v, r),
-        seen(u, less(shift_at(rows, f.p), o), r),
+        plane_from_directions(row_minus(shift_at(rows, f.q), o), v, r),
+        plane_from_directions(u, row_minus(shift_at(rows, f.p), o), r),
         Row {
             x: 0,
             y: 0,
             z: 0,
-            w: triple(o, u, v),
+            w: triple_product(o, u, v),
         },
     )
 }

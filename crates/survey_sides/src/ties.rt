@@ -5,18 +5,18 @@ ghost use Rattle.scene.specs.Limits.{limits, mostPoints};
 ghost use Rattle.scene.specs.Arrays.{rowIn, faceIn, AllWithin, FacesWithin};
 ghost use Rattle.orient.specs.Shifts.{shiftAt};
 ghost use Rattle.survey_sides.specs.Sides.{above, sidesOf, planeIn, Ready, ReadyAll};
-ghost use Rattle.survey_sides.specs.Told.{InPlane};
+ghost use Rattle.survey_sides.specs.PlaneAt.{InPlane};
 ghost use Rattle.survey_sides.specs.Candidates.{AtEach};
 ghost use Rattle.survey_sides.specs.Slopes.{Sloped};
-ghost use Rattle.survey_sides.specs.Ties.{IsTold, Tied, settledOf};
+ghost use Rattle.survey_sides.specs.Ties.{AreDigitsOf, Tied, settledOf};
 use crate::planes::Planes;
 use crate::slopes::Slopes;
-use crate::slopes::tilt_at;
-use crate::tell::Told;
-use crate::tell::above_of;
-use crate::tell::has_ties;
-use crate::tell::tell;
-use crate::words::bit;
+use crate::slopes::c1_at;
+use crate::digits::PointDigits;
+use crate::digits::above_of;
+use crate::digits::has_ties;
+use crate::digits::digits_of_point;
+use crate::point_masks::bit;
 use orient::shift_at;
 use orient::tied_at;
 use pierce_masks::Mask;
@@ -44,7 +44,7 @@ pub fn sides(
     ensures { λ r. ⌜ (r ≡ sidesOf (rowIn (now (rows .entry))) (faceIn (now (corners .entry))) first count t)
         × Sloped (rowIn (now (rows .entry))) (faceIn (now (corners .entry))) (now (slopes .exit)) ⌝ }
 {
-    let m = tell(rows, corners, planes, first, count, t);
+    let m = digits_of_point(rows, corners, planes, first, count, t);
     if has_ties(m) {
         return settled(rows, corners, planes, first, count, t, m, slopes);
     }
@@ -59,13 +59,13 @@ fn settled(
     first: usize,
     count: usize,
     t: usize,
-    m: Told,
+    m: PointDigits,
     slopes: &mut Slopes,
 ) -> Mask
     requires rows { ⌜ AllWithin limits (rowIn (now rows)) × FacesWithin limits (faceIn (now corners)) × (t ≤ mostPoints limits) ⌝ }
     requires faces { ⌜ (first + count ≤ 2 * limits .mostFaces) × (count ≤ limits .mostFaces)
         × ReadyAll (rowIn (now rows)) (faceIn (now corners)) (planeIn (now planes) first) t first count ⌝ }
-    requires told { ⌜ IsTold (rowIn (now rows)) (faceIn (now corners)) first count t m ⌝ }
+    requires told { ⌜ AreDigitsOf (rowIn (now rows)) (faceIn (now corners)) first count t m ⌝ }
     requires sloped { ⌜ Sloped (rowIn (now rows)) (faceIn (now corners)) (now slopes) ⌝ }
     ensures { λ r. ⌜ (r ≡ sidesOf (rowIn (now (rows .entry))) (faceIn (now (corners .entry))) first count t)
         × Sloped (rowIn (now (rows .entry))) (faceIn (now (corners .entry))) (now (slopes .exit)) ⌝ }
@@ -147,7 +147,7 @@ fn tie_above(
     ensures { λ a. ⌜ (a ≡ above (rowIn (now (rows .entry))) t (faceIn (now (corners .entry)) k))
         × Sloped (rowIn (now (rows .entry))) (faceIn (now (corners .entry))) (now (slopes .exit)) ⌝ }
 {
-    let d = tilt_at(rows, corners, planes, base, k, t, r, s, slopes);
+    let d = c1_at(rows, corners, planes, base, k, t, r, s, slopes);
     if d != 0 {
         return d < 0;
     }

@@ -2,13 +2,13 @@
 ghost use mathlib.Core.Path.{_≡_};
 ghost use Rattle.scene.specs.Limits.{limits};
 ghost use Rattle.scene.specs.Arrays.{RowWithin};
-ghost use Rattle.orient.specs.Formed.{mostFormed, TripleWithin};
+ghost use Rattle.orient.specs.Formed.{mostFormed, TripleProductWithin};
 ghost use Rattle.orient.specs.Ones.{isOne};
 ghost use Rattle.survey_sides.specs.Planes.{planeOf};
-ghost use Rattle.survey_sides.specs.Units.{areUnits, Units, seenPlane};
-use orient::minors::cross;
-use orient::minors::less;
-use orient::minors::triple;
+ghost use Rattle.survey_sides.specs.Units.{areUnits, Units, planeFromDirections};
+use orient::minors::minor;
+use orient::minors::row_minus;
+use orient::minors::triple_product;
 use scene::Row;
 
 // Whether all three have weight 1.
@@ -29,18 +29,18 @@ pub fn plane(a: Row, b: Row, c: Row) -> Row
     requires { ⌜ RowWithin limits a × RowWithin limits b × RowWithin limits c × Units a b c ⌝ }
     ensures { λ p. ⌜ p ≡ planeOf a b c ⌝ }
 {
-    seen(less(a, c), less(b, c), c)
+    plane_from_directions(row_minus(a, c), row_minus(b, c), c)
 }
 
 // The plane of a row of weight 1 and two directions.
-pub fn seen(u: Row, v: Row, c: Row) -> Row
-    requires { ⌜ TripleWithin mostFormed c u v ⌝ }
-    ensures { λ p. ⌜ p ≡ seenPlane u v c ⌝ }
+pub fn plane_from_directions(u: Row, v: Row, c: Row) -> Row
+    requires { ⌜ TripleProductWithin mostFormed c u v ⌝ }
+    ensures { λ p. ⌜ p ≡ planeFromDirections u v c ⌝ }
 {
     Row {
-        x: cross(u.y, u.z, v.y, v.z),
-        y: cross(u.x, u.z, v.x, v.z),
-        z: cross(u.x, u.y, v.x, v.y),
-        w: triple(c, u, v),
+        x: minor(u.y, u.z, v.y, v.z),
+        y: minor(u.x, u.z, v.x, v.z),
+        z: minor(u.x, u.y, v.x, v.y),
+        w: triple_product(c, u, v),
     }
 }

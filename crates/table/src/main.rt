@@ -16,7 +16,7 @@ struct Turn {
 }
 
 // The next file's row, where there is one. Behind a row that can't be written there is none.
-fn told(
+fn next_row(
     program: &[u8],
     w: Walk,
     piece: &mut [u8],
@@ -52,7 +52,7 @@ fn all_told(
     let mut w = first;
     let mut left = MOST_FILES;
     while left > 0 {
-        let t = told(program, w, piece, name, s, out);
+        let t = next_row(program, w, piece, name, s, out);
         let v = t.walk;
         w = v;
         if t.over {

@@ -13,7 +13,7 @@ use Rattle.scene.specs.Read.{size-b}
 use Rattle.scene.specs.Tables.{size}
 use Rattle.scene.specs.declared.Row.{Row}
 use Rattle.scene.specs.declared.Refusal.the-variants.{Opening}
-use Rattle.judge.specs.Judge.{judged, rule}
+use Rattle.judge.specs.Judge.{judged, refuseUnless}
 use Rattle.judge.specs.Tests.{never}
 use Rattle.judge.specs.declared.Judged.{Judged}
 use Rattle.judge.specs.declared.Judged.the-variants as judge
@@ -122,7 +122,7 @@ group-holds b Two p v h =
 -- ---- the lecturer's move
 
 pub empty-told : (s : Session) (n : ℕ) (v : Row) → session.Holds s → Empty s → fixtureMovedOf s n v .answer ≡ judge.Refused Opening
-unfolding fixtureMovedOf numberFault rule
+unfolding fixtureMovedOf numberFault refuseUnless
 empty-told s n v h e = rw (empty-solids s h e)
 
 module _ (b : Bench) (n : ℕ) (v : Row) (h : Holds b) where

@@ -10,8 +10,8 @@ use borrow.Author.Tests.{eq-eqb, le-leb, lt-leb}
 use Rattle.scene.specs.Limits.{limits, within}
 use Rattle.scene.specs.Records.{vertsA, vertsB, verts, lengthOf}
 use Rattle.scene.specs.declared.Row.{Row}
-use Rattle.scene.specs.declared.Refusal.the-variants.{Lacking, Coordinate, Weight, Nowhere}
-use Rattle.judge.specs.Judge.{rule, andThen}
+use Rattle.scene.specs.declared.Refusal.the-variants.{NoSuchNumber, Coordinate, Weight, FarAllZero}
+use Rattle.judge.specs.Judge.{refuseUnless, andThen}
 use Rattle.judge.specs.Tests.{within-iff}
 use Rattle.judge.specs.declared.Judged.{Judged}
 use Rattle.judge.specs.declared.Judged.the-variants as judge
@@ -24,22 +24,24 @@ use Rattle.theorem_bench.specs.Effect.{full-whole, full-solids, vertex-a
 
 -- 11, then 5 and 6, and for the far point 14, in the lecturer's numbers, where the fixture has b vertices
 unfoldable pub farRowFault : ℕ → Sizes → Judged
-farRowFault n m = andThen (rowFault 0 n m) (rule (not (isNowhere m)) (Nowhere n) judge.Accepted)
+farRowFault n m = andThen (rowFault 0 n m) (refuseUnless (not (isNowhere m)) (FarAllZero n) judge.Accepted)
 
 unfoldable pub lecturerFault : (b n : ℕ) → Row → Judged
-lecturerFault b n v = rule (within 1 (b + 1) n) Lacking (cond (leb n b) (rowFault 1 n (sizesOf v)) (farRowFault n (sizesOf v)))
+lecturerFault b n v = refuseUnless (within 1 (b + 1) n) NoSuchNumber (cond (leb n b) (rowFault 1 n (sizesOf v)) (farRowFault n (sizesOf v)))
 
 -- ---- a refusal of a row, with another place
 
 placed-row : (least p n : ℕ) (m : Sizes) → placedIn n (rowFault least p m) ≡ rowFault least n m
-unfolding rowFault rule placedIn placed
+unfolding rowFault refuseUnless placedIn placed
 placed-row least p n m =
     let c = limits .mostCoordinate in
     go (leb (m .x) c) (leb (m .y) c) (leb (m .z) c) (within least (limits .mostWeight) (m .w))
   where
     go : (a b c d : Bool) →
-        placedIn n (rule a (Coordinate p) (rule b (Coordinate p) (rule c (Coordinate p) (rule d (Weight p) judge.Accepted))))
-        ≡ rule a (Coordinate n) (rule b (Coordinate n) (rule c (Coordinate n) (rule d (Weight n) judge.Accepted)))
+        placedIn n (refuseUnless a (Coordinate p)
+            (refuseUnless b (Coordinate p) (refuseUnless c (Coordinate p) (refuseUnless d (Weight p) judge.Accepted))))
+        ≡ refuseUnless a (Coordinate n)
+            (refuseUnless b (Coordinate n) (refuseUnless c (Coordinate n) (refuseUnless d (Weight n) judge.Accepted)))
     go false b c d = refl
     go true false c d = refl
     go true true false d = refl
@@ -51,8 +53,9 @@ unfolding andThen placedIn
 placed-then n judge.Accepted y = refl
 placed-then n (judge.Refused r) y = refl
 
-placed-nowhere : (p n : ℕ) (b : Bool) → placedIn n (rule b (Nowhere p) judge.Accepted) ≡ rule b (Nowhere n) judge.Accepted
-unfolding rule placedIn placed
+placed-nowhere : (p n : ℕ) (b : Bool) → placedIn n (refuseUnless b (FarAllZero p) judge.Accepted) ≡ refuseUnless b (FarAllZero n)
+    judge.Accepted
+unfolding refuseUnless placedIn placed
 placed-nowhere p n true = refl
 placed-nowhere p n false = refl
 
@@ -74,14 +77,14 @@ module _ (s : Session) (n : ℕ) (v : Row) (f : Full s) where
   whole = eq-eqb (length (scene s)) (lengthOf (scene s)) (full-whole s f)
 
   vertex-said : 1 ≤ n → n ≤ vertsB (scene s) → placedIn n (movedOf s (vertsA (scene s) + n) v .answer) ≡ rowFault 1 n (sizesOf v)
-  unfolding vertexFault rule
+  unfolding vertexFault refuseUnless
   vertex-said l h =
       ap (placedIn n)
       (vertex-answer s v (a + n) ∙ rw (whole, within-iff 1 (verts (scene s)) (a + n) .1 (omega arith, omega arith)))
       ∙ placed-row 1 (a + n) n (sizesOf v)
 
   far-said : placedIn n (farMovedOf s v .answer) ≡ farRowFault n (sizesOf v)
-  unfolding farFault rule farRowFault
+  unfolding farFault refuseUnless farRowFault
   far-said = ap (placedIn n) (far-answer s v ∙ rw whole) ∙ placed-far (verts (scene s) + 1) n (sizesOf v)
 
   scene-said : 1 ≤ n → Dec (n ≤ vertsB (scene s)) →
@@ -92,11 +95,11 @@ module _ (s : Session) (n : ℕ) (v : Row) (f : Full s) where
   scene-said l (no h) = rw (lt-leb n b (omega arith)) far-said
 
   pub lecturer-told : fixtureMovedOf s n v .answer ≡ lecturerFault (vertsB (scene s)) n v
-  unfolding fixtureMovedOf lecturerFault numberFault rule
+  unfolding fixtureMovedOf lecturerFault numberFault refuseUnless
   lecturer-told = rw (full-solids s f) (go (within 1 (b + 1) n) refl)
     where
       go : (t : Bool) → within 1 (b + 1) n ≡ t →
-          fixtureMovedBy (rule t Lacking judge.Accepted) s n v .answer
-          ≡ rule t Lacking (cond (leb n b) (rowFault 1 n (sizesOf v)) (farRowFault n (sizesOf v)))
+          fixtureMovedBy (refuseUnless t NoSuchNumber judge.Accepted) s n v .answer
+          ≡ refuseUnless t NoSuchNumber (cond (leb n b) (rowFault 1 n (sizesOf v)) (farRowFault n (sizesOf v)))
       go true e = rw (full-solids s f) (scene-said (within-iff 1 (b + 1) n .0 e .0) (decLe n b))
       go false e = refl

@@ -7,7 +7,7 @@ use denote.Ref.{now}
 use Rattle.scene.specs.Write.{rowPut}
 use Rattle.judge.specs.Judge.{judged}
 use Rattle.questions.specs.Answers.{verdictNumber, verdictOf}
-use Rattle.session.specs.Session.{turnedIn}
+use Rattle.session.specs.Session.{reversedIn}
 use Rattle.session.specs.Place.{moveFault, moveFarFault, reverseFault}
 use Rattle.doubles.specs.Taken.{takenOf}
 use Rattle.bodhranhaze.specs.Calls.{refusalNumber, refusalPlace, pairsOf, insideOf, IsListing}
@@ -69,7 +69,7 @@ pub move-far-is : (κs a r e : _) → move-far.Post κs a r e →
 move-far-is κs a r e x = x
 
 pub reverse-is : (κs a r e : _) → reverse.Post κs a r e →
-    IsAnswered (reverseFault (now (a .0)) (a .1 .0)) (now (a .0)) (turnedIn (now (a .0)) (now (a .0)) (a .1 .0 - 1)) (now (e .0)) r
+    IsAnswered (reverseFault (now (a .0)) (a .1 .0)) (now (a .0)) (reversedIn (now (a .0)) (now (a .0)) (a .1 .0 - 1)) (now (e .0)) r
 reverse-is κs a r e x = x
 
 pub take-is : (κs a r e : _) → take.Post κs a r e →

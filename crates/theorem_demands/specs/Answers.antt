@@ -12,7 +12,7 @@ use lib.ListN.{length}
 use Rattle.scene.specs.Limits.{limits}
 use Rattle.scene.specs.Refusal.{numberOf}
 use Rattle.scene.specs.declared.Refusal.{Refusal}
-use Rattle.scene.specs.declared.Refusal.the-variants.{Room, Lacking, Same, Buffer}
+use Rattle.scene.specs.declared.Refusal.the-variants.{ListTooShort, NoSuchNumber, NotDistinct, BufferTooShort}
 use Rattle.judge.specs.declared.Judged.the-variants.{Refused}
 use Rattle.rules.specs.Rules.{Between, FileOk}
 use Rattle.rules.specs.Grounds.{Grounds}
@@ -52,10 +52,10 @@ OfScene n = Between 1 9 n ⊎ (n ≡ 14)
 -- keeps the rules, 10 where the list is too short, 11 where the scene lacks a number, and 12 where it has them all and points are the same
 pub record Refusals (s : List ℕ) (Refuses : Refusal → Type 0) (Short : ℕ → Type 0) (Has Alike : Type 0) : Type 0 where
   pub scene : (r : Refusal) → OfScene (numberOf r) → Refuses r ↔ Grounds limits s r
-  pub room : (n : ℕ) → Refuses (Room n) ↔ (FileOk limits s × Short n)
-  pub buffer : (n : ℕ) → ¬ Refuses (Buffer n)
-  pub lacking : Refuses Lacking ↔ (FileOk limits s × ¬ Has)
-  pub same : Refuses Same ↔ (FileOk limits s × Has × Alike)
+  pub room : (n : ℕ) → Refuses (ListTooShort n) ↔ (FileOk limits s × Short n)
+  pub buffer : (n : ℕ) → ¬ Refuses (BufferTooShort n)
+  pub lacking : Refuses NoSuchNumber ↔ (FileOk limits s × ¬ Has)
+  pub same : Refuses NotDistinct ↔ (FileOk limits s × Has × Alike)
 
 pub record Answers (s : List ℕ) : Type 0 where
   -- four points, which must differ

@@ -8,7 +8,7 @@ use Prim.Native.Nat.{ℕ}
 use Rattle.laws.specs.Lists.{Each, Some}
 use Rattle.scene.specs.Refusal.{numberOf, placeOf}
 use Rattle.scene.specs.declared.Refusal.{Refusal}
-use Rattle.scene.specs.declared.Refusal.the-variants.{Room, Lacking, Same}
+use Rattle.scene.specs.declared.Refusal.the-variants.{ListTooShort, NoSuchNumber, NotDistinct}
 use Rattle.judge.specs.declared.Judged.the-variants.{Refused}
 use Rattle.record.specs.Shown.{refusal}
 use Rattle.questions.specs.Answers.{signOf, piercesOf, maskedOf, refused, enclosedOf, countedOf, verdictOf, IsListed, IsPart, insideOf}
@@ -22,9 +22,9 @@ use Rattle.questions.specs.declared.Listed.the-variants as listed
 
 -- the places of 11 and 12 are 0, that of 10 is the count
 pub record Places : Type 0 where
-  pub room : (n : ℕ) → placeOf (Room n) ≡ n
-  pub lacking : placeOf Lacking ≡ 0
-  pub same : placeOf Same ≡ 0
+  pub room : (n : ℕ) → placeOf (ListTooShort n) ≡ n
+  pub lacking : placeOf NoSuchNumber ≡ 0
+  pub same : placeOf NotDistinct ≡ 0
 
 abbrev pub ofScene : List ℕ
 ofScene = 1 ∷ 2 ∷ 3 ∷ 4 ∷ 5 ∷ 6 ∷ 7 ∷ 8 ∷ 9 ∷ 14 ∷ []

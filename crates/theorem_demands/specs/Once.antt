@@ -34,15 +34,15 @@ use Rattle.pierce_masks.specs.Faces.{valueOf, isOdd, hasFace, firstFace}
 use Rattle.pierce.specs.Against.{maskAgainst}
 use Rattle.pierce_masks.specs.declared.Mask.{Mask}
 use Rattle.pierce_plain.specs.Five.{fiveSigns}
-use Rattle.survey.specs.declared.Part.{Part}
-use Rattle.survey_first.specs.declared.Sought.{Sought}
+use Rattle.survey.specs.declared.SolidSurvey.{SolidSurvey}
+use Rattle.survey_first.specs.declared.FirstOrEnclosed.{FirstOrEnclosed}
 use Rattle.questions.specs.declared.Enclosing.{Enclosing}
 use Rattle.questions.specs.Answers.{isPoint, signOf, piercesOf, saidMask, maskedOf, enclosedOf, countedOf}
 use Rattle.questions.specs.Answers.{verdictOf, IsListed, IsPart, insideOf}
 use Rattle.questions.specs.Answers.{verdictIn, listingIn}
 use Rattle.survey_scene.specs.Facts.{IsSurvey}
 use Rattle.questions.specs.Listings.{PouredIf}
-use Rattle.survey_scene.specs.Surveys.{SurveyIs, SoughtIs}
+use Rattle.survey_scene.specs.Surveys.{SurveyIs, FirstOrEnclosedIs}
 use Rattle.questions.specs.declared.Signed.{Signed}
 use Rattle.questions.specs.declared.Answer.{Answer}
 use Rattle.questions.specs.declared.Masked.{Masked}
@@ -69,7 +69,7 @@ WordsSaid (Faces m n) = Words m
 
 -- what a survey leaves of one solid: its part of the answer, and the table of its edges
 pub record Table : Type 0 where
-  pub part : Part
+  pub part : SolidSurvey
   pub ends : List ℕ
   pub masks : List ℕ
 
@@ -145,10 +145,10 @@ pub record KernelOnce : Type 0 where
 pub record SurveysOnce : Type 0 where
   pub survey-of : (s : List ℕ) (a b c d : Table) → WordsHeld a → WordsHeld b → WordsHeld c → WordsHeld d → Left s a b → Left s c d →
       Alike a c × Alike b d
-  pub sought-of : Once (λ (s : List ℕ) (r : Sought). SoughtIs (viewOf s) r)
+  pub first-or-enclosed : Once (λ (s : List ℕ) (r : FirstOrEnclosed). FirstOrEnclosedIs (viewOf s) r)
   pub verdict-by : Once (λ (s : List ℕ) (r : Verdict). r ≡ verdictIn (viewOf s))
   pub verdict-read : Once (λ (s : List ℕ) (r : Verdict). r ≡ verdictIn (viewOf s))
-  pub pour-read : (s : List ℕ) (from : ℕ) (all : Bool) →
+  pub write-read : (s : List ℕ) (from : ℕ) (all : Bool) →
       Once (λ (out : List ℕ) (left : List ℕ × ℕ). PouredIf (listingIn (viewOf s)) from all out (left .0) (left .1))
   pub survey : (s : List ℕ) → Once (λ (out : List ℕ) (left : List ℕ × Surveyed). IsSurvey s out (left .0) (left .1))
 

@@ -35,7 +35,7 @@ Parity l =
 
 -- the same by the numbers of pierced faces: of solid k's faces the sides pierce x, y and z
 abbrev pub facesOf : List ℕ → ℕ → List ℕ
-facesOf s k = numbered (solid (viewOf s) k .first + 1) (solid (viewOf s) k .count)
+facesOf s k = numbered (solid (viewOf s) k .face0 + 1) (solid (viewOf s) k .faces)
 
 abbrev pub CountParity : Limits → Type 0
 CountParity l =
@@ -47,8 +47,8 @@ abbrev pub Route : Limits → Type 0
 Route l = Always l (λ s k u v w. isOdd (maskIn (viewOf s) u v k) ≡ isOdd (maskIn (viewOf s) u w k) ⊕ isOdd (maskIn (viewOf s) v w k))
 
 -- with this kernel's limits these masks are what the question answers
-abbrev pub Asked : Type 0
-Asked = Always limits (λ s k u v w. maskedOf s u v k ≡ faces-are (maskIn (viewOf s) u v k) (ones (maskIn (viewOf s) u v k)))
+abbrev pub MasksAreTheAnswers : Type 0
+MasksAreTheAnswers = Always limits (λ s k u v w. maskedOf s u v k ≡ faces-are (maskIn (viewOf s) u v k) (ones (maskIn (viewOf s) u v k)))
 
 -- all of it, of whatever limits the scenes are judged with, and so of this kernel's
 pub record ParityAt (l : Limits) : Type 0 where

@@ -21,18 +21,18 @@ use Rattle.judge.specs.Judge.{judged}
 use Rattle.judge.specs.declared.Judged.the-variants.{Accepted}
 use Rattle.question_listing.specs.Hits.{Hit}
 use Rattle.question_listing.specs.First.{firstOf}
-use Rattle.question_listing.specs.Pour.{partIn}
+use Rattle.question_listing.specs.WritePairs.{partIn}
 use Rattle.question_listing.specs.declared.find.Found.the-variants.{Nothing, Pair}
 use Rattle.survey_edges.specs.Table.{Entry, entriesIn}
 use Rattle.survey.specs.Survey.{pairsOf}
 use Rattle.survey.specs.declared.Survey.{Survey}
-use Rattle.survey_first.specs.declared.Sought.{Sought}
+use Rattle.survey_first.specs.declared.FirstOrEnclosed.{FirstOrEnclosed}
 use Rattle.questions.specs.Answers.{maskIn, verdictOf, listingIn}
 use Rattle.survey_scene.proofs.survey_of.Reads as survey-of
-use Rattle.survey_scene.proofs.sought_of.Reads as sought-of
+use Rattle.survey_scene.proofs.first_or_enclosed.Reads as first-or-enclosed
 use Rattle.survey_scene.proofs.verdict_by.Reads as verdict-by
 use Rattle.survey_scene.proofs.verdict_read.Reads as verdict-read
-use Rattle.survey_scene.proofs.pour_read.Reads as pour-read
+use Rattle.survey_scene.proofs.write_read.Reads as write-read
 use Rattle.theorem_demands.specs.Words.{FaceOfA, FaceOfB, Edge, Enclosed, _▸_}
 
 -- ---- what a survey leaves
@@ -59,10 +59,10 @@ pub record TablesAre (s ends-a masks-a ends-b masks-b : List ℕ) (t : Survey) :
   pub inside : AreWords s (t .a .inside) (t .b .inside)
   pub of-a : EdgesAre s (FaceOfA s) 2 (entriesIn ends-a masks-a (t .a .edges))
   pub of-b : EdgesAre s (FaceOfB s) 1 (entriesIn ends-b masks-b (t .b .edges))
-  pub pairs : pairsOf t (solid (viewOf s) 1 .other) (solid (viewOf s) 2 .other) ends-a masks-a ends-b masks-b ≡ listingIn (viewOf s)
+  pub pairs : pairsOf t (solid (viewOf s) 1 .other0) (solid (viewOf s) 2 .other0) ends-a masks-a ends-b masks-b ≡ listingIn (viewOf s)
 
 -- the first pair; where there is none the words, and where there is one 0
-pub record FirstOrWords (s : List ℕ) (t : Sought) : Type 0 where
+pub record FirstOrWords (s : List ℕ) (t : FirstOrEnclosed) : Type 0 where
   pub first : t .first ≡ firstOf (listingIn (viewOf s))
   pub none : t .first ≡ Nothing → AreWords s (t .a) (t .b)
   pub some : (u v f : ℕ) → t .first ≡ Pair u v f → (t .a ≡ 0) × (t .b ≡ 0)
@@ -79,12 +79,12 @@ pub record Surveys : Type 0 where
       survey-of.Post κs (engine ▸ s ▸ aends ▸ amasks ▸ bends ▸ bmasks ▸ tt) r
       (engine′ ▸ s′ ▸ aends′ ▸ amasks′ ▸ bends′ ▸ bmasks′ ▸ tt) → judged (now s) ≡ Accepted →
       TablesAre (now s) (now aends′) (now amasks′) (now bends′) (now bmasks′) r
-  pub sought-of-is : (κs engine s r e : _) → sought-of.Post κs (engine ▸ s ▸ tt) r e → FirstOrWords (now s) r
+  pub first-or-enclosed-is : (κs engine s r e : _) → first-or-enclosed.Post κs (engine ▸ s ▸ tt) r e → FirstOrWords (now s) r
   -- of an accepted scene, the question's verdict
   pub verdict-by-is : (κs s t r e : _) → verdict-by.Post κs (s ▸ t ▸ tt) r e → judged (now s) ≡ Accepted → r ≡ verdictOf (now s)
   pub verdict-read-is : (κs t s aends amasks bends bmasks r e : _) →
       verdict-read.Post κs (t ▸ s ▸ aends ▸ amasks ▸ bends ▸ bmasks ▸ tt) r e → judged (now s) ≡ Accepted → r ≡ verdictOf (now s)
-  pub pour-read-is : (κs t s aends amasks bends bmasks from all out r t′ s′ aends′ amasks′ bends′ bmasks′ from′ all′ out′ : _) →
-      pour-read.Post κs (t ▸ s ▸ aends ▸ amasks ▸ bends ▸ bmasks ▸ from ▸ all ▸ out ▸ tt) r
+  pub write-read-is : (κs t s aends amasks bends bmasks from all out r t′ s′ aends′ amasks′ bends′ bmasks′ from′ all′ out′ : _) →
+      write-read.Post κs (t ▸ s ▸ aends ▸ amasks ▸ bends ▸ bmasks ▸ from ▸ all ▸ out ▸ tt) r
       (t′ ▸ s′ ▸ aends′ ▸ amasks′ ▸ bends′ ▸ bmasks′ ▸ from′ ▸ all′ ▸ out′ ▸ tt) →
       PartPoured (listingIn (viewOf (now s))) from all (now out) (now out′) r

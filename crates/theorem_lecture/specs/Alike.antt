@@ -21,7 +21,8 @@ use Rattle.pierce.specs.Formula.{pierced}
 use Rattle.pierce.specs.Beside.{Beside, beside}
 use Rattle.pierce_masks.specs.Faces.{isOdd}
 use Rattle.pierce.specs.Against.{maskAgainst}
-use Rattle.question_listing.specs.Hits.{Seen, Hit, faceHits, edgeHits, pairHits, pairsAt, vertexHits, solidHits, isInside, insideCount, lowestInside}
+use Rattle.question_listing.specs.Hits.{PierceView, Hit, faceHits, edgeHits, pairHits, pairsAt, vertexHits, solidHits, enclosedVertex}
+use Rattle.question_listing.specs.Hits.{enclosedCount, lowestEnclosed}
 
 -- a point of n that is no vertex of the solid whose vertices are the points above low, up to high
 pub record Clear (n low high i : ℕ) : Type 0 where
@@ -45,18 +46,18 @@ module _ (n : ℕ) (row row′ : ℕ → Row) (face : ℕ → Face) (same : Same
         (λ i b. pierced-same u v cu cv d (face (first + 1 + i)) (faces i b))
 
   -- the vertices of k are none of the other solid's
-  module _ (k : Solid) (faces : (i : ℕ) → i < k .others → FaceOf low high (face (k .other + 1 + i)))
-      (own : (i : ℕ) → k .low < i → i ≤ k .low + k .verts → Clear n low high i) (far : Clear n low high n)
-      (last : k .low + k .verts < n) where
-    abbrev o : Seen
+  module _ (k : Solid) (faces : (i : ℕ) → i < k .others → FaceOf low high (face (k .other0 + 1 + i)))
+      (own : (i : ℕ) → k .vert0 < i → i ≤ k .vert0 + k .verts → Clear n low high i) (far : Clear n low high n)
+      (last : k .vert0 + k .verts < n) where
+    abbrev o : PierceView
     o = record { points = n; row = row; face = face }
 
-    abbrev o′ : Seen
+    abbrev o′ : PierceView
     o′ = record { points = n; row = row′; face = face }
 
     face-same : (u v i : ℕ) → Clear n low high u → Clear n low high v → u ≢ v → i < k .others → faceHits o k u v i ≡ faceHits o′ k u v i
     unfolding faceHits
-    face-same u v i cu cv d b = rw (pierced-same u v cu cv d (face (k .other + 1 + i)) (faces i b))
+    face-same u v i cu cv d b = rw (pierced-same u v cu cv d (face (k .other0 + 1 + i)) (faces i b))
 
     pair-same : (u v : ℕ) (both : Bool) → Clear n low high u → Clear n low high v → pairHits o k u v both ≡ pairHits o′ k u v both
     unfolding pairHits edgeHits
@@ -74,22 +75,22 @@ module _ (n : ℕ) (row row′ : ℕ → Row) (face : ℕ → Face) (same : Same
     unfolding vertexHits
     vertex-same u cu =
         upTo-same (pairsAt o k u) (pairsAt o′ k u) (k .verts)
-        (λ m b. pair-same u (k .low + 1 + m) (joined face k u (k .low + 1 + m)) cu (own (k .low + 1 + m) (omega arith) (omega arith)))
+        (λ m b. pair-same u (k .vert0 + 1 + m) (joined face k u (k .vert0 + 1 + m)) cu (own (k .vert0 + 1 + m) (omega arith) (omega arith)))
 
     pub hits-same : solidHits o k ≡ solidHits o′ k
     unfolding solidHits
     hits-same =
-        upTo-same (λ i. vertexHits o k (k .low + 1 + i)) (λ i. vertexHits o′ k (k .low + 1 + i)) (k .verts)
-        (λ i b. vertex-same (k .low + 1 + i) (own (k .low + 1 + i) (omega arith) (omega arith)))
+        upTo-same (λ i. vertexHits o k (k .vert0 + 1 + i)) (λ i. vertexHits o′ k (k .vert0 + 1 + i)) (k .verts)
+        (λ i b. vertex-same (k .vert0 + 1 + i) (own (k .vert0 + 1 + i) (omega arith) (omega arith)))
 
-    inside-same : (u : ℕ) → k .low + 1 ≤ u → u < k .low + 1 + k .verts → isInside o k u ≡ isInside o′ k u
-    unfolding isInside
-    inside-same u l m = ap isOdd (masks-same (k .other) (k .others) faces u n (own u (omega arith) (omega arith)) far (omega arith))
+    inside-same : (u : ℕ) → k .vert0 + 1 ≤ u → u < k .vert0 + 1 + k .verts → enclosedVertex o k u ≡ enclosedVertex o′ k u
+    unfolding enclosedVertex
+    inside-same u l m = ap isOdd (masks-same (k .other0) (k .others) faces u n (own u (omega arith) (omega arith)) far (omega arith))
 
-    pub counts-same : insideCount o k ≡ insideCount o′ k
-    unfolding insideCount
-    counts-same = count-same (isInside o k) (isInside o′ k) (k .low + 1) (k .low + 1 + k .verts) inside-same
+    pub counts-same : enclosedCount o k ≡ enclosedCount o′ k
+    unfolding enclosedCount
+    counts-same = count-same (enclosedVertex o k) (enclosedVertex o′ k) (k .vert0 + 1) (k .vert0 + 1 + k .verts) inside-same
 
-    pub lowests-same : lowestInside o k ≡ lowestInside o′ k
-    unfolding lowestInside
-    lowests-same = lowest-same (isInside o k) (isInside o′ k) (k .low + 1) (k .low + 1 + k .verts) inside-same
+    pub lowests-same : lowestEnclosed o k ≡ lowestEnclosed o′ k
+    unfolding lowestEnclosed
+    lowests-same = lowest-same (enclosedVertex o k) (enclosedVertex o′ k) (k .vert0 + 1) (k .vert0 + 1 + k .verts) inside-same

@@ -13,7 +13,7 @@ use Rattle.laws.specs.Runs.{upTo, upTo-same}
 use Rattle.scene_edges.specs.Edges.{joined}
 use Rattle.scene.specs.declared.Solid.{Solid}
 use Rattle.pierce.specs.Formula.{pierced}
-use Rattle.question_listing.specs.Hits.{Seen, Hit, faceHits, edgeHits, pairHits, pairsAt, vertexHits, solidHits}
+use Rattle.question_listing.specs.Hits.{PierceView, Hit, faceHits, edgeHits, pairHits, pairsAt, vertexHits, solidHits}
 
 map-upTo : {A : Type 0} (f : A → A) (g : ℕ → List A) (n : ℕ) → upTo (λ i. map f (g i)) n ≡ map f (upTo g n)
 unfolding upTo
@@ -25,16 +25,16 @@ runs-carried : {A : Type 0} (f : A → A) (g h : ℕ → List A) (m n : ℕ) →
     upTo g m ≡ map f (upTo h n)
 runs-carried f g h m n e s = ap (upTo g) e ∙ upTo-same g (λ i. map f (h i)) n s ∙ map-upTo f h n
 
-module _ (o o′ : Seen) (k k′ : Solid) (carry : Hit → Hit) where
+module _ (o o′ : PierceView) (k k′ : Solid) (carry : Hit → Hit) where
   -- vertex i of the solid, face j of the other, from 0 on, and the pair of two vertices and such a face
   abbrev vertex : Solid → ℕ → ℕ
-  vertex k i = k .low + 1 + i
+  vertex k i = k .vert0 + 1 + i
 
   abbrev pair : Solid → (i m j : ℕ) → Hit
-  pair k i m j = record { low = vertex k i; high = vertex k m; face = k .other + 1 + j }
+  pair k i m j = record { low = vertex k i; high = vertex k m; face = k .other0 + 1 + j }
 
-  abbrev pierces : Seen → Solid → (i m j : ℕ) → Bool
-  pierces o k i m j = pierced (o .points) (o .row) (vertex k i) (vertex k m) (o .face (k .other + 1 + j))
+  abbrev pierces : PierceView → Solid → (i m j : ℕ) → Bool
+  pierces o k i m j = pierced (o .points) (o .row) (vertex k i) (vertex k m) (o .face (k .other0 + 1 + j))
 
   -- as many vertices and faces, the same edges, and they pierce the same faces
   pub record SameSolid : Type 0 where
@@ -66,10 +66,10 @@ module _ (o o′ : Seen) (k k′ : Solid) (carry : Hit → Hit) where
     pair-carried : (i m : ℕ) → i < k .verts → m < k .verts → pairsAt o′ k′ (vertex k′ i) m ≡ map carry (pairsAt o k (vertex k i) m)
     unfolding pairHits edgeHits
     pair-carried i m a b =
-        rw (order (k′ .low) (k .low) i m, h .edges i m a b)
+        rw (order (k′ .vert0) (k .vert0) i m, h .edges i m a b)
         (by (ltb (vertex k i) (vertex k m)) (joined (o .face) k (vertex k i) (vertex k m)) refl)
       where
-        hits : Seen → Solid → List Hit
+        hits : PierceView → Solid → List Hit
         hits o k = upTo (faceHits o k (vertex k i) (vertex k m)) (k .others)
 
         by : (t e : Bool) → ltb (vertex k i) (vertex k m) ≡ t → cond (t && e) (hits o′ k′) [] ≡ map carry (cond (t && e) (hits o k) [])

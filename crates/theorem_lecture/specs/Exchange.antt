@@ -15,7 +15,7 @@ use Rattle.judge.specs.Judge.{judged}
 use Rattle.judge.specs.declared.Judged.the-variants.{Accepted}
 use Rattle.rules.specs.Write.{bytesOf}
 use Rattle.orient.specs.Signs.{Upto}
-use Rattle.question_listing.specs.Hits.{Hit, solidHits, insideCount, lowestInside}
+use Rattle.question_listing.specs.Hits.{Hit, solidHits, enclosedCount, lowestEnclosed}
 use Rattle.question_listing.specs.First.{firstOf}
 use Rattle.questions.specs.Answers.{countedOf, crossOr, verdictNumber, verdictOf}
 use Rattle.questions.specs.declared.Counted.the-variants.{Counts}
@@ -23,7 +23,7 @@ use Rattle.questions.specs.declared.Verdict.{Verdict}
 use Rattle.questions.specs.declared.Verdict.the-variants.{AInB, BInA, Apart}
 use Rattle.clean.specs.Clean.{Clean}
 use Rattle.theorem_lecture.specs.Alike.{Clear}
-use Rattle.theorem_lecture.specs.Lecture.{rowsOf, pointsOf, seen, inA, inB, listed, maskA, maskB}
+use Rattle.theorem_lecture.specs.Lecture.{rowsOf, pointsOf, pierceViewOf, inA, inB, listed, maskA, maskB}
 use Rattle.theorem_lecture.specs.Renumbered.{Untied, renamed}
 
 -- of a things of A and b of B, the number in t of number i of s: A's come behind B's, and what is behind both stays
@@ -62,14 +62,14 @@ abbrev pub carried : List ℕ → Hit → Hit
 carried s h = record { low = to s (h .low); high = to s (h .high); face = faceTo s (h .face) }
 
 unfoldable pub listedExchanged : List ℕ → List Hit
-listedExchanged s = map (carried s) (solidHits (seen s) (inB s) ++ solidHits (seen s) (inA s))
+listedExchanged s = map (carried s) (solidHits (pierceViewOf s) (inB s) ++ solidHits (pierceViewOf s) (inA s))
 
 -- the verdict of s so told: the first such pair; if none, the lowest vertex of B enclosed by A; if none, the lowest of A enclosed by B;
 -- else apart
 unfoldable pub enclosureExchanged : List ℕ → Verdict
 enclosureExchanged s =
-    let p : ℕ = lowestInside (seen s) (inA s) in
-    let q : ℕ = lowestInside (seen s) (inB s) in
+    let p : ℕ = lowestEnclosed (pierceViewOf s) (inA s) in
+    let q : ℕ = lowestEnclosed (pierceViewOf s) (inB s) in
     cond (leb q (verts s)) (AInB (to s q)) (cond (leb p (vertsA s)) (BInA (to s p)) Apart)
 
 unfoldable pub verdictExchanged : List ℕ → Verdict
@@ -82,7 +82,8 @@ pub record SameExchanged (s t : List ℕ) : Type 0 where
       maskB t (to s u) (to s v) ≡ maskA s u v
   pub listing : listed t ≡ listedExchanged s
   pub counted : countedOf t ≡
-      Counts (record { pairs = length (listed s); «a_in_b» = insideCount (seen s) (inB s); «b_in_a» = insideCount (seen s) (inA s) })
+      Counts (record { pairs = length (listed s); «a_in_b» = enclosedCount (pierceViewOf s) (inB s); «b_in_a» = enclosedCount
+          (pierceViewOf s) (inA s) })
   pub verdict : verdictOf t ≡ verdictExchanged s
   -- so both cut each other, or neither do; and both are apart, or neither are
   pub cross : (verdictNumber (verdictOf t) ≡ 0) ↔ (verdictNumber (verdictOf s) ≡ 0)

@@ -19,15 +19,15 @@ use Rattle.judge.specs.declared.Judged.the-variants.{Accepted}
 use Rattle.rules.specs.Given.{counts, weighted, face-of-a, face-of-b}
 use Rattle.orient.specs.Weighted.{Weighted}
 use Rattle.pierce.specs.Beside.{beside}
-use Rattle.question_listing.specs.Hits.{Hit, solidHits, isInside, insideCount, lowestInside}
+use Rattle.question_listing.specs.Hits.{Hit, solidHits, enclosedVertex, enclosedCount, lowestEnclosed}
 use Rattle.question_listing.specs.First.{firstOf}
-use Rattle.questions.specs.Answers.{answered, countsIn, countedOf, crossOr, enclosureIn, verdictIn}
+use Rattle.questions.specs.Answers.{orRefuse, countsIn, countedOf, crossOr, enclosureIn, verdictIn}
 use Rattle.questions.specs.Answers.{verdictOf, verdictNumber, listingIn, insideIn}
 use Rattle.questions.specs.declared.Counted.the-variants.{Counts}
 use Rattle.questions.specs.declared.Verdict.{Verdict}
 use Rattle.questions.specs.declared.Verdict.the-variants.{AInB, BInA, Apart}
 use Rattle.clean.specs.Clean.{Clean}
-use Rattle.theorem_lecture.specs.Lecture.{rowsOf, pointsOf, seen, inA, inB, listed}
+use Rattle.theorem_lecture.specs.Lecture.{rowsOf, pointsOf, pierceViewOf, inA, inB, listed}
 use Rattle.theorem_lecture.specs.Renumbered.{clean-untied}
 use Rattle.theorem_lecture.specs.Exchange.{to, faceTo, carried, Exchanged, NoTies, listedExchanged, enclosureExchanged, verdictExchanged}
 use Rattle.theorem_lecture.specs.Exchange.{SameExchanged, Exchange}
@@ -77,7 +77,7 @@ module _ (s t : List ℕ) (ok : judged s ≡ Accepted) (ok′ : judged t ≡ Acc
   same-points : pointsOf t ≡ n
   same-points = omega (arith, h .verts-a, h .verts-b)
 
-  renumbered : Renumbered (seen s) (seen t) (to s)
+  renumbered : Renumbered (pierceViewOf s) (pierceViewOf t) (to s)
   renumbered =
       record {
         points = same-points;
@@ -92,7 +92,7 @@ module _ (s t : List ℕ) (ok : judged s ≡ Accepted) (ok′ : judged t ≡ Acc
 
   -- ---- A of s is B of t, and B of s is A of t
 
-  a-is-b : Counterpart (seen s) (seen t) (to s) (faceTo s) (inA s) (inB t) (vertsA s) (verts s)
+  a-is-b : Counterpart (pierceViewOf s) (pierceViewOf t) (to s) (faceTo s) (inA s) (inB t) (vertsA s) (verts s)
   a-is-b =
       record {
         vertices = h .verts-b;
@@ -113,7 +113,7 @@ module _ (s t : List ℕ) (ok : judged s ≡ Accepted) (ok′ : judged t ≡ Acc
         far-number = far-stays;
       }
 
-  b-is-a : Counterpart (seen s) (seen t) (to s) (faceTo s) (inB s) (inA t) 0 (vertsA s)
+  b-is-a : Counterpart (pierceViewOf s) (pierceViewOf t) (to s) (faceTo s) (inB s) (inA t) 0 (vertsA s)
   b-is-a =
       record {
         vertices = h .verts-a;
@@ -135,51 +135,51 @@ module _ (s t : List ℕ) (ok : judged s ≡ Accepted) (ok′ : judged t ≡ Acc
 
   -- ---- the listing
 
-  hits-a : solidHits (seen t) (inA t) ≡ map (carried s) (solidHits (seen s) (inB s))
-  hits-a = hits-same (seen s) (seen t) (to s) (faceTo s) renumbered (inB s) (inA t) 0 (vertsA s) b-is-a
+  hits-a : solidHits (pierceViewOf t) (inA t) ≡ map (carried s) (solidHits (pierceViewOf s) (inB s))
+  hits-a = hits-same (pierceViewOf s) (pierceViewOf t) (to s) (faceTo s) renumbered (inB s) (inA t) 0 (vertsA s) b-is-a
 
-  hits-b : solidHits (seen t) (inB t) ≡ map (carried s) (solidHits (seen s) (inA s))
-  hits-b = hits-same (seen s) (seen t) (to s) (faceTo s) renumbered (inA s) (inB t) (vertsA s) (verts s) a-is-b
+  hits-b : solidHits (pierceViewOf t) (inB t) ≡ map (carried s) (solidHits (pierceViewOf s) (inA s))
+  hits-b = hits-same (pierceViewOf s) (pierceViewOf t) (to s) (faceTo s) renumbered (inA s) (inB t) (vertsA s) (verts s) a-is-b
 
   listing : listed t ≡ listedExchanged s
   unfolding listedExchanged
-  listing = ap₂ _++_ hits-a hits-b ∙ sym (map-append (carried s) (solidHits (seen s) (inB s)) (solidHits (seen s) (inA s)))
+  listing = ap₂ _++_ hits-a hits-b ∙ sym (map-append (carried s) (solidHits (pierceViewOf s) (inB s)) (solidHits (pierceViewOf s) (inA s)))
 
   as-many : length (listedExchanged s) ≡ length (listed s)
   unfolding listedExchanged
   as-many =
-      length-map (solidHits (seen s) (inB s) ++ solidHits (seen s) (inA s)) (carried s)
+      length-map (solidHits (pierceViewOf s) (inB s) ++ solidHits (pierceViewOf s) (inA s)) (carried s)
       ∙ omega (
         arith,
-        length-append (solidHits (seen s) (inB s)) (solidHits (seen s) (inA s)),
-        length-append (solidHits (seen s) (inA s)) (solidHits (seen s) (inB s)),
+        length-append (solidHits (pierceViewOf s) (inB s)) (solidHits (pierceViewOf s) (inA s)),
+        length-append (solidHits (pierceViewOf s) (inA s)) (solidHits (pierceViewOf s) (inB s)),
       )
 
   -- ---- enclosed vertices
 
-  inside-a : insideCount (seen t) (inA t) ≡ insideCount (seen s) (inB s)
-  inside-a = count-same (seen s) (seen t) (to s) (faceTo s) renumbered (inB s) (inA t) 0 (vertsA s) b-is-a
+  inside-a : enclosedCount (pierceViewOf t) (inA t) ≡ enclosedCount (pierceViewOf s) (inB s)
+  inside-a = count-same (pierceViewOf s) (pierceViewOf t) (to s) (faceTo s) renumbered (inB s) (inA t) 0 (vertsA s) b-is-a
 
-  inside-b : insideCount (seen t) (inB t) ≡ insideCount (seen s) (inA s)
-  inside-b = count-same (seen s) (seen t) (to s) (faceTo s) renumbered (inA s) (inB t) (vertsA s) (verts s) a-is-b
+  inside-b : enclosedCount (pierceViewOf t) (inB t) ≡ enclosedCount (pierceViewOf s) (inA s)
+  inside-b = count-same (pierceViewOf s) (pierceViewOf t) (to s) (faceTo s) renumbered (inA s) (inB t) (vertsA s) (verts s) a-is-b
 
-  lowest-a : lowestInside (seen t) (inA t) + vertsA s ≡ lowestInside (seen s) (inB s) + 0
-  lowest-a = lowest-same (seen s) (seen t) (to s) (faceTo s) renumbered (inB s) (inA t) 0 (vertsA s) b-is-a
+  lowest-a : lowestEnclosed (pierceViewOf t) (inA t) + vertsA s ≡ lowestEnclosed (pierceViewOf s) (inB s) + 0
+  lowest-a = lowest-same (pierceViewOf s) (pierceViewOf t) (to s) (faceTo s) renumbered (inB s) (inA t) 0 (vertsA s) b-is-a
 
-  lowest-b : lowestInside (seen t) (inB t) + 0 ≡ lowestInside (seen s) (inA s) + vertsA t
-  lowest-b = lowest-same (seen s) (seen t) (to s) (faceTo s) renumbered (inA s) (inB t) (vertsA s) (verts s) a-is-b
+  lowest-b : lowestEnclosed (pierceViewOf t) (inB t) + 0 ≡ lowestEnclosed (pierceViewOf s) (inA s) + vertsA t
+  lowest-b = lowest-same (pierceViewOf s) (pierceViewOf t) (to s) (faceTo s) renumbered (inA s) (inB t) (vertsA s) (verts s) a-is-b
 
-  behind-a : vertsA s < lowestInside (seen s) (inB s)
-  unfolding lowestInside
-  behind-a = omega (arith, lowest-from (isInside (seen s) (inB s)) (vertsA s + 1) (vertsB s))
+  behind-a : vertsA s < lowestEnclosed (pierceViewOf s) (inB s)
+  unfolding lowestEnclosed
+  behind-a = omega (arith, lowest-from (enclosedVertex (pierceViewOf s) (inB s)) (vertsA s + 1) (vertsB s))
 
   enclosure : enclosureIn (viewOf t) ≡ enclosureExchanged s
   unfolding enclosureIn enclosureExchanged solid
   enclosure =
-      let p : ℕ = lowestInside (seen s) (inA s) in
-      let q : ℕ = lowestInside (seen s) (inB s) in
-      let p′ : ℕ = lowestInside (seen t) (inA t) in
-      let q′ : ℕ = lowestInside (seen t) (inB t) in
+      let p : ℕ = lowestEnclosed (pierceViewOf s) (inA s) in
+      let q : ℕ = lowestEnclosed (pierceViewOf s) (inB s) in
+      let p′ : ℕ = lowestEnclosed (pierceViewOf t) (inA t) in
+      let q′ : ℕ = lowestEnclosed (pierceViewOf t) (inB t) in
       ap₂ (λ (a b : ℕ). cond (leb p′ a) (AInB p′) (cond (leb q′ (a + b)) (BInA q′) Apart)) (h .verts-a) (h .verts-b)
       ∙ enclosure-told (vertsA s) (vertsB s) p q p′ q′ (to s q) (to s p) (omega (arith, lowest-a)) (omega (arith, lowest-b, h .verts-a))
       (λ l. of-b (vertsA s) (vertsB s) q behind-a l) (λ l. of-a (vertsA s) (vertsB s) p l)
@@ -187,37 +187,42 @@ module _ (s t : List ℕ) (ok : judged s ≡ Accepted) (ok′ : judged t ≡ Acc
   -- ---- the kernel's answers
 
   counts-are : countsIn (viewOf t)
-      ≡ record { pairs = length (listed s); «a_in_b» = insideCount (seen s) (inB s); «b_in_a» = insideCount (seen s) (inA s) }
+      ≡ record { pairs = length (listed s); «a_in_b» = enclosedCount (pierceViewOf s) (inB s); «b_in_a» = enclosedCount (pierceViewOf s)
+          (inA s) }
   unfolding countsIn insideIn listingIn solid
   counts-are = λ i. record { pairs = (ap length listing ∙ as-many) i; «a_in_b» = inside-a i; «b_in_a» = inside-b i }
 
   counted : countedOf t ≡
-      Counts (record { pairs = length (listed s); «a_in_b» = insideCount (seen s) (inB s); «b_in_a» = insideCount (seen s) (inA s) })
-  unfolding countedOf answered
+      Counts (record { pairs = length (listed s); «a_in_b» = enclosedCount (pierceViewOf s) (inB s); «b_in_a» = enclosedCount
+          (pierceViewOf s) (inA s) })
+  unfolding countedOf orRefuse
   counted = rw ok′ (ap Counts counts-are)
 
   verdict : verdictOf t ≡ verdictExchanged s
-  unfolding verdictOf verdictIn verdictExchanged listingIn solid answered
+  unfolding verdictOf verdictIn verdictExchanged listingIn solid orRefuse
   verdict = rw ok′ (ap₂ (λ (l : List Hit) (rest : Verdict). crossOr (firstOf l) rest) listing enclosure)
 
   cross : (verdictNumber (verdictOf t) ≡ 0) ↔ (verdictNumber (verdictOf s) ≡ 0)
   unfolding countsIn insideIn listingIn solid
   cross =
       rw (word-by-counts t ok′ ∙ ap wordBy counts-are, word-by-counts s ok)
-      (cross-alike (ltb 0 (length (listed s))) (ltb 0 (insideCount (seen s) (inB s))) (ltb 0 (insideCount (seen s) (inA s))))
+      (cross-alike (ltb 0 (length (listed s))) (ltb 0 (enclosedCount (pierceViewOf s) (inB s)))
+          (ltb 0 (enclosedCount (pierceViewOf s) (inA s))))
 
   apart-same : (verdictNumber (verdictOf t) ≡ 3) ↔ (verdictNumber (verdictOf s) ≡ 3)
   unfolding countsIn insideIn listingIn solid
   apart-same =
       rw (word-by-counts t ok′ ∙ ap wordBy counts-are, word-by-counts s ok)
-      (apart-alike (ltb 0 (length (listed s))) (ltb 0 (insideCount (seen s) (inB s))) (ltb 0 (insideCount (seen s) (inA s))))
+      (apart-alike (ltb 0 (length (listed s))) (ltb 0 (enclosedCount (pierceViewOf s) (inB s)))
+          (ltb 0 (enclosedCount (pierceViewOf s) (inA s))))
 
 same : (s t : List ℕ) → judged s ≡ Accepted → judged t ≡ Accepted → Exchanged s t → NoTies s → SameExchanged s t
 same s t ok ok′ h ties =
     record {
-      mask-a = mask-same (seen s) (seen t) (to s) (faceTo s) (renumbered s t ok ok′ h ties) (inA s) (inB t) (vertsA s) (verts s)
+      mask-a = mask-same (pierceViewOf s) (pierceViewOf t) (to s) (faceTo s) (renumbered s t ok ok′ h ties) (inA s) (inB t) (vertsA s)
+          (verts s)
           (a-is-b s t ok ok′ h ties);
-      mask-b = mask-same (seen s) (seen t) (to s) (faceTo s) (renumbered s t ok ok′ h ties) (inB s) (inA t) 0 (vertsA s)
+      mask-b = mask-same (pierceViewOf s) (pierceViewOf t) (to s) (faceTo s) (renumbered s t ok ok′ h ties) (inB s) (inA t) 0 (vertsA s)
           (b-is-a s t ok ok′ h ties);
       listing = listing s t ok ok′ h ties;
       counted = counted s t ok ok′ h ties;

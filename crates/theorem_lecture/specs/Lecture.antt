@@ -17,7 +17,7 @@ use Rattle.scene.specs.declared.Solid.{Solid}
 use Rattle.orient.specs.Signs.{Upto, Four}
 use Rattle.orient.specs.Terms.{positiveAt}
 use Rattle.pierce.specs.Against.{maskAgainst}
-use Rattle.question_listing.specs.Hits.{Seen, Hit, solidHits, insideCount, lowestInside}
+use Rattle.question_listing.specs.Hits.{PierceView, Hit, solidHits, enclosedCount, lowestEnclosed}
 use Rattle.questions.specs.Answers.{verdictOf, countedOf}
 use Rattle.map_image.specs.declared.Map.{Map}
 use Rattle.map_image.specs.Mapped.{mapped, determinantOf}
@@ -35,18 +35,18 @@ rowsOf s = row (tablesOf s)
 abbrev pub pointsOf : List ℕ → ℕ
 pointsOf s = verts s + 1
 
-abbrev pub seen : List ℕ → Seen
-seen s = record { points = pointsOf s; row = rowsOf s; face = face (tablesOf s) }
+abbrev pub pierceViewOf : List ℕ → PierceView
+pierceViewOf s = record { points = pointsOf s; row = rowsOf s; face = face (tablesOf s) }
 
 abbrev pub inA : List ℕ → Solid
-inA s = record { low = 0; verts = vertsA s; first = 0; count = facesA s; other = facesA s; others = facesB s }
+inA s = record { vert0 = 0; verts = vertsA s; face0 = 0; faces = facesA s; other0 = facesA s; others = facesB s }
 
 abbrev pub inB : List ℕ → Solid
-inB s = record { low = vertsA s; verts = vertsB s; first = facesA s; count = facesB s; other = 0; others = facesA s }
+inB s = record { vert0 = vertsA s; verts = vertsB s; face0 = facesA s; faces = facesB s; other0 = 0; others = facesA s }
 
 -- edges of A with faces of B, then edges of B with faces of A
 abbrev pub listed : List ℕ → List Hit
-listed s = solidHits (seen s) (inA s) ++ solidHits (seen s) (inB s)
+listed s = solidHits (pierceViewOf s) (inA s) ++ solidHits (pierceViewOf s) (inB s)
 
 -- the mask of u, v against A, against B
 abbrev pub maskA : List ℕ → (u v : ℕ) → ℕ
@@ -71,10 +71,10 @@ pub record SameAnswers (s t : List ℕ) : Type 0 where
   pub mask-b : (u v : ℕ) → Clear (pointsOf s) (vertsA s) (verts s) u → Clear (pointsOf s) (vertsA s) (verts s) v → u ≢ v →
       maskB t u v ≡ maskB s u v
   pub listing : listed t ≡ listed s
-  pub inside-a : insideCount (seen t) (inA t) ≡ insideCount (seen s) (inA s)
-  pub inside-b : insideCount (seen t) (inB t) ≡ insideCount (seen s) (inB s)
-  pub lowest-a : lowestInside (seen t) (inA t) ≡ lowestInside (seen s) (inA s)
-  pub lowest-b : lowestInside (seen t) (inB t) ≡ lowestInside (seen s) (inB s)
+  pub inside-a : enclosedCount (pierceViewOf t) (inA t) ≡ enclosedCount (pierceViewOf s) (inA s)
+  pub inside-b : enclosedCount (pierceViewOf t) (inB t) ≡ enclosedCount (pierceViewOf s) (inB s)
+  pub lowest-a : lowestEnclosed (pierceViewOf t) (inA t) ≡ lowestEnclosed (pierceViewOf s) (inA s)
+  pub lowest-b : lowestEnclosed (pierceViewOf t) (inB t) ≡ lowestEnclosed (pierceViewOf s) (inB s)
   pub counted : countedOf t ≡ countedOf s
   pub verdict : verdictOf t ≡ verdictOf s
 

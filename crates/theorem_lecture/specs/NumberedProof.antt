@@ -23,13 +23,13 @@ use Rattle.pierce.specs.Beside.{Beside, beside}
 use Rattle.pierce_masks.specs.Faces.{isOdd}
 use Rattle.pierce.specs.Against.{maskAgainst}
 use Rattle.pierce.specs.Formula.{pierced}
-use Rattle.question_listing.specs.Hits.{Hit, isInside, insideCount}
-use Rattle.questions.specs.Answers.{answered, countsIn, countedOf, insideIn, listingIn, verdictNumber, verdictOf}
+use Rattle.question_listing.specs.Hits.{Hit, enclosedVertex, enclosedCount}
+use Rattle.questions.specs.Answers.{orRefuse, countsIn, countedOf, insideIn, listingIn, verdictNumber, verdictOf}
 use Rattle.questions.specs.declared.Counted.the-variants.{Counts}
 use Rattle.theorem_demands.specs.Words.{VertexOfA, VertexOfB, FaceOfA, FaceOfB, Point, Pierces}
 use Rattle.theorem_demands.specs.Exact.{PiercedPair}
 use Rattle.theorem_lecture.specs.Alike.{Clear}
-use Rattle.theorem_lecture.specs.Lecture.{rowsOf, pointsOf, seen, inA, inB, maskA, maskB}
+use Rattle.theorem_lecture.specs.Lecture.{rowsOf, pointsOf, pierceViewOf, inA, inB, maskA, maskB}
 use Rattle.theorem_lecture.specs.Renumbered.{Renumbering, Untied, pierced-renamed, mask-renamed}
 use Rattle.theorem_lecture.specs.Exchange.{NoTies}
 use Rattle.theorem_lecture.specs.ExchangeProof.{scene-weighted}
@@ -183,23 +183,23 @@ module _ (to back : ℕ → ℕ) (s t : List ℕ) (ok : judged s ≡ Accepted) (
 
   -- ---- enclosed vertices
 
-  in-a : (i : ℕ) → VertexOfA s i → isInside (seen t) (inA t) (to i) ≡ isInside (seen s) (inA s) i
-  unfolding isInside
+  in-a : (i : ℕ) → VertexOfA s i → enclosedVertex (pierceViewOf t) (inA t) (to i) ≡ enclosedVertex (pierceViewOf s) (inA s) i
+  unfolding enclosedVertex
   in-a i a =
       ap (λ (m : ℕ). isOdd (maskB t (to i) m)) (same-points ∙ sym (h .there .far))
       ∙ ap isOdd (mask-b i n (a-clear i a) (record { point = omega arith; out = λ o. omega arith }) (omega arith))
 
-  in-b : (i : ℕ) → VertexOfB s i → isInside (seen t) (inB t) (to i) ≡ isInside (seen s) (inB s) i
-  unfolding isInside
+  in-b : (i : ℕ) → VertexOfB s i → enclosedVertex (pierceViewOf t) (inB t) (to i) ≡ enclosedVertex (pierceViewOf s) (inB s) i
+  unfolding enclosedVertex
   in-b i b =
       ap (λ (m : ℕ). isOdd (maskA t (to i) m)) (same-points ∙ sym (h .there .far))
       ∙ ap isOdd (mask-a i n (b-clear i b) (record { point = omega arith; out = λ o. omega arith }) (omega arith))
 
-  inside-a : insideCount (seen t) (inA t) ≡ insideCount (seen s) (inA s)
-  unfolding insideCount
+  inside-a : enclosedCount (pierceViewOf t) (inA t) ≡ enclosedCount (pierceViewOf s) (inA s)
+  unfolding enclosedCount
   inside-a =
-      let p = isInside (seen s) (inA s) in
-      let q = isInside (seen t) (inA t) in
+      let p = enclosedVertex (pierceViewOf s) (inA s) in
+      let q = enclosedVertex (pierceViewOf t) (inA t) in
       ap (λ (m : ℕ). countOf q (0 + 1) (0 + 1 + m)) (h .there .verts-a)
       ∙ le-antisymm
       (fewer q p (0 + 1) (vertsA s) back to (λ i l. omega (arith, back-a i (omega arith))) (λ i l. here i (omega (arith, same-points)))
@@ -207,11 +207,11 @@ module _ (to back : ℕ → ℕ) (s t : List ℕ) (ok : judged s ≡ Accepted) (
       (fewer p q (0 + 1) (vertsA s) to back (λ i l. omega (arith, h .there .of-a i (omega arith))) (λ i l. h .back-to i (omega arith))
       (λ i l. in-a i (omega arith)))
 
-  inside-b : insideCount (seen t) (inB t) ≡ insideCount (seen s) (inB s)
-  unfolding insideCount
+  inside-b : enclosedCount (pierceViewOf t) (inB t) ≡ enclosedCount (pierceViewOf s) (inB s)
+  unfolding enclosedCount
   inside-b =
-      let p = isInside (seen s) (inB s) in
-      let q = isInside (seen t) (inB t) in
+      let p = enclosedVertex (pierceViewOf s) (inB s) in
+      let q = enclosedVertex (pierceViewOf t) (inB t) in
       ap₂ (λ (a b : ℕ). countOf q (a + 1) (a + 1 + b)) (h .there .verts-a) (h .there .verts-b)
       ∙ le-antisymm
       (fewer q p (vertsA s + 1) (vertsB s) back to (λ i l. omega (arith, back-b i (omega arith)))
@@ -227,7 +227,7 @@ module _ (to back : ℕ → ℕ) (s t : List ℕ) (ok : judged s ≡ Accepted) (
   counts-same = λ i. record { pairs = as-many i; «a_in_b» = inside-a i; «b_in_a» = inside-b i }
 
   counted : countedOf t ≡ countedOf s
-  unfolding countedOf answered
+  unfolding countedOf orRefuse
   counted = rw (ok, ok′) (ap Counts counts-same)
 
   verdict : verdictNumber (verdictOf t) ≡ verdictNumber (verdictOf s)

@@ -16,15 +16,15 @@ use Rattle.judge.specs.Judge.{judged}
 use Rattle.judge.specs.declared.Judged.the-variants.{Accepted}
 use Rattle.rules.specs.Given.{counts, face-of-a, face-of-b}
 use Rattle.pierce.specs.Against.{maskAgainst}
-use Rattle.question_listing.specs.Hits.{Hit, solidHits, insideCount, lowestInside}
+use Rattle.question_listing.specs.Hits.{Hit, solidHits, enclosedCount, lowestEnclosed}
 use Rattle.question_listing.specs.First.{firstOf}
 use Rattle.scene.specs.View.{solid}
-use Rattle.questions.specs.Answers.{answered, countsIn, countedOf, crossOr, enclosureIn, verdictIn, verdictOf, listingIn, insideIn}
+use Rattle.questions.specs.Answers.{orRefuse, countsIn, countedOf, crossOr, enclosureIn, verdictIn, verdictOf, listingIn, insideIn}
 use Rattle.questions.specs.declared.Counted.the-variants as answers
 use Rattle.questions.specs.declared.Verdict.{Verdict}
 use Rattle.questions.specs.declared.Verdict.the-variants.{AInB, BInA, Apart}
 use Rattle.theorem_lecture.specs.Alike.{Clear, SamePierced, masks-same, hits-same, counts-same, lowests-same}
-use Rattle.theorem_lecture.specs.Lecture.{rowsOf, pointsOf, seen, inA, inB, listed, maskA, maskB, SameShape, SameAnswers}
+use Rattle.theorem_lecture.specs.Lecture.{rowsOf, pointsOf, pierceViewOf, inA, inB, listed, maskA, maskB, SameShape, SameAnswers}
 
 module _ (s t : List ℕ) (ok : judged s ≡ Accepted) (ok′ : judged t ≡ Accepted) (shape : SameShape s t)
     (same : SamePierced (pointsOf s) (rowsOf s) (rowsOf t)) where
@@ -36,17 +36,17 @@ module _ (s t : List ℕ) (ok : judged s ≡ Accepted) (ok′ : judged t ≡ Acc
   pub points-are : pointsOf t ≡ n
   points-are = omega (arith, shape .verts-a, shape .verts-b)
 
-  view-is : seen t ≡ record { points = n; row = rowsOf t; face = face (tablesOf s) }
+  view-is : pierceViewOf t ≡ record { points = n; row = rowsOf t; face = face (tablesOf s) }
   view-is = λ i. record { points = points-are i; row = rowsOf t; face = λ k. shape .faces k i }
 
   a-is : inA t ≡ inA s
   a-is =
       λ i. record {
-        low = 0;
+        vert0 = 0;
         verts = shape .verts-a i;
-        first = 0;
-        count = shape .faces-a i;
-        other = shape .faces-a i;
+        face0 = 0;
+        faces = shape .faces-a i;
+        other0 = shape .faces-a i;
         others = shape .faces-b i;
       }
 
@@ -54,11 +54,11 @@ module _ (s t : List ℕ) (ok : judged s ≡ Accepted) (ok′ : judged t ≡ Acc
   b-is =
       λ i.
       record {
-        low = shape .verts-a i;
+        vert0 = shape .verts-a i;
         verts = shape .verts-b i;
-        first = shape .faces-a i;
-        count = shape .faces-b i;
-        other = 0;
+        face0 = shape .faces-a i;
+        faces = shape .faces-b i;
+        other0 = 0;
         others = shape .faces-a i;
       }
 
@@ -96,39 +96,39 @@ module _ (s t : List ℕ) (ok : judged s ≡ Accepted) (ok′ : judged t ≡ Acc
         ∙ sym (masks-same n (rowsOf s) (rowsOf t) (face (tablesOf s)) same (vertsA s) (verts s) (omega arith) (facesA s)
         (facesB s) faces-of-b u v cu cv d)
 
-  hits-a : solidHits (seen t) (inA t) ≡ solidHits (seen s) (inA s)
+  hits-a : solidHits (pierceViewOf t) (inA t) ≡ solidHits (pierceViewOf s) (inA s)
   hits-a =
       ap₂ solidHits view-is a-is
       ∙ sym (hits-same n (rowsOf s) (rowsOf t) (face (tablesOf s)) same (vertsA s) (verts s) (omega arith)
       (inA s) faces-of-b own-a far-b (omega arith))
 
-  hits-b : solidHits (seen t) (inB t) ≡ solidHits (seen s) (inB s)
+  hits-b : solidHits (pierceViewOf t) (inB t) ≡ solidHits (pierceViewOf s) (inB s)
   hits-b =
       ap₂ solidHits view-is b-is
       ∙ sym (hits-same n (rowsOf s) (rowsOf t) (face (tablesOf s)) same 0 (vertsA s) (omega arith)
       (inB s) faces-of-a own-b far-a (omega arith))
 
-  inside-a : insideCount (seen t) (inA t) ≡ insideCount (seen s) (inA s)
+  inside-a : enclosedCount (pierceViewOf t) (inA t) ≡ enclosedCount (pierceViewOf s) (inA s)
   inside-a =
-      ap₂ insideCount view-is a-is
+      ap₂ enclosedCount view-is a-is
       ∙ sym (counts-same n (rowsOf s) (rowsOf t) (face (tablesOf s)) same (vertsA s) (verts s) (omega arith)
       (inA s) faces-of-b own-a far-b (omega arith))
 
-  inside-b : insideCount (seen t) (inB t) ≡ insideCount (seen s) (inB s)
+  inside-b : enclosedCount (pierceViewOf t) (inB t) ≡ enclosedCount (pierceViewOf s) (inB s)
   inside-b =
-      ap₂ insideCount view-is b-is
+      ap₂ enclosedCount view-is b-is
       ∙ sym (counts-same n (rowsOf s) (rowsOf t) (face (tablesOf s)) same 0 (vertsA s) (omega arith)
       (inB s) faces-of-a own-b far-a (omega arith))
 
-  lowest-a : lowestInside (seen t) (inA t) ≡ lowestInside (seen s) (inA s)
+  lowest-a : lowestEnclosed (pierceViewOf t) (inA t) ≡ lowestEnclosed (pierceViewOf s) (inA s)
   lowest-a =
-      ap₂ lowestInside view-is a-is
+      ap₂ lowestEnclosed view-is a-is
       ∙ sym (lowests-same n (rowsOf s) (rowsOf t) (face (tablesOf s)) same (vertsA s) (verts s) (omega arith)
       (inA s) faces-of-b own-a far-b (omega arith))
 
-  lowest-b : lowestInside (seen t) (inB t) ≡ lowestInside (seen s) (inB s)
+  lowest-b : lowestEnclosed (pierceViewOf t) (inB t) ≡ lowestEnclosed (pierceViewOf s) (inB s)
   lowest-b =
-      ap₂ lowestInside view-is b-is
+      ap₂ lowestEnclosed view-is b-is
       ∙ sym (lowests-same n (rowsOf s) (rowsOf t) (face (tablesOf s)) same 0 (vertsA s) (omega arith)
       (inB s) faces-of-a own-b far-a (omega arith))
 
@@ -138,13 +138,13 @@ module _ (s t : List ℕ) (ok : judged s ≡ Accepted) (ok′ : judged t ≡ Acc
   -- ---- the kernel's answers
 
   counted : countedOf t ≡ countedOf s
-  unfolding countedOf countsIn insideIn listingIn solid answered
+  unfolding countedOf countsIn insideIn listingIn solid orRefuse
   counted =
       rw (ok, ok′)
       (ap answers.Counts (λ i. record { pairs = length (listing i); «a_in_b» = inside-a i; «b_in_a» = inside-b i }))
 
   verdict : verdictOf t ≡ verdictOf s
-  unfolding verdictOf verdictIn enclosureIn solid listingIn answered
+  unfolding verdictOf verdictIn enclosureIn solid listingIn orRefuse
   verdict =
       rw (ok, ok′)
       (ap₂ (λ (l : List Hit) (rest : Verdict). crossOr (firstOf l) rest) listing

@@ -16,8 +16,8 @@ use Rattle.rules.specs.Write.{bytesOf}
 use Rattle.scene_edges.specs.Edges.{joined}
 use Rattle.pierce_masks.specs.Faces.{isOdd}
 use Rattle.question_listing.specs.First.{firstOf}
-use Rattle.question_listing.specs.Hits.{faceHits, edgeHits, pairHits, vertexHits, solidHits, isInside, lowestInside}
-use Rattle.questions.specs.Answers.{answered, enclosureIn, verdictIn, verdictOf, listingIn}
+use Rattle.question_listing.specs.Hits.{faceHits, edgeHits, pairHits, vertexHits, solidHits, enclosedVertex, lowestEnclosed}
+use Rattle.questions.specs.Answers.{orRefuse, enclosureIn, verdictIn, verdictOf, listingIn}
 use Rattle.questions.specs.declared.Verdict.the-variants.{Cross, Apart}
 use Rattle.theorem_demands.specs.Marked.Computing.{judging, piercing}
 use Rattle.theorem_demands.specs.Marked.Scenes.{minus, at, four, scene}
@@ -47,6 +47,6 @@ pub record Ties : Type 0 where
   pub exchanged : verdictOf (exchangedBytes touching) ≡ Apart
 
 pub ties : Ties
-unfolding judging piercing ones maskOf isCorner hasBoth joined isOdd upTo faceHits edgeHits pairHits vertexHits solidHits isInside
-    lowestInside firstOf listingIn solid answered enclosureIn verdictIn verdictOf exchangedBytes
+unfolding judging piercing ones maskOf isCorner hasBoth joined isOdd upTo faceHits edgeHits pairHits vertexHits solidHits enclosedVertex
+    lowestEnclosed firstOf listingIn solid orRefuse enclosureIn verdictIn verdictOf exchangedBytes
 ties = record { accepted = refl; crosses = refl; exchanged = refl }

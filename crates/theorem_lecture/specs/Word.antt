@@ -11,13 +11,13 @@ use Rattle.laws.specs.Range.{fold, over, more, countOf, lowestOf}
 use Rattle.scene.specs.View.{viewOf, solid}
 use Rattle.judge.specs.Judge.{judged}
 use Rattle.judge.specs.declared.Judged.the-variants.{Accepted}
-use Rattle.question_listing.specs.Hits.{Hit, isInside, insideCount, lowestInside}
+use Rattle.question_listing.specs.Hits.{Hit, enclosedVertex, enclosedCount, lowestEnclosed}
 use Rattle.question_listing.specs.First.{firstOf}
-use Rattle.questions.specs.Answers.{answered, countsIn, insideIn, crossOr, enclosureIn, listingIn, verdictIn, verdictOf, verdictNumber}
+use Rattle.questions.specs.Answers.{orRefuse, countsIn, insideIn, crossOr, enclosureIn, listingIn, verdictIn, verdictOf, verdictNumber}
 use Rattle.questions.specs.declared.Counts.{Counts}
 use Rattle.questions.specs.declared.Verdict.the-variants.{AInB, BInA, Apart}
 use Rattle.scene.specs.Records.{vertsA, vertsB, verts}
-use Rattle.theorem_lecture.specs.Lecture.{seen, inA, inB}
+use Rattle.theorem_lecture.specs.Lecture.{pierceViewOf, inA, inB}
 
 -- one is found where the count is not 0; m is the last number
 found-fold : (p : ℕ → Bool) (m n a : ℕ) → a + n ≤ m + 1 →
@@ -51,11 +51,12 @@ word-is [] false true p q = refl
 word-is [] false false p q = refl
 
 pub word-by-counts : (s : List ℕ) → judged s ≡ Accepted → verdictNumber (verdictOf s) ≡ wordBy (countsIn (viewOf s))
-unfolding verdictOf verdictIn enclosureIn countsIn insideIn insideCount lowestInside solid answered
+unfolding verdictOf verdictIn enclosureIn countsIn insideIn enclosedCount lowestEnclosed solid orRefuse
 word-by-counts s ok =
-    let x = found (isInside (seen s) (inA s)) (0 + 1) (vertsA s) (vertsA s) (omega arith) in
-    let y = found (isInside (seen s) (inB s)) (vertsA s + 1) (vertsB s) (verts s) (omega arith) in
+    let x = found (enclosedVertex (pierceViewOf s) (inA s)) (0 + 1) (vertsA s) (vertsA s) (omega arith) in
+    let y = found (enclosedVertex (pierceViewOf s) (inB s)) (vertsA s + 1) (vertsB s) (verts s) (omega arith) in
     rw ok
-    (word-is (listingIn (viewOf s)) (leb (lowestInside (seen s) (inA s)) (vertsA s)) (leb (lowestInside (seen s) (inB s)) (verts s))
-    (lowestInside (seen s) (inA s)) (lowestInside (seen s) (inB s))
+    (word-is (listingIn (viewOf s)) (leb (lowestEnclosed (pierceViewOf s) (inA s)) (vertsA s))
+        (leb (lowestEnclosed (pierceViewOf s) (inB s)) (verts s))
+    (lowestEnclosed (pierceViewOf s) (inA s)) (lowestEnclosed (pierceViewOf s) (inB s))
     ∙ (λ i. word (ltb 0 (length (listingIn (viewOf s)))) (x i) (y i)))

@@ -23,22 +23,22 @@ use Rattle.pierce.specs.Closed.{Closed, closed-by-edges}
 use Rattle.pierce.specs.Formula.{pierced}
 use Rattle.survey_sides.specs.Sides.{above}
 use Rattle.survey_sides.specs.Crossing.{pierced-differs}
-use Rattle.question_listing.specs.Hits.{Seen, Hit, faceHits, edgeHits, pairHits, pairsAt, vertexHits, solidHits}
+use Rattle.question_listing.specs.Hits.{PierceView, Hit, faceHits, edgeHits, pairHits, pairsAt, vertexHits, solidHits}
 use Rattle.survey_edges.specs.Sums.{sumOf, ones-sum, digit-le}
 use Rattle.survey_edges.specs.Runs.{upTo-length, only-length}
 use Rattle.survey_edges.specs.Pairs.{pairSum, pairs-le, list-most}
 use Rattle.survey_edges.specs.Counted.{isEdge, edges-where}
-use Rattle.questions.specs.Answers.{listingIn, seen}
+use Rattle.questions.specs.Answers.{listingIn, pierceView}
 use Rattle.theorem_longest.specs.Longest.{LongestListing}
 use Rattle.theorem_longest.specs.Parted.{parted, sides-parted}
 
-module _ (s : Seen) (k : Solid) (closed : Closed (run (s .face) (k .first + 1) (k .count))) where
+module _ (s : PierceView) (k : Solid) (closed : Closed (run (s .face) (k .face0 + 1) (k .faces))) where
   -- the solid's vertices, from 0, and the other's faces
   abbrev at : ℕ → ℕ
-  at i = k .low + 1 + i
+  at i = k .vert0 + 1 + i
 
   abbrev others : List Face
-  others = run (s .face) (k .other + 1) (k .others)
+  others = run (s .face) (k .other0 + 1) (k .others)
 
   abbrev hit : (u v : ℕ) → Face → Bool
   hit = pierced (s .points) (s .row)
@@ -49,7 +49,7 @@ module _ (s : Seen) (k : Solid) (closed : Closed (run (s .face) (k .first + 1) (
 
   -- ---- no more edges of the solid pierce f than it has faces
 
-  face-most : (f : Face) → pairSum (λ i j. digit (passes i j f)) (k .verts) ≤ k .count
+  face-most : (f : Face) → pairSum (λ i j. digit (passes i j f)) (k .verts) ≤ k .faces
   face-most f =
       omega (
         arith,
@@ -74,9 +74,9 @@ module _ (s : Seen) (k : Solid) (closed : Closed (run (s .face) (k .first + 1) (
   edge-length u v =
       upTo-length (faceHits s k u v) (k .others)
       ∙ ap (λ (g : ℕ → ℕ). sumOf g (k .others))
-      (λ t i. only-length {A = Hit} (hit u v (s .face (k .other + 1 + i))) (record { low = u; high = v; face = k .other + 1 + i }) t)
-      ∙ sym (ones-sum (λ i. hit u v (s .face (k .other + 1 + i))) (k .others))
-      ∙ mask-ones (hit u v) (s .face) (k .other + 1) (k .others)
+      (λ t i. only-length {A = Hit} (hit u v (s .face (k .other0 + 1 + i))) (record { low = u; high = v; face = k .other0 + 1 + i }) t)
+      ∙ sym (ones-sum (λ i. hit u v (s .face (k .other0 + 1 + i))) (k .others))
+      ∙ mask-ones (hit u v) (s .face) (k .other0 + 1) (k .others)
 
   pair-length : (i j : ℕ) → length (pairsAt s k (at i) j) ≤ count (passes i j) others
   unfolding pairHits
@@ -86,7 +86,7 @@ module _ (s : Seen) (k : Solid) (closed : Closed (run (s .face) (k .first + 1) (
       go true = omega (arith, edge-length (at i) (at j))
       go false = omega arith
 
-  solid-most : length (solidHits s k) ≤ k .others * k .count
+  solid-most : length (solidHits s k) ≤ k .others * k .faces
   unfolding solidHits vertexHits
   solid-most =
       omega (
@@ -94,8 +94,8 @@ module _ (s : Seen) (k : Solid) (closed : Closed (run (s .face) (k .first + 1) (
         upTo-length (λ i. vertexHits s k (at i)) (k .verts),
         ap (λ (g : ℕ → ℕ). sumOf g (k .verts)) (λ t i. upTo-length (pairsAt s k (at i)) (k .verts) t),
         pairs-le (λ i j. length (pairsAt s k (at i) j)) (λ i j. count (passes i j) others) (k .verts) pair-length,
-        list-most passes (k .verts) (k .count) face-most others,
-        ap (λ (n : ℕ). n * k .count) (length-run (s .face) (k .other + 1) (k .others)),
+        list-most passes (k .verts) (k .faces) face-most others,
+        ap (λ (n : ℕ). n * k .faces) (length-run (s .face) (k .other0 + 1) (k .others)),
       )
 
 -- ---- of a scene
@@ -113,8 +113,8 @@ longest-listing s ok =
     let l : length (listingIn v) ≤ 2 * v .facesA * v .facesB =
     omega (
       arith,
-      length-append (solidHits (seen v) (solidA v)) (solidHits (seen v) (solidB v)),
-      solid-most (seen v) (solidA v) a,
-      solid-most (seen v) (solidB v) b,
+      length-append (solidHits (pierceView v) (solidA v)) (solidHits (pierceView v) (solidB v)),
+      solid-most (pierceView v) (solidA v) a,
+      solid-most (pierceView v) (solidB v) b,
     ) in
     record { by-faces = l; by-limits = omega (arith, mul-le-mul (c .faces-a .1) (c .faces-b .1)) }

@@ -113,14 +113,14 @@ GroundsIn l t refusal.Length = ⊥
 GroundsIn l t (refusal.Mark k) = ⊥
 GroundsIn l t (refusal.Coordinate k) = ToRecord l t k × ¬ CoordinatesKept l t k
 GroundsIn l t (refusal.Weight k) = ToRecord l t k × (CoordinatesKept l t k × ¬ WeightKept l t k)
-GroundsIn l t (refusal.Nowhere k) = ToRecord l t k × (CoordinatesKept l t k × (WeightKept l t k × ¬ SomewhereKept t k))
+GroundsIn l t (refusal.FarAllZero k) = ToRecord l t k × (CoordinatesKept l t k × (WeightKept l t k × ¬ SomewhereKept t k))
 GroundsIn l t (refusal.Corner k) = ToRecord l t k × (CoordinatesKept l t k × (WeightKept l t k × (SomewhereKept t k × ¬ CornersKept t k)))
 GroundsIn l t (refusal.Unused p) = ToVertex l t p × ¬ UsedIn t p
 GroundsIn l t (refusal.Edge k) = (i : ℕ) × (k ≡ recordOf t i) × ToFace l t i × ¬ SidesIn t i
-GroundsIn l t (refusal.Room p) = ⊥
-GroundsIn l t refusal.Lacking = ⊥
-GroundsIn l t refusal.Same = ⊥
-GroundsIn l t (refusal.Buffer p) = ⊥
+GroundsIn l t (refusal.ListTooShort p) = ⊥
+GroundsIn l t refusal.NoSuchNumber = ⊥
+GroundsIn l t refusal.NotDistinct = ⊥
+GroundsIn l t (refusal.BufferTooShort p) = ⊥
 
 -- ---- what is answered and left
 
@@ -132,7 +132,7 @@ longIn t = 17 + vertsIn t * 9 + facesIn t * 5
 pub record Lacks (t : Tables) (room : ℕ) (q : Refusal) : Type 0 where
   pub ok : TablesOk limits t
   pub short : room < longIn t
-  pub is : q ≡ refusal.Buffer (longIn t)
+  pub is : q ≡ refusal.BufferTooShort (longIn t)
 
 -- a scene of n bytes is made of these tables
 pub record Fits (t : Tables) (room n : ℕ) : Type 0 where

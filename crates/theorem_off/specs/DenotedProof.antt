@@ -97,14 +97,14 @@ counts-only t n refusal.Length g = absurd g
 counts-only t n (refusal.Mark k) g = absurd g
 counts-only t n (refusal.Coordinate k) g = absurd (n (g .0 .counts))
 counts-only t n (refusal.Weight k) g = absurd (n (g .0 .counts))
-counts-only t n (refusal.Nowhere k) g = absurd (n (g .0 .counts))
+counts-only t n (refusal.FarAllZero k) g = absurd (n (g .0 .counts))
 counts-only t n (refusal.Corner k) g = absurd (n (g .0 .counts))
 counts-only t n (refusal.Unused p) g = absurd (n (g .0 .counts))
 counts-only t n (refusal.Edge k) g = absurd (n (g .2 .counts))
-counts-only t n (refusal.Room p) g = absurd g
-counts-only t n refusal.Lacking g = absurd g
-counts-only t n refusal.Same g = absurd g
-counts-only t n (refusal.Buffer p) g = absurd g
+counts-only t n (refusal.ListTooShort p) g = absurd g
+counts-only t n refusal.NoSuchNumber g = absurd g
+counts-only t n refusal.NotDistinct g = absurd g
+counts-only t n (refusal.BufferTooShort p) g = absurd g
 
 file-long : (t : Tables) → length (fileOf t) ≡ longIn t
 file-long t = omega (arith, file-length (fitted t), va t, vb t, fa t, fb t)
@@ -114,7 +114,7 @@ module _ (t : Tables) (room : ℕ) where
   s = fileOf t
 
   abbrev lacking : Made
-  lacking = Refused (OfScene (refusal.Buffer (length s)))
+  lacking = Refused (OfScene (refusal.BufferTooShort (length s)))
 
   scene-placed : (n : ℕ) → (placed s room ≡ Scene n) ↔ ((n ≡ longIn t) × (n ≤ room))
   unfolding placed
@@ -134,12 +134,12 @@ module _ (t : Tables) (room : ℕ) where
             λ h. absurd (omega arith),
           )
 
-  lacks-placed : (q : Refusal) → (placed s room ≡ Refused (OfScene q)) ↔ ((room < longIn t) × (q ≡ refusal.Buffer (longIn t)))
+  lacks-placed : (q : Refusal) → (placed s room ≡ Refused (OfScene q)) ↔ ((room < longIn t) × (q ≡ refusal.BufferTooShort (longIn t)))
   unfolding placed
   lacks-placed q = go (leb (length s) room) refl
     where
       go : (b : Bool) → leb (length s) room ≡ b →
-          (cond b (Scene (length s)) lacking ≡ Refused (OfScene q)) ↔ ((room < longIn t) × (q ≡ refusal.Buffer (longIn t)))
+          (cond b (Scene (length s)) lacking ≡ Refused (OfScene q)) ↔ ((room < longIn t) × (q ≡ refusal.BufferTooShort (longIn t)))
       go true e =
           let l = leb-true (length s) room e in
           let d = file-long t in (
@@ -149,8 +149,8 @@ module _ (t : Tables) (room : ℕ) where
       go false e =
           let l = leb-false (length s) room e in
           let d = file-long t in (
-            λ h. let k : refusal.Buffer (length s) ≡ q = cc in (omega arith, sym k ∙ ap refusal.Buffer d),
-            λ h. ap (λ (q : Refusal). Refused (OfScene q)) (ap refusal.Buffer d ∙ sym (h .1)),
+            λ h. let k : refusal.BufferTooShort (length s) ≡ q = cc in (omega arith, sym k ∙ ap refusal.BufferTooShort d),
+            λ h. ap (λ (q : Refusal). Refused (OfScene q)) (ap refusal.BufferTooShort d ∙ sym (h .1)),
           )
 
   scene-judged : (n : ℕ) → (judgedOf s room ≡ Scene n) ↔ Fits t room n

@@ -16,7 +16,7 @@ use Rattle.scene.specs.declared.Face.{Face}
 use Rattle.off_items.specs.Items.{separates, begins, comments, gap, word, startOf, wordEnd, after}
 use Rattle.off_form.specs.Form.{isOff, isThree, isFour, keyword, numbersOf}
 use Rattle.off_write.specs.Drawing.{isOne, weighted, keywordLine, countsLine, rowWords, faceWords, drawn}
-use Rattle.theorem_off.specs.Words.{Word, Worded, Rest, behind, Tells, none, a-newline, decimal-worded}
+use Rattle.theorem_off.specs.Words.{Word, OneWord, Rest, behind, Tells, none, a-newline, decimal-worded}
 use Rattle.theorem_off.specs.Words.{signed-worded, Line, lines-tell, text-tells}
 use Rattle.theorem_off.specs.Redrawn.{per, Shown, Cornered, Denotes, told}
 
@@ -66,7 +66,7 @@ zero-is : ascii "0" ≡ decimal 0
 unfolding decimal decimalIn
 zero-is = refl
 
-three-worded : Worded (ascii "3")
+three-worded : OneWord (ascii "3")
 unfolding separates
 three-worded = record { some = omega arith; bare = (refl, tt) }
 

@@ -331,7 +331,7 @@ module _ (t : Tables) (c : CountsIn limits t) where
         λ h. (to .0 (h .0), (x .0 (h .1 .1 .0), λ u. h .1 .1 .1 (w .1 u))),
         λ h. (to .1 (h .0), (mark-kept t c k, (x .1 (h .1 .0), λ u. h .1 .1 (w .0 u)))),
       )
-  grounds-same (refusal.Nowhere k) =
+  grounds-same (refusal.FarAllZero k) =
       let to = to-record k in
       let x = coordinates-same t c k in
       let w = weight-same t c k in
@@ -367,10 +367,10 @@ module _ (t : Tables) (c : CountsIn limits t) where
           λ u. h .3 (sides-same (records-same .1 (h .2 .records)) (h .0) (h .2 .to) .0 u),
         ),
       )
-  grounds-same (refusal.Room p) = (absurd, absurd)
-  grounds-same refusal.Lacking = (absurd, absurd)
-  grounds-same refusal.Same = (absurd, absurd)
-  grounds-same (refusal.Buffer p) = (absurd, absurd)
+  grounds-same (refusal.ListTooShort p) = (absurd, absurd)
+  grounds-same refusal.NoSuchNumber = (absurd, absurd)
+  grounds-same refusal.NotDistinct = (absurd, absurd)
+  grounds-same (refusal.BufferTooShort p) = (absurd, absurd)
 
   pub judged-refused : (q : Refusal) → (judged (fileOf t) ≡ Refused q) ↔ GroundsIn limits t q
   judged-refused q = Iff·trans (refused limits (fileOf t) q) (grounds-same q)

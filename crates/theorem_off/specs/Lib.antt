@@ -1,7 +1,7 @@
 -- Scene has the theorem that the drawing of a solid of an accepted scene has the form of a text and denotes that solid; Denoted has the
 -- statement that the scene of two texts is the one that they denote, and DenotedProof its proof. The others lead to these.
 pub mod Words
-pub mod Told
+pub mod Drawing
 pub mod Redrawn
 pub mod Drawn
 pub mod Scene

@@ -21,10 +21,10 @@ use Rattle.off_form.specs.Form.{countsThen, formOf}
 use Rattle.off_form.specs.declared.Reading.{Reading}
 use Rattle.off_form.specs.declared.Reading.the-variants.{At, Outside}
 use Rattle.off_solids.specs.Solid.{past, weightFrom, rowFrom, rowOf, cornersFrom, faceOf, solidOf}
-use Rattle.off_solids.specs.Told.{group-next}
+use Rattle.off_solids.specs.ReadOf.{group-next}
 use Rattle.off_write.specs.Drawing.{rowWords, faceWords}
 use Rattle.theorem_off.specs.Words.{Word, Rest, last-item}
-use Rattle.theorem_off.specs.Told.{next-count, next-signed}
+use Rattle.theorem_off.specs.Drawing.{next-count, next-signed}
 
 -- ---- a vertex and a face
 

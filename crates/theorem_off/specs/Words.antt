@@ -18,7 +18,7 @@ use Rattle.off_items.specs.Items.{separates, begins, comments, gap, word, start
 abbrev pub Word : Type 0
 Word = List ℕ
 
-pub record Worded (w : Word) : Type 0 where
+pub record OneWord (w : Word) : Type 0 where
   pub some : 0 < length w
   pub bare : Each (λ (c : ℕ). separates c ≡ false) w
 
@@ -28,7 +28,7 @@ pub record Blank (c : ℕ) : Type 0 where
 
 pub data Tells : List ℕ → List Word → Type 0 where
   none : Tells [] []
-  more : {w : Word} {c : ℕ} {t : List ℕ} {ws : List Word} → Worded w → Blank c → Tells t ws → Tells (w ++ (c ∷ t)) (w ∷ ws)
+  more : {w : Word} {c : ℕ} {t : List ℕ} {ws : List Word} → OneWord w → Blank c → Tells t ws → Tells (w ++ (c ∷ t)) (w ∷ ws)
 
 -- behind a word
 pub data Rest : List ℕ → List Word → Type 0 where
@@ -46,11 +46,11 @@ not-blank : (c : ℕ) → 36 ≤ c → separates c ≡ false
 unfolding separates
 not-blank c h = rw (ne-eqb c 32 (λ e. omega arith), ne-eqb c 10 (λ e. omega arith), ne-eqb c 35 (λ e. omega arith))
 
-pub decimal-worded : (n : ℕ) → Worded (decimal n)
+pub decimal-worded : (n : ℕ) → OneWord (decimal n)
 decimal-worded n =
     record { some = decimal-some n; bare = each-map (λ c h. not-blank c (omega (arith, h .least))) (decimal n) (decimal-digits n) }
 
-pub signed-worded : (z : ℤ) → Worded (signedDecimal z)
+pub signed-worded : (z : ℤ) → OneWord (signedDecimal z)
 unfolding signedDecimal
 signed-worded (pos n) = decimal-worded n
 signed-worded (negsuc k) = record { some = omega arith; bare = (not-blank 45 (omega arith), decimal-worded (suc k) .bare) }
@@ -61,9 +61,9 @@ pub record Line (l : List Word) : Type 0 where
   pub first : Word
   pub others : List Word
   pub is : l ≡ first ∷ others
-  pub worded : Each Worded l
+  pub worded : Each OneWord l
 
-line-tells : (w : Word) (ws : List Word) → Each Worded (w ∷ ws) → {t : List ℕ} {us : List Word} → Tells t us →
+line-tells : (w : Word) (ws : List Word) → Each OneWord (w ∷ ws) → {t : List ℕ} {us : List Word} → Tells t us →
     Tells (line (w ∷ ws) ++ t) ((w ∷ ws) ++ us)
 line-tells w [] h {t} {us} x = subst (λ (l : List ℕ). Tells l (w ∷ us)) (sym (append-assoc w (10 ∷ []) t)) (more (h .0) a-newline x)
 line-tells w (v ∷ vs) h {t} {us} x =
@@ -73,7 +73,7 @@ line-tells w (v ∷ vs) h {t} {us} x =
 pub lines-tell : (l : List Word) → Line l → {t : List ℕ} {us : List Word} → Tells t us → Tells (line l ++ t) (l ++ us)
 lines-tell l h {t} {us} x =
     subst (λ (l : List Word). Tells (line l ++ t) (l ++ us)) (sym (h .is))
-    (line-tells (h .first) (h .others) (subst (Each Worded) (h .is) (h .worded)) x)
+    (line-tells (h .first) (h .others) (subst (Each OneWord) (h .is) (h .worded)) x)
 
 pub text-tells : {A : Type 0} (f : A → List Word) → ((x : A) → Line (f x)) → (xs : List A) {t : List ℕ} {us : List Word} → Tells t us →
     Tells (text (map f xs) ++ t) (flatMap f xs ++ us)
@@ -98,7 +98,7 @@ gap-word : (c : ℕ) (t : List ℕ) → separates c ≡ false → gap false (c �
 unfolding gap begins
 gap-word c t h = rw h
 
-gap-none : (w : Word) → Worded w → (t : List ℕ) → gap false (w ++ t) ≡ 0
+gap-none : (w : Word) → OneWord w → (t : List ℕ) → gap false (w ++ t) ≡ 0
 gap-none [] h t = absurd (omega (arith, h .some))
 gap-none (c ∷ w) h t = gap-word c (w ++ t) (h .bare .0)
 
@@ -123,7 +123,7 @@ pub next-item : (s : List ℕ) (at : ℕ) (w : Word) (ws : List Word) → Rest (
 unfolding startOf wordEnd
 next-item s at w ws x = by refl x
   where
-    spelled : (i : ℕ) (c : ℕ) (t : List ℕ) → Worded w → Blank c → Tells t ws → drop i s ≡ w ++ (c ∷ t) → startOf s at ≡ i → Item s at w ws
+    spelled : (i : ℕ) (c : ℕ) (t : List ℕ) → OneWord w → Blank c → Tells t ws → drop i s ≡ w ++ (c ∷ t) → startOf s at ≡ i → Item s at w ws
     spelled i c t ww bc x e p =
         let long : endOf s at ≡ i + length w =
         ap (wordEnd s) p ∙ ap (λ (l : List ℕ). i + word l) e ∙ ap (λ (n : ℕ). i + n) (word-length w (ww .bare) c t (bc .parts)) in

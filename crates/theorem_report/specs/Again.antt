@@ -13,7 +13,7 @@ use Rattle.judge.specs.declared.Judged.{Judged}
 use Rattle.judge.specs.declared.Judged.the-variants.{Accepted, Refused}
 use Rattle.question_listing.specs.Hits.{Hit}
 use Rattle.scene.specs.View.{viewOf}
-use Rattle.questions.specs.Answers.{answered, verdictOf, countedOf, listingIn}
+use Rattle.questions.specs.Answers.{orRefuse, verdictOf, countedOf, listingIn}
 use Rattle.questions.specs.declared.Counts.{Counts}
 use Rattle.questions.specs.declared.Counted.{Counted}
 use Rattle.questions.specs.declared.Counted.the-variants as counted
@@ -66,10 +66,10 @@ hits-lines [] = tt
 hits-lines (h ∷ l) = ((decimal-plain _, (decimal-plain _, (decimal-plain _, tt))), hits-lines l)
 
 listing-lines : (s : List ℕ) → Each Line (listingLines s)
-unfolding listingLines answered
+unfolding listingLines orRefuse
 listing-lines s = go (judged s)
   where
-    go : (j : Judged) → Each Line (answered (λ _. []) j (map hitLine (listingIn (viewOf s))))
+    go : (j : Judged) → Each Line (orRefuse (λ _. []) j (map hitLine (listingIn (viewOf s))))
     go Accepted = hits-lines (listingIn (viewOf s))
     go (Refused r) = tt
 
@@ -102,11 +102,11 @@ pub record Again (s : List ℕ) (c : Counts) (t : List ℕ) : Type 0 where
   pub listing : map hitIn (drop 4 (linesIn t)) ≡ listingIn (viewOf s)
 
 pub found-again : (s : List ℕ) (c : Counts) → judged s ≡ Accepted → countedOf s ≡ counted.Counts c → Again s c (text (reportOf s))
-unfolding reportOf listingLines answered
+unfolding reportOf listingLines orRefuse
 found-again s c j e =
     let ls : linesIn (text (reportOf s)) ≡ headOf s (counted.Counts c) ++ map hitLine (listingIn (viewOf s)) =
     report-back s ∙ ap (λ (a : Counted). headOf s a ++ listingLines s) e
-    ∙ ap (λ (k : Judged). headOf s (counted.Counts c) ++ answered (λ _. []) k (map hitLine (listingIn (viewOf s)))) j in
+    ∙ ap (λ (k : Judged). headOf s (counted.Counts c) ++ orRefuse (λ _. []) k (map hitLine (listingIn (viewOf s)))) j in
     record {
       word = ap (λ (l : List Words). wordIn l 1 1) ls;
       a-in-b = ap (λ (l : List Words). numberIn (wordIn l 2 1)) ls ∙ number-back (c .«a_in_b»);

@@ -12,8 +12,8 @@ use Rattle.session.proofs.with_face.Tie as tie
 slice-aggregate-face-start : tie.Need-slice-aggregate-face-start
 slice-aggregate-face-start c = sym (length-take-le _ _ (omega arith))
 
-slice-aggregate-turned : tie.Need-slice-aggregate-turned
-slice-aggregate-turned c = sym (length-take-le _ _ (omega arith))
+slice-aggregate-reversed-face : tie.Need-slice-aggregate-reversed-face
+slice-aggregate-reversed-face c = sym (length-take-le _ _ (omega arith))
 
 returns : tie.Need-returns
 returns c =
@@ -22,10 +22,10 @@ returns c =
     let c8 = c6 .before .before in
     c .fresh .ensures
     ∙ ap (λ (l : List ℕ). fresh l (c8 .args .n))
-    (c .before .before .put-corners .ensures ∙ ap₂ (cornersPut _) (c6 .face-start .ensures .0) (c4 .turned .ensures .0))
+    (c .before .before .put-corners .ensures ∙ ap₂ (cornersPut _) (c6 .face-start .ensures .0) (c4 .reversed-face .ensures .0))
 
 pub with-face-spec : {M : Type 1} → statement M
 with-face-spec =
     tie.close
-    (tie.spec (λ c. search needs) slice-aggregate-face-start (λ c κs. search needs) (λ c. search needs) slice-aggregate-turned
+    (tie.spec (λ c. search needs) slice-aggregate-face-start (λ c κs. search needs) (λ c. search needs) slice-aggregate-reversed-face
     (λ c κs. search needs) (λ c. search needs) (λ c κs. search needs) (λ c κs. search needs) returns)

@@ -2,7 +2,7 @@
 use native.Mathlib.Omega.{arith}
 use denote.Ref.{now}
 use mathlib.Core.Path.{_∙_}
-use Rattle.question_listing.specs.Hits.{seenIn}
+use Rattle.question_listing.specs.Hits.{viewIn}
 use Rattle.survey_edges.specs.Room.{solid-room}
 use Rattle.survey_enclosed.specs.OddsProof.{odds-are}
 use Rattle.survey.specs.Laws.{filled-edges, marked-edges, ends-in}
@@ -14,7 +14,7 @@ fill-odds-requires : tie.Need-fill-odds-requires
 fill-odds-requires c κs =
     let f = c .before .before .before in
     let s = let l = f .before .before .before .before in l .before .before in
-    let v = seenIn (s .args .n) (now (s .args .rows)) (now (s .args .corners)) in
+    let v = viewIn (s .args .n) (now (s .args .rows)) (now (s .args .corners)) in
     let w = s .pre .0 .0 .within in (
       (
         omega (arith, f .fill-solid .ensures .count, solid-room v (s .args .k) w),
@@ -31,7 +31,7 @@ enclosed-word-requires c κs =
     let f = o .before .before .before .before in
     let l = f .before .before .before .before in
     let s = l .before .before in
-    let v = seenIn (s .args .n) (now (s .args .rows)) (now (s .args .corners)) in
+    let v = viewIn (s .args .n) (now (s .args .rows)) (now (s .args .corners)) in
     let m = marked-edges _ _ (filled-edges (f .fill-solid .ensures)) (o .fill-odds .ensures) in
     ((s .pre .0 .0, l .fill-links .ensures .own, odds-are v (s .args .k) (s .pre .0 .0) m), s .pre .1 .0 .0)
 
@@ -41,7 +41,7 @@ returns c =
     let f = o .before .before .before .before in
     let l = f .before .before .before .before in
     let s = l .before .before in
-    let v = seenIn (s .args .n) (now (s .args .rows)) (now (s .args .corners)) in (
+    let v = viewIn (s .args .n) (now (s .args .rows)) (now (s .args .corners)) in (
       record {
         edges = filled-edges (f .fill-solid .ensures);
         fits = omega (arith, f .fill-solid .ensures .count, solid-room v (s .args .k) (s .pre .0 .0 .within));

@@ -2,7 +2,7 @@
 use native.Mathlib.Omega.{arith}
 use denote.Ref.{now}
 use lib.Pow.{pow-pos}
-use Rattle.question_listing.specs.Hits.{seenIn}
+use Rattle.question_listing.specs.Hits.{viewIn}
 use Rattle.survey_enclosed.specs.Walk.{Reached}
 use Rattle.survey_enclosed.specs.WalkProof.{reached-none, reached-all}
 use Rattle.survey_enclosed.specs.StepProof.{here, step-reached, step-less}
@@ -10,7 +10,7 @@ use Rattle.survey_enclosed.proofs.enclosed_word.Statement.{statement}
 use Rattle.survey_enclosed.proofs.enclosed_word.Tie as tie
 
 abbrev Inv-loop : tie.InvT-loop
-Inv-loop engine rows corners n k links odds words low t₀ t = Reached (seenIn n rows corners) k t
+Inv-loop engine rows corners n k links odds words low t₀ t = Reached (viewIn n rows corners) k t
 
 abbrev μ-loop : tie.MeasureT-loop
 μ-loop engine rows corners n k links odds words low t₀ t = t .left
@@ -33,7 +33,7 @@ step-requires : tie.Need-step-requires Inv-loop μ-loop
 step-requires c κs =
     let s = let turn = c .before .before .before in turn .before .before in
     let r = c .start .ensures in
-    let h = here (seenIn (s .args .n) (now (s .args .rows)) (now (s .args .corners))) (s .args .k) (s .pre .0 .0) (now (s .args .links))
+    let h = here (viewIn (s .args .n) (now (s .args .rows)) (now (s .args .corners))) (s .args .k) (s .pre .0 .0) (now (s .args .links))
     (now (s .args .odds)) (s .pre .0 .1) (s .pre .0 .2) (c .start .result) (r .reached) (r .some) in
     (omega (arith, h, s .pre .0 .0 .within .sound .vertices .0), omega (arith, h, s .pre .0 .0 .within .sound .vertices .1))
 
@@ -41,7 +41,7 @@ loop-less : tie.Need-loop-less Inv-loop μ-loop
 loop-less c =
     let s = let turn = c .before .before .before .before in turn .before .before in
     let r = c .before .start .ensures in
-    let l = step-less (seenIn (s .args .n) (now (s .args .rows)) (now (s .args .corners))) (s .args .k) (s .pre .0 .0)
+    let l = step-less (viewIn (s .args .n) (now (s .args .rows)) (now (s .args .corners))) (s .args .k) (s .pre .0 .0)
     (now (s .args .links)) (now (s .args .odds)) (s .pre .0 .1) (s .pre .0 .2) (c .before .start .result) (r .reached) (r .some) in
     rw (c .step .ensures) (omega (arith, l, r .same))
 
@@ -49,7 +49,7 @@ loop-again : tie.Need-loop-again Inv-loop μ-loop
 loop-again c =
     let s = let turn = c .before .before .before .before in turn .before .before in
     let r = c .before .start .ensures in
-    rw (c .step .ensures) (step-reached (seenIn (s .args .n) (now (s .args .rows)) (now (s .args .corners))) (s .args .k) (s .pre .0 .0)
+    rw (c .step .ensures) (step-reached (viewIn (s .args .n) (now (s .args .rows)) (now (s .args .corners))) (s .args .k) (s .pre .0 .0)
     (now (s .args .links)) (now (s .args .odds)) (s .pre .0 .1) (s .pre .0 .2) (c .before .start .result) (r .reached) (r .some))
 
 returns : tie.Need-returns Inv-loop μ-loop

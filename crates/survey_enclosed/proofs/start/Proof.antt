@@ -25,13 +25,13 @@ bit-requires c κs =
       s .pre .0 .0 .within .sound .vertices .0,
     )
 
-add-is-inside-2 : tie.Need-add-is-inside-2
-add-is-inside-2 c =
+add-is-enclosed-2 : tie.Need-add-is-enclosed-2
+add-is-enclosed-2 c =
     let s = c .before .before .before in
     omega (arith, trailing-le 64 (s .args .t .left), s .pre .0 .0 .within .sound .vertices .1)
 
-is-inside-requires : tie.Need-is-inside-requires
-is-inside-requires c κs =
+is-enclosed-requires : tie.Need-is-enclosed-requires
+is-enclosed-requires c κs =
     let s = c .before .before .before in
     let b = word-first 64 (s .args .k .verts) (omega (arith, s .pre .0 .0 .within .sound .vertices .0)) (s .pre .0 .1 .left-in)
     (s .pre .0 .2) .below in
@@ -41,17 +41,17 @@ returns-2 : tie.Need-returns-2
 returns-2 c =
     let s = let after-bit = c .before .before .before in after-bit .before .before in
     started-asked _ _ (s .args .t) _ (omega (arith, s .pre .0 .0 .within .sound .vertices .0)) (s .pre .0 .1) (s .pre .0 .2) refl
-    (c .before .before .before .bit .ensures) (c .before .is-inside .ensures)
+    (c .before .before .before .bit .ensures) (c .before .is-enclosed .ensures)
     (told-yes (bitOr (s .args .t .inside) (c .before .before .before .bit .result)) (s .args .t .inside) (c .if2 .taken))
 
 returns-3 : tie.Need-returns-3
 returns-3 c =
     let s = let after-bit = c .before .before .before in after-bit .before .before in
     started-asked _ _ (s .args .t) _ (omega (arith, s .pre .0 .0 .within .sound .vertices .0)) (s .pre .0 .1) (s .pre .0 .2) refl
-    (c .before .before .before .bit .ensures) (c .before .is-inside .ensures)
+    (c .before .before .before .bit .ensures) (c .before .is-enclosed .ensures)
     (told-no (bitOr (s .args .t .inside) (c .before .before .before .bit .result)) (s .args .t .inside) (c .if2 .left))
 
 pub start-spec : {M : Type 1} → statement M
 start-spec =
     tie.close
-    (tie.spec returns cast-i bit-requires (λ c. search needs) add-is-inside-2 is-inside-requires returns-2 returns-3)
+    (tie.spec returns cast-i bit-requires (λ c. search needs) add-is-enclosed-2 is-enclosed-requires returns-2 returns-3)

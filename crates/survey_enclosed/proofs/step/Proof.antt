@@ -6,7 +6,7 @@ use denote.Ref.{now}
 use lib.Bits.{bitAnd, bitOr, bitXor}
 use lib.Count.{trailing-le}
 use lib.ListN.{getD}
-use Rattle.survey_enclosed.specs.Walk.{passed, fresh, turned, stepOf}
+use Rattle.survey_enclosed.specs.Walk.{passed, fresh, flipped, stepOf}
 use borrow.Author.Needs.{needs}
 use Rattle.survey_enclosed.proofs.step.Statement.{statement}
 use Rattle.survey_enclosed.proofs.step.Tie as tie
@@ -25,7 +25,7 @@ returns c =
     λ j. record {
       inside =
           bitOr (t .inside)
-          ((g .turned .ensures ∙ ap (turned new (bitAnd new (getD (now (s .args .odds)) at 0))) (g .before .has .ensures)) j);
+          ((g .flipped .ensures ∙ ap (flipped new (bitAnd new (getD (now (s .args .odds)) at 0))) (g .before .has .ensures)) j);
       known = bitOr (t .known) new;
       left = bitXor (t .left) (c .bit .ensures j);
     }

@@ -4,7 +4,7 @@ use mathlib.Core.Path.{_≡_}
 use native.Mathlib.Omega.{arith}
 use denote.Ref.{now}
 use Rattle.laws.specs.Runs.{upTo}
-use Rattle.question_listing.specs.Hits.{seenIn}
+use Rattle.question_listing.specs.Hits.{viewIn}
 use Rattle.survey_edges.specs.Edges.{vertexEdges, solidEdges, Filled}
 use Rattle.survey_edges.specs.Room.{room}
 use Rattle.survey_masks.specs.Store.{filled-none, filled-more}
@@ -13,11 +13,11 @@ use Rattle.survey_masks.proofs.fill_solid.Statement.{statement}
 use Rattle.survey_masks.proofs.fill_solid.Tie as tie
 
 abbrev Inv-loop : tie.InvT-loop
-Inv-loop engine rows corners n k links words own cuts ends₀ masks₀ c₀ i₀ i-end ends masks c i =
-    (i ≤ i-end) × Filled (upTo (λ j. vertexEdges (seenIn n rows corners) k (k .low + 1 + j)) i) 0 ends₀ masks₀ ends masks c
+Inv-loop engine rows corners n k links words own separating ends₀ masks₀ c₀ i₀ i-end ends masks c i =
+    (i ≤ i-end) × Filled (upTo (λ j. vertexEdges (viewIn n rows corners) k (k .vert0 + 1 + j)) i) 0 ends₀ masks₀ ends masks c
 
 abbrev μ-loop : tie.MeasureT-loop
-μ-loop engine rows corners n k links words own cuts ends₀ masks₀ c₀ i₀ i-end ends masks c i = i-end - i
+μ-loop engine rows corners n k links words own separating ends₀ masks₀ c₀ i₀ i-end ends masks c i = i-end - i
 
 loop-holds : tie.Need-loop-holds Inv-loop μ-loop
 loop-holds c = (omega arith, filled-none _ _ _)
@@ -26,7 +26,7 @@ fill-vertex-requires : tie.Need-fill-vertex-requires Inv-loop μ-loop
 fill-vertex-requires c κs =
     let l = c .before .before .before in
     let s = l .before in
-    let v = seenIn (s .args .n) (now (s .args .rows)) (now (s .args .corners)) in
+    let v = viewIn (s .args .n) (now (s .args .rows)) (now (s .args .corners)) in
     let f = l .loop .inv .1 in
     let r = room v (s .args .k) (s .pre .0 .0) (l .loop .i) (omega arith) in (
       (s .pre .0 .0 .sound, s .pre .0 .1, omega arith),

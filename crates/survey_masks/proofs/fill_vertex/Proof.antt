@@ -9,7 +9,7 @@ use lib.Count.{trailing-le}
 use lib.Pow.{pow-mono}
 use Rattle.laws.specs.Walk.{walk-less}
 use Rattle.survey_links.specs.Bits.{word-first}
-use Rattle.question_listing.specs.Hits.{seenIn}
+use Rattle.question_listing.specs.Hits.{viewIn}
 use Rattle.survey_edges.specs.Edges.{bitEdges, vertexEdges}
 use Rattle.survey_edges.specs.Order.{higher}
 use Rattle.survey_masks.specs.Store.{Filling, filling-start, filling-room, filling-turn, filling-end}
@@ -18,12 +18,12 @@ use Rattle.survey_masks.proofs.fill_vertex.Statement.{statement}
 use Rattle.survey_masks.proofs.fill_vertex.Tie as tie
 
 abbrev Inv-loop : tie.InvT-loop
-Inv-loop engine rows corners n k links words own cuts i at ends₀ masks₀ u left₀ c₀ ends masks left c =
-    (left < 2 ^ 64) × (left < 2 ^ (k .low + k .verts - u))
-    × Filling (bitEdges (seenIn n rows corners) k u left) (vertexEdges (seenIn n rows corners) k u) at ends₀ masks₀ ends masks c
+Inv-loop engine rows corners n k links words own separating i at ends₀ masks₀ u left₀ c₀ ends masks left c =
+    (left < 2 ^ 64) × (left < 2 ^ (k .vert0 + k .verts - u))
+    × Filling (bitEdges (viewIn n rows corners) k u left) (vertexEdges (viewIn n rows corners) k u) at ends₀ masks₀ ends masks c
 
 abbrev μ-loop : tie.MeasureT-loop
-μ-loop engine rows corners n k links words own cuts i at ends₀ masks₀ u left₀ c₀ ends masks left c = left
+μ-loop engine rows corners n k links words own separating i at ends₀ masks₀ u left₀ c₀ ends masks left c = left
 
 add-u-2 : tie.Need-add-u-2 Inv-loop μ-loop
 add-u-2 c = omega (arith, c .before .pre .0 .0 .vertices .1)
@@ -41,10 +41,10 @@ loop-holds : tie.Need-loop-holds Inv-loop μ-loop
 loop-holds c =
     let s = c .before .before .args in
     let p = c .before .before .pre .0 in
-    let v = seenIn (s .n) (now (s .rows)) (now (s .corners)) in
-    let u = s .k .low + 1 + s .i in
+    let v = viewIn (s .n) (now (s .rows)) (now (s .corners)) in
+    let u = s .k .vert0 + 1 + s .i in
     let h = higher v (s .k) (p .0) (s .i) (p .2) (p .1 u (omega arith, omega arith)) in
-    let few = pow-mono {i = s .k .low + s .k .verts - u} {j = 64} (omega (arith, p .0 .vertices .0)) in
+    let few = pow-mono {i = s .k .vert0 + s .k .verts - u} {j = 64} (omega (arith, p .0 .vertices .0)) in
     (lt-of-lt-of-le (h .small) few, h .small, filling-start v (s .k) u _ (s .at) _ _ (h .edges))
 
 cast-v : tie.Need-cast-v Inv-loop μ-loop
@@ -59,7 +59,7 @@ edge-mask-requires c κs =
     let s = c .before .before .before .before in
     let k = s .args .k in
     let o = s .pre .0 .0 in
-    let left = k .low + k .verts - (k .low + 1 + s .args .i) in
+    let left = k .vert0 + k .verts - (k .vert0 + 1 + s .args .i) in
     let t = word-first 64 left (omega (arith, o .vertices .0)) (l .inv .1) (omega arith) .below in
     ((o, (omega arith, omega arith), (omega arith, omega (arith, t)), omega arith), s .pre .1 .1)
 
@@ -94,8 +94,8 @@ loop-again c =
     let l = m .before .before in
     let s = l .before .before .before in
     let r = filling-room _ _ _ (l .loop .left) (omega arith) (l .loop .inv .0) (l .loop .inv .2) in
-    let v = seenIn (s .args .n) (now (s .args .rows)) (now (s .args .corners)) in
-    let u = s .args .k .low + 1 + s .args .i in (
+    let v = viewIn (s .args .n) (now (s .args .rows)) (now (s .args .corners)) in
+    let u = s .args .k .vert0 + 1 + s .args .i in (
       omega (arith, and-le-r (l .loop .left) (l .loop .left - 1)),
       lt-of-le-of-lt (and-le-r (l .loop .left) (l .loop .left - 1)) (omega (arith, l .loop .inv .1)),
       filling-turn v (s .args .k) u (l .loop .left) (m .edge-mask .result) (omega arith) (l .loop .inv .0) (omega (arith, r))

@@ -24,7 +24,7 @@ abbrev own : tie.Start → ℕ → Mask
 own s = maskIn (now (s .args .own))
 
 abbrev cut : tie.Start → ℕ → Mask
-cut s = maskIn (now (s .args .cuts))
+cut s = maskIn (now (s .args .separating))
 
 -- the faces at both ends
 at-is : (c : tie.After-both) → let s = c .before .before .before in c .both .result ≡ bothOf (own s (s .args .u)) (own s (s .args .v))
@@ -39,10 +39,10 @@ returns c =
     let p = s .pre .1 in
     none-pierced (a .n) (row s) (face s) (own s) (cut s) (a .u) (a .v) (a .first) (a .count) (at-is m) (p .1 .0 .0) (p .0 .0) (p .1 .0 .1)
     (p .1 .1 .1)
-    (sym (h .has-all .ensures ∙ (λ i. covers (h .before .cut-at .ensures i) (m .both .result))) ∙ not-true _ (c .if1 .taken))
+    (sym (h .has-all .ensures ∙ (λ i. covers (h .before .separating-at .ensures i) (m .both .result))) ∙ not-true _ (c .if1 .taken))
 
-mask-parted-requires : tie.Need-mask-parted-requires
-mask-parted-requires c κs =
+mask-separated-requires : tie.Need-mask-separated-requires
+mask-separated-requires c κs =
     let m = c .before .before .before in
     let s = m .before .before .before in
     let a = s .args in
@@ -55,4 +55,4 @@ pub mask-spec : {M : Type 1} → statement M
 mask-spec =
     tie.close
     (tie.spec (λ c κs. search needs) (λ c κs. search needs) (λ c κs. search needs) (λ c κs. search needs) (λ c κs. search needs) returns
-    mask-parted-requires (λ c. search needs))
+    mask-separated-requires (λ c. search needs))

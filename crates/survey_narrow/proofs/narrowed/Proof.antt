@@ -18,12 +18,12 @@ use Rattle.survey_narrow.proofs.narrowed.Statement.{statement}
 use Rattle.survey_narrow.proofs.narrowed.Tie as tie
 
 abbrev Inv-loop : tie.InvT-loop
-Inv-loop cuts from at candidates left₀ word₀ left word =
-    (left ≤ candidates) × AtEach (Numbered from) left × (word + narrowedOf (maskIn cuts) from at left
-    ≡ narrowedOf (maskIn cuts) from at candidates)
+Inv-loop separating from at candidates left₀ word₀ left word =
+    (left ≤ candidates) × AtEach (Numbered from) left × (word + narrowedOf (maskIn separating) from at left
+    ≡ narrowedOf (maskIn separating) from at candidates)
 
 abbrev μ-loop : tie.MeasureT-loop
-μ-loop cuts from at candidates left₀ word₀ left word = left
+μ-loop separating from at candidates left₀ word₀ left word = left
 
 loop-holds : tie.Need-loop-holds Inv-loop μ-loop
 loop-holds c = (omega arith, c .pre .0, omega arith)
@@ -43,22 +43,23 @@ shl-word c = here (c .before .before .before) .small
 -- after a turn, what is kept so far and what is kept of the rest
 rest : (c : tie.After-bit Inv-loop μ-loop) → let t = c .before .before .before in let w = t .before .loop .left in
     let a = t .before .before .args in
-    t .before .loop .word + c .bit .result * 2 ^ trailingZeros 64 w % 2 ^ 64 + narrowedOf (maskIn (now (a .cuts))) (a .from) (a .at)
+    t .before .loop .word + c .bit .result * 2 ^ trailingZeros 64 w % 2 ^ 64 + narrowedOf (maskIn (now (a .separating))) (a .from) (a .at)
     (bitAnd w (w - 1))
-    ≡ narrowedOf (maskIn (now (a .cuts))) (a .from) (a .at) (a .candidates)
+    ≡ narrowedOf (maskIn (now (a .separating))) (a .from) (a .at) (a .candidates)
 rest c =
     let t = c .before .before .before in
     let s = t .before .before in
     turn-rest (t .before .loop .left) (omega arith) (omega (arith, s .fits .candidates)) _ (t .before .loop .word) (here t .small)
     (t .before .loop .inv .2)
     (c .bit .ensures ∙ ap digit (c .before .has-all .ensures ∙ ap (λ (m : Mask). covers m (s .args .at))
-    (c .before .before .cut-at .ensures)))
+    (c .before .before .separating-at .ensures)))
 
 add-word : tie.Need-add-word Inv-loop μ-loop
 add-word c =
     let s = let t = c .before .before .before in t .before .before in
     let a = s .args in
-    omega (arith, rest c, kept-le (λ k. covers (maskIn (now (a .cuts)) (a .from + 1 + k)) (a .at)) (a .candidates), s .fits .candidates)
+    omega (arith, rest c, kept-le (λ k. covers (maskIn (now (a .separating)) (a .from + 1 + k)) (a .at)) (a .candidates),
+        s .fits .candidates)
 
 loop-less : tie.Need-loop-less Inv-loop μ-loop
 loop-less c = walk-less _ (omega arith)
@@ -78,7 +79,7 @@ returns : tie.Need-returns Inv-loop μ-loop
 returns c =
     let a = c .before .before .args in
     let z : c .before .loop .left ≡ 0 = omega arith in
-    let none = ap (narrowedOf (maskIn (now (a .cuts))) (a .from) (a .at)) z ∙ kept-none _ in
+    let none = ap (narrowedOf (maskIn (now (a .separating))) (a .from) (a .at)) z ∙ kept-none _ in
     omega (arith, none, c .before .loop .inv .2)
 
 pub narrowed-spec : {M : Type 1} → statement M

@@ -1,7 +1,7 @@
 -- The planes of the faces opposite, over whatever the table held.
 use denote.Ref.{now}
 use Rattle.scene.specs.Arrays.{rowIn, faceIn}
-use Rattle.survey_setup.specs.Told.{made}
+use Rattle.survey_setup.specs.Sides.{made}
 use borrow.Author.Needs.{needs}
 use Rattle.survey_setup.proofs.make_planes.Statement.{statement}
 use Rattle.survey_setup.proofs.make_planes.Tie as tie

@@ -13,25 +13,25 @@ use Rattle.scene.specs.Limits.{limits, within}
 use Rattle.scene.specs.Records.{vertsA, verts, lastRecord}
 use Rattle.scene.specs.Tables.{tablesOf, row, face}
 use Rattle.scene.specs.declared.Refusal.{Refusal}
-use Rattle.scene.specs.declared.Refusal.the-variants.{Room, Lacking, Same, Buffer}
-use Rattle.judge.specs.Judge.{rule, andThen, judged}
+use Rattle.scene.specs.declared.Refusal.the-variants.{ListTooShort, NoSuchNumber, NotDistinct, BufferTooShort}
+use Rattle.judge.specs.Judge.{refuseUnless, andThen, judged}
 use Rattle.judge.specs.declared.Judged.{Judged}
 use Rattle.judge.specs.declared.Judged.the-variants.{Accepted, Refused}
 use Rattle.judge.specs.Tests.{within-iff, then-refused}
-use Rattle.rules.specs.Numbers.{turnOf, Gives, gives, gives-none, gives-wider, rule-here, then-here, then-next}
+use Rattle.rules.specs.Numbers.{checkOrder, Gives, gives, gives-none, gives-wider, rule-here, then-here, then-next}
 use Rattle.rules.specs.Parts.{judge-gives}
 use Rattle.rules.specs.Accepted.{accepted}
 use Rattle.rules.specs.Refused as table
 use Rattle.record.specs.Shown.{refusal, shown, ifAccepted}
 use Rattle.pierce.specs.Formula.{pierced}
-use Rattle.question_listing.specs.Hits.{lowestInside}
-use Rattle.question_listing.specs.Pour.{allIn}
+use Rattle.question_listing.specs.Hits.{lowestEnclosed}
+use Rattle.question_listing.specs.WritePairs.{allIn}
 use Rattle.question_listing.specs.First.{firstOf}
 use Rattle.question_listing.specs.declared.find.Found.{Found}
 use Rattle.question_listing.specs.declared.find.Found.the-variants.{Nothing, Pair}
 use Rattle.scene.specs.View.{viewOf, solidA, solidB, solid}
 use Rattle.questions.specs.Laws.{answered-then}
-use Rattle.questions.specs.Answers.{answered, seen, refused, yesNo, isVertex, isSolid, signIn, signFault}
+use Rattle.questions.specs.Answers.{orRefuse, pierceView, refused, yesNo, isVertex, isSolid, signIn, signFault}
 use Rattle.questions.specs.Answers.{signOf, piercesIn, piercesFault, piercesOf}
 use Rattle.questions.specs.Answers.{maskedIn, maskFault, maskedOf, enclosedIn, enclosedFault, isEnclosed, enclosedOf, countedOf}
 use Rattle.questions.specs.Answers.{insideFault, enclosingIn, insideOf, crossOr, enclosureIn, verdictIn, verdictOf}
@@ -58,8 +58,8 @@ no-refusal false r e = nonsense (cc)
 no-verdict : (s : List ℕ) (r : Refusal) → ¬ (verdictIn (viewOf s) ≡ verdict.Refused r)
 unfolding verdictIn enclosureIn solid
 no-verdict s =
-    go _ _ (firstOf (listingIn (viewOf s))) (leb (lowestInside (seen (viewOf s)) (solidA (viewOf s))) (vertsA s))
-    (leb (lowestInside (seen (viewOf s)) (solidB (viewOf s))) (verts s))
+    go _ _ (firstOf (listingIn (viewOf s))) (leb (lowestEnclosed (pierceView (viewOf s)) (solidA (viewOf s))) (vertsA s))
+    (leb (lowestEnclosed (pierceView (viewOf s)) (solidB (viewOf s))) (verts s))
   where
     go : (p q : ℕ) (f : Found) (a b : Bool) (r : Refusal) →
         ¬ (crossOr f (cond a (verdict.AInB p) (cond b (verdict.BInA q) verdict.Apart)) ≡ verdict.Refused r)
@@ -94,13 +94,13 @@ module _ (s : List ℕ) where
       (asked s _ _ (mask-iff s u v k) (alike-vertex s u v k))
 
   of-enclosed : (i : ℕ) → Refusals s (λ r. enclosedOf s i ≡ answer.Refused r) NoList (Vertex s i) Never
-  unfolding enclosedOf enclosedIn enclosedFault isVertex rule
+  unfolding enclosedOf enclosedIn enclosedFault isVertex refuseUnless
   of-enclosed i =
       told s (twice-iff answer.Refused (λ q r e. cc) _ (no-refusal (isEnclosed (viewOf s) i)) (judged s) (enclosedFault (viewOf s) i))
       (asked s (within 1 (verts s) i) true (within-iff 1 (verts s) i) (λ h. no-alike))
 
   of-record : (k : ℕ) → Refusals s (λ r. refusal s k ≡ Refused r) NoList (RecordNumber s k) Never
-  unfolding refusal rule
+  unfolding refusal refuseUnless
   of-record k = asked s (leb k (lastRecord s)) true (leb-iff k (lastRecord s)) (λ h. no-alike)
 
   none-shown : (k : ℕ) (r : Refusal) → refusal s k ≡ Refused r → shown s k ≡ []
@@ -116,7 +116,7 @@ module _ (s : List ℕ) where
   of-counts = told s (answered-iff counted.Refused (λ q r e. cc) _ (λ r e. nonsense (cc)) (judged s)) (plain s)
 
   of-inside : (k : ℕ) → Refusals s (λ r. insideOf s k ≡ enclosing.Refused r) NoList (SolidNumber k) Never
-  unfolding insideOf enclosingIn insideFault isSolid rule
+  unfolding insideOf enclosingIn insideFault isSolid refuseUnless
   of-inside k = told s (twice-iff enclosing.Refused (λ q r e. cc) _ (λ r e. nonsense (cc)) (judged s) (insideFault k))
       (asked s (within 1 2 k) true (within-iff 1 2 k) (λ h. no-alike))
 
@@ -127,16 +127,16 @@ module _ (s : List ℕ) where
     count = length (listingIn (viewOf s))
 
     abbrev fits : Judged
-    fits = rule (leb (3 * count) (length d)) (Room count) Accepted
+    fits = refuseUnless (leb (3 * count) (length d)) (ListTooShort count) Accepted
 
     fits-gives : Gives 11 11 fits
     fits-gives = search gives
 
-    room-iff : (n : ℕ) → (fits ≡ Refused (Room n)) ↔ TooShort s d n
+    room-iff : (n : ℕ) → (fits ≡ Refused (ListTooShort n)) ↔ TooShort s d n
     room-iff n =
-        Iff·trans (rule-here (leb-iff _ _) (Room count) Accepted 12 (gives-none 12 12)) (
+        Iff·trans (rule-here (leb-iff _ _) (ListTooShort count) Accepted 12 (gives-none 12 12)) (
           λ h. let e : n ≡ count = cc in let l : ¬ (3 * count ≤ length d) = h .1 in (e, omega arith),
-          λ h. let e = h .0 in let l = h .1 in (ap Room (sym e), λ k. omega arith),
+          λ h. let e = h .0 in let l = h .1 in (ap ListTooShort (sym e), λ k. omega arith),
         )
 
     module _ (d′ : List ℕ) (x : Listed) (h : IsListed s d d′ x) where
@@ -144,7 +144,7 @@ module _ (s : List ℕ) where
       unfolding listedIn listFault
       at r = rw (h .answer) (twice-iff listed.Refused (λ q r e. cc) (listed.Count count) (λ r e. nonsense (cc)) (judged s) fits r)
 
-      never-by : (r : Refusal) → 11 < turnOf r → ¬ (x ≡ listed.Refused r)
+      never-by : (r : Refusal) → 11 < checkOrder r → ¬ (x ≡ listed.Refused r)
       never-by r l e =
           ⊎-elim (λ k. omega (arith, judge-gives limits s .turn r k)) (λ k. omega (arith, fits-gives .turn r (k .1)))
           (then-refused (judged s) fits r .0 (at r .0 e))
@@ -153,21 +153,22 @@ module _ (s : List ℕ) where
       of-listing =
           record {
             scene = λ r l. Iff·trans (at r) (Iff·trans (then-here (judged s) fits r 11
-                (gives-wider (suc (turnOf r)) 11 (omega (arith, scene-turn r l)) (omega arith) fits-gives)) (table.refused limits s r));
+                (gives-wider (suc (checkOrder r)) 11 (omega (arith, scene-turn r l)) (omega arith) fits-gives)) (table.refused limits s r));
             room = λ n.
-                Iff·trans (at (Room n)) (then-next (judged s) fits (Room n) 1 10 (judge-gives limits s) (omega arith) (accepted limits s)
+                Iff·trans (at (ListTooShort n))
+                    (then-next (judged s) fits (ListTooShort n) 1 10 (judge-gives limits s) (omega arith) (accepted limits s)
                 (room-iff n));
-            buffer = λ n. never-by (Buffer n) (omega arith);
-            lacking = (λ e. absurd (never-by Lacking (omega arith) e), λ h. absurd (h .1 tt));
-            same = (λ e. absurd (never-by Same (omega arith) e), λ h. absurd (h .2));
+            buffer = λ n. never-by (BufferTooShort n) (omega arith);
+            lacking = (λ e. absurd (never-by NoSuchNumber (omega arith) e), λ h. absurd (h .1 tt));
+            same = (λ e. absurd (never-by NotDistinct (omega arith) e), λ h. absurd (h .2));
           }
 
       listing-kept : (r : Refusal) → x ≡ listed.Refused r → d′ ≡ d
-      unfolding heldIn listFault answered
+      unfolding heldIn listFault orRefuse
       listing-kept r e = h .held ∙ kept-by (at r .0 e) (allIn (listingIn (viewOf s)) d)
         where
           kept-by : {r : Refusal} → andThen (judged s) fits ≡ Refused r → (l : List ℕ) →
-              answered (λ _. d) (judged s) (answered (λ _. d) fits l) ≡ d
+              orRefuse (λ _. d) (judged s) (orRefuse (λ _. d) fits l) ≡ d
           kept-by e l = answered-then (λ _. d) (judged s) fits l ∙ rw e
 
   module _ (from : ℕ) (d d′ : List ℕ) (x : Listed) (h : IsPart s from d d′ x) where
@@ -180,7 +181,7 @@ module _ (s : List ℕ) where
     of-part = told s part-at (plain s)
 
     part-kept : (r : Refusal) → x ≡ listed.Refused r → d′ ≡ d
-    unfolding answered
+    unfolding orRefuse
     part-kept r e = let j = part-at r .0 e in h .held ∙ rw j
 
 pub answers : (s : List ℕ) → Answers s

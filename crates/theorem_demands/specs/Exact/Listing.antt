@@ -12,12 +12,12 @@ use Rattle.scene.specs.Faces.{Vertex}
 use Rattle.scene_edges.specs.Edges.{joined}
 use Rattle.scene.specs.declared.Solid.{Solid}
 use Rattle.pierce.specs.Formula.{pierced}
-use Rattle.question_listing.specs.Hits.{Seen, Hit, faceHits, edgeHits, pairHits, pairsAt, vertexHits, solidHits}
-use Rattle.question_listing.specs.Pour.{three}
+use Rattle.question_listing.specs.Hits.{PierceView, Hit, faceHits, edgeHits, pairHits, pairsAt, vertexHits, solidHits}
+use Rattle.question_listing.specs.WritePairs.{three}
 
 -- ---- the hits of one solid's edges
 
-module _ (v : Seen) (k : Solid) where
+module _ (v : PierceView) (k : Solid) where
   -- by lower point, higher point, face
   abbrev pub Lower : Hit → Hit → Type 0
   Lower x y = Less (three x) (three y)
@@ -28,14 +28,14 @@ module _ (v : Seen) (k : Solid) where
   abbrev Of : (u w : ℕ) → Hit → Type 0
   Of u w x = (x .low ≡ u) × (x .high ≡ w)
 
-  face-each : (u w i : ℕ) → Each (At u w (k .other + 1 + i)) (faceHits v k u w i)
+  face-each : (u w i : ℕ) → Each (At u w (k .other0 + 1 + i)) (faceHits v k u w i)
   unfolding faceHits
   face-each u w i =
-      each-only (At u w (k .other + 1 + i)) (pierced (v .points) (v .row) u w (v .face (k .other + 1 + i))) _ ((refl, refl, refl), tt)
+      each-only (At u w (k .other0 + 1 + i)) (pierced (v .points) (v .row) u w (v .face (k .other0 + 1 + i))) _ ((refl, refl, refl), tt)
 
   face-rises : (u w i : ℕ) → Rising Lower (faceHits v k u w i)
   unfolding faceHits
-  face-rises u w i = rising-only Lower (pierced (v .points) (v .row) u w (v .face (k .other + 1 + i))) _ (tt, tt)
+  face-rises u w i = rising-only Lower (pierced (v .points) (v .row) u w (v .face (k .other0 + 1 + i))) _ (tt, tt)
 
   edge-each : (u w : ℕ) → Each (Of u w) (edgeHits v k u w)
   unfolding edgeHits
@@ -45,18 +45,20 @@ module _ (v : Seen) (k : Solid) where
   edge-rises : (u w : ℕ) → Rising Lower (edgeHits v k u w)
   unfolding edgeHits
   edge-rises u w =
-      rising-upTo Lower (faceHits v k u w) (λ i. At u w (k .other + 1 + i)) (face-each u w)
+      rising-upTo Lower (faceHits v k u w) (λ i. At u w (k .other0 + 1 + i)) (face-each u w)
       (λ i j x y l p q. inr (omega (arith, p .0, q .0), inr (omega (arith, p .1, q .1), inl (omega (arith, p .2, q .2)))))
       (face-rises u w) (k .others)
 
-  pair-each : (u m : ℕ) → Each (Of u (k .low + 1 + m)) (pairsAt v k u m)
+  pair-each : (u m : ℕ) → Each (Of u (k .vert0 + 1 + m)) (pairsAt v k u m)
   unfolding pairHits
   pair-each u m =
-      each-only (Of u (k .low + 1 + m)) (ltb u (k .low + 1 + m) && joined (v .face) k u (k .low + 1 + m)) _ (edge-each u (k .low + 1 + m))
+      each-only (Of u (k .vert0 + 1 + m)) (ltb u (k .vert0 + 1 + m) && joined (v .face) k u (k .vert0 + 1 + m)) _
+          (edge-each u (k .vert0 + 1 + m))
 
   pair-rises : (u m : ℕ) → Rising Lower (pairsAt v k u m)
   unfolding pairHits
-  pair-rises u m = rising-only Lower (ltb u (k .low + 1 + m) && joined (v .face) k u (k .low + 1 + m)) _ (edge-rises u (k .low + 1 + m))
+  pair-rises u m = rising-only Lower (ltb u (k .vert0 + 1 + m) && joined (v .face) k u (k .vert0 + 1 + m)) _
+      (edge-rises u (k .vert0 + 1 + m))
 
   vertex-each : (u : ℕ) → Each (λ x. x .low ≡ u) (vertexHits v k u)
   unfolding vertexHits
@@ -65,17 +67,17 @@ module _ (v : Seen) (k : Solid) where
   vertex-rises : (u : ℕ) → Rising Lower (vertexHits v k u)
   unfolding vertexHits
   vertex-rises u =
-      rising-upTo Lower (pairsAt v k u) (λ m. Of u (k .low + 1 + m)) (pair-each u)
+      rising-upTo Lower (pairsAt v k u) (λ m. Of u (k .vert0 + 1 + m)) (pair-each u)
       (λ i j x y l p q. inr (omega (arith, p .0, q .0), inl (omega (arith, p .1, q .1)))) (pair-rises u) (k .verts)
 
-  pub solid-each : Each (λ x. Vertex (k .low) (k .low + k .verts) (x .low)) (solidHits v k)
+  pub solid-each : Each (λ x. Vertex (k .vert0) (k .vert0 + k .verts) (x .low)) (solidHits v k)
   unfolding solidHits
   solid-each =
-      each-upTo _ (λ i. vertexHits v k (k .low + 1 + i)) (k .verts)
-      (λ i l. each-map (λ x e. (omega (arith, e), omega (arith, e))) (vertexHits v k (k .low + 1 + i)) (vertex-each (k .low + 1 + i)))
+      each-upTo _ (λ i. vertexHits v k (k .vert0 + 1 + i)) (k .verts)
+      (λ i l. each-map (λ x e. (omega (arith, e), omega (arith, e))) (vertexHits v k (k .vert0 + 1 + i)) (vertex-each (k .vert0 + 1 + i)))
 
   pub solid-rises : Rising Lower (solidHits v k)
   unfolding solidHits
   solid-rises =
-      rising-upTo Lower (λ i. vertexHits v k (k .low + 1 + i)) (λ i x. x .low ≡ k .low + 1 + i) (λ i. vertex-each (k .low + 1 + i))
-      (λ i j x y l p q. inl (omega (arith, p, q))) (λ i. vertex-rises (k .low + 1 + i)) (k .verts)
+      rising-upTo Lower (λ i. vertexHits v k (k .vert0 + 1 + i)) (λ i x. x .low ≡ k .vert0 + 1 + i) (λ i. vertex-each (k .vert0 + 1 + i))
+      (λ i j x y l p q. inl (omega (arith, p, q))) (λ i. vertex-rises (k .vert0 + 1 + i)) (k .verts)

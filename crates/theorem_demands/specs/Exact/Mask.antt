@@ -15,10 +15,10 @@ use Rattle.pierce_masks.specs.Faces.{isOdd}
 use Rattle.pierce.specs.Against.{maskAgainst}
 use Rattle.scene.specs.declared.Solid.{Solid}
 use Rattle.survey_links.specs.Bits.{same-bits}
-use Rattle.question_listing.specs.Hits.{isInside}
+use Rattle.question_listing.specs.Hits.{enclosedVertex}
 use Rattle.theorem_demands.specs.Words.{farPoint, Pierces, Enclosed}
 use Rattle.theorem_demands.specs.Exact.{numbered, MaskIs, Odd}
-use Rattle.theorem_demands.specs.Words.Solids.{Worded}
+use Rattle.theorem_demands.specs.Words.Solids.{InWords}
 
 -- ---- of u and v, against the n faces behind others
 
@@ -70,9 +70,9 @@ module _ (s : List ℕ) (u v : ℕ) where
 
 -- ---- enclosed
 
-pub enclosed-in : (s : List ℕ) {k : Solid} {n : ℕ} {Of Own Other : ℕ → Type 0} → Worded s k n Of Own Other → (i : ℕ) → Of i →
-    Enclosed s i ↔ Odd (Pierces s i (farPoint s)) (numbered (k .other + 1) (k .others))
-unfolding isInside
+pub enclosed-in : (s : List ℕ) {k : Solid} {n : ℕ} {Of Own Other : ℕ → Type 0} → InWords s k n Of Own Other → (i : ℕ) → Of i →
+    Enclosed s i ↔ Odd (Pierces s i (farPoint s)) (numbered (k .other0 + 1) (k .others))
+unfolding enclosedVertex
 enclosed-in s {k} w i h =
     let e = w .inside i h in
-    Iff·trans (λ t. e ∙ t, λ t. sym e ∙ t) (odd-iff s i (farPoint s) (k .other) (k .others))
+    Iff·trans (λ t. e ∙ t, λ t. sym e ∙ t) (odd-iff s i (farPoint s) (k .other0) (k .others))

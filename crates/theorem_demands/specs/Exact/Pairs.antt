@@ -20,13 +20,13 @@ use Rattle.judge.specs.declared.Judged.the-variants.{Accepted}
 use Rattle.scene_edges.specs.Edges.{joined, Corners}
 use Rattle.scene.specs.declared.Solid.{Solid}
 use Rattle.pierce.specs.Formula.{pierced}
-use Rattle.question_listing.specs.Hits.{Seen, Hit, Own, faceHits, edgeHits, pairHits, pairsAt, vertexHits, solidHits}
-use Rattle.question_listing.specs.Pour.{three}
+use Rattle.question_listing.specs.Hits.{PierceView, Hit, Own, faceHits, edgeHits, pairHits, pairsAt, vertexHits, solidHits}
+use Rattle.question_listing.specs.WritePairs.{three}
 use Rattle.scene.specs.View.{viewOf, solidA, solidB, solid}
-use Rattle.questions.specs.Answers.{listingIn, seen}
+use Rattle.questions.specs.Answers.{listingIn, pierceView}
 use Rattle.survey_scene.specs.Ready.{sound-a, sound-b}
 use Rattle.theorem_demands.specs.Words.{Edge}
-use Rattle.theorem_demands.specs.Words.Solids.{Worded, a-worded, b-worded}
+use Rattle.theorem_demands.specs.Words.Solids.{InWords, a-worded, b-worded}
 use Rattle.theorem_demands.specs.Exact.{Crossing, PiercedPair, solidOf, Before, ListingIs}
 use Rattle.theorem_demands.specs.Exact.Listing.{Lower, solid-each, solid-rises}
 
@@ -38,17 +38,17 @@ corner-vertex f h (inr (inr e)) = subst (Vertex _ _) e (h .r)
 
 -- ---- the hits of one solid's edges
 
-module _ (v : Seen) (k : Solid) where
+module _ (v : PierceView) (k : Solid) where
   -- u and w are corners of one face of the solid
   abbrev pub Joined : (u w : ℕ) → Type 0
-  Joined u w = (f : ℕ) × ((k .first + 1 ≤ f) × (f < k .first + 1 + k .count)) × Both u w (v .face f)
+  Joined u w = (f : ℕ) × ((k .face0 + 1 ≤ f) × (f < k .face0 + 1 + k .faces)) × Both u w (v .face f)
 
   pub joined-iff : (u w : ℕ) → (joined (v .face) k u w ≡ true) ↔ Joined u w
   unfolding joined
   joined-iff u w =
-      Iff·trans (any-iff (λ f. Both u w (v .face f)) (λ f. f) _ (k .first + 1) (k .first + 1 + k .count) (k .count) (omega arith)
+      Iff·trans (any-iff (λ f. Both u w (v .face f)) (λ f. f) _ (k .face0 + 1) (k .face0 + 1 + k .faces) (k .faces) (omega arith)
       (λ f. both-iff u w (v .face f)))
-      (some-run (λ f. Both u w (v .face f)) (λ f. f) (k .first + 1) (k .count))
+      (some-run (λ f. Both u w (v .face f)) (λ f. f) (k .face0 + 1) (k .faces))
 
   -- then both are vertices of the solid
   pub joined-own : Corners (v .face) k → {u w : ℕ} → Joined u w → Own v k u × Own v k w
@@ -59,12 +59,12 @@ module _ (v : Seen) (k : Solid) where
   pub record IsHit (h : Hit) : Type 0 where
     pub lower-first : h .low < h .high
     pub on : Joined (h .low) (h .high)
-    pub other-face : Vertex (k .other) (k .other + k .others) (h .face)
+    pub other-face : Vertex (k .other0) (k .other0 + k .others) (h .face)
     pub pierces : pierced (v .points) (v .row) (h .low) (h .high) (v .face (h .face)) ≡ true
 
   -- the one at the places i, m and j
   abbrev hitAt : (i m j : ℕ) → Hit
-  hitAt i m j = record { low = k .low + 1 + i; high = k .low + 1 + m; face = k .other + 1 + j }
+  hitAt i m j = record { low = k .vert0 + 1 + i; high = k .vert0 + 1 + m; face = k .other0 + 1 + j }
 
   module _ (h : Hit) where
     abbrev Is : Hit → Type 0
@@ -73,14 +73,14 @@ module _ (v : Seen) (k : Solid) where
     to-hit : Some Is (solidHits v k) → IsHit h
     unfolding solidHits vertexHits pairHits edgeHits faceHits
     to-hit p =
-        let a = some-upTo Is (λ i. vertexHits v k (k .low + 1 + i)) (k .verts) .0 p in
-        let u : ℕ = k .low + 1 + a .0 in
+        let a = some-upTo Is (λ i. vertexHits v k (k .vert0 + 1 + i)) (k .verts) .0 p in
+        let u : ℕ = k .vert0 + 1 + a .0 in
         let b = some-upTo Is (pairsAt v k u) (k .verts) .0 (a .2) in
-        let w : ℕ = k .low + 1 + b .0 in
+        let w : ℕ = k .vert0 + 1 + b .0 in
         let c = some-only Is (ltb u w && joined (v .face) k u w) (edgeHits v k u w) .0 (b .2) in
         let t = and-iff (ltb u w) (joined (v .face) k u w) .0 (c .0) in
         let d = some-upTo Is (faceHits v k u w) (k .others) .0 (c .1) in
-        let e = some-only Is (pierced (v .points) (v .row) u w (v .face (k .other + 1 + d .0)))
+        let e = some-only Is (pierced (v .points) (v .row) u w (v .face (k .other0 + 1 + d .0)))
         (hitAt (a .0) (b .0) (d .0) ∷ []) .0 (d .2) in
         ⊎-elim (λ same. subst IsHit same (record {
           lower-first = ltb-true u w (t .0);
@@ -93,17 +93,17 @@ module _ (v : Seen) (k : Solid) where
     unfolding solidHits vertexHits pairHits edgeHits faceHits
     from-hit own p =
         let ends = joined-own own (p .on) in
-        let i : ℕ = h .low - (k .low + 1) in
-        let m : ℕ = h .high - (k .low + 1) in
-        let j : ℕ = h .face - (k .other + 1) in
-        let u : ℕ = k .low + 1 + i in
-        let w : ℕ = k .low + 1 + m in
+        let i : ℕ = h .low - (k .vert0 + 1) in
+        let m : ℕ = h .high - (k .vert0 + 1) in
+        let j : ℕ = h .face - (k .other0 + 1) in
+        let u : ℕ = k .vert0 + 1 + i in
+        let w : ℕ = k .vert0 + 1 + m in
         let eu : h .low ≡ u = omega (arith, ends .0) in
         let ew : h .high ≡ w = omega (arith, ends .1) in
-        let ef : h .face ≡ k .other + 1 + j = omega (arith, p .other-face) in
+        let ef : h .face ≡ k .other0 + 1 + j = omega (arith, p .other-face) in
         let same : h ≡ hitAt i m j = λ t. record { low = eu t; high = ew t; face = ef t } in
         let q : IsHit (hitAt i m j) = subst IsHit same p in
-        some-upTo Is (λ i. vertexHits v k (k .low + 1 + i)) (k .verts) .1 (
+        some-upTo Is (λ i. vertexHits v k (k .vert0 + 1 + i)) (k .verts) .1 (
           i,
           omega (arith, ends .0),
           some-upTo Is (pairsAt v k u) (k .verts) .1 (
@@ -114,7 +114,7 @@ module _ (v : Seen) (k : Solid) where
               some-upTo Is (faceHits v k u w) (k .others) .1 (
                 j,
                 omega (arith, p .other-face),
-                some-only Is (pierced (v .points) (v .row) u w (v .face (k .other + 1 + j))) (hitAt i m j ∷ []) .1
+                some-only Is (pierced (v .points) (v .row) u w (v .face (k .other0 + 1 + j))) (hitAt i m j ∷ []) .1
                     (q .pierces, inl (sym same)),
               ),
             ),
@@ -128,17 +128,17 @@ module _ (v : Seen) (k : Solid) where
 
 module _ (s : List ℕ) where
   abbrev hitsOf : Solid → List Hit
-  hitsOf k = solidHits (seen (viewOf s)) k
+  hitsOf k = solidHits (pierceView (viewOf s)) k
 
   -- of the edges of one solid
-  module _ {k : Solid} {n : ℕ} {Of Faces Other : ℕ → Type 0} (w : Worded s k n Of Faces Other) where
-    pub edge-in : {i j : ℕ} → ((i < j) × Joined (seen (viewOf s)) k i j) ↔ Edge s Faces i j
+  module _ {k : Solid} {n : ℕ} {Of Faces Other : ℕ → Type 0} (w : InWords s k n Of Faces Other) where
+    pub edge-in : {i j : ℕ} → ((i < j) × Joined (pierceView (viewOf s)) k i j) ↔ Edge s Faces i j
     edge-in = (
       λ p. let o = p .1 in record { lower-first = p .0; on = (o .0, w .faces (o .0) .0 (o .1), o .2 .0, o .2 .1) },
       λ p. let o = p .on in (p .lower-first, (o .0, w .faces (o .0) .1 (o .1), (o .2, o .3))),
     )
 
-    crossing-iff : (h : Hit) → IsHit (seen (viewOf s)) k h ↔ Crossing s Faces Other h
+    crossing-iff : (h : Hit) → IsHit (pierceView (viewOf s)) k h ↔ Crossing s Faces Other h
     crossing-iff h = (
       λ p. (edge-in .0 (p .lower-first, p .on), w .others (h .face) .0 (p .other-face), p .pierces),
       λ p.
@@ -147,15 +147,15 @@ module _ (s : List ℕ) where
     )
 
     members-in : Corners (face (tablesOf s)) k → (h : Hit) → Some (λ x. x ≡ h) (hitsOf k) ↔ Crossing s Faces Other h
-    members-in own h = Iff·trans (hit-iff (seen (viewOf s)) k h own) (crossing-iff h)
+    members-in own h = Iff·trans (hit-iff (pierceView (viewOf s)) k h own) (crossing-iff h)
 
     numbers-in : Each (λ x. solidOf s (x .low) ≡ n) (hitsOf k)
-    numbers-in = each-map (λ x p. w .number (x .low) (w .vertices (x .low) .0 p)) (hitsOf k) (solid-each (seen (viewOf s)) k)
+    numbers-in = each-map (λ x p. w .number (x .low) (w .vertices (x .low) .0 p)) (hitsOf k) (solid-each (pierceView (viewOf s)) k)
 
     rises-in : Rising (Before s) (hitsOf k)
     rises-in =
-        rising-map (Lower (seen (viewOf s)) k) (Before s) (λ x. solidOf s (x .low) ≡ n) (λ x y p q o. inr (p ∙ sym q, o)) (hitsOf k)
-        numbers-in (solid-rises (seen (viewOf s)) k)
+        rising-map (Lower (pierceView (viewOf s)) k) (Before s) (λ x. solidOf s (x .low) ≡ n) (λ x y p q o. inr (p ∙ sym q, o)) (hitsOf k)
+        numbers-in (solid-rises (pierceView (viewOf s)) k)
 
   -- of both, A's first
   module _ (ok : judged s ≡ Accepted) where

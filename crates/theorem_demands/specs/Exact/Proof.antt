@@ -15,7 +15,7 @@ use Rattle.scene.specs.Limits.{limits, within}
 use Rattle.scene.specs.Records.{facesA, facesB, verts}
 use Rattle.scene.specs.Tables.{tablesOf, row, face}
 use Rattle.scene.specs.declared.Refusal.{Refusal}
-use Rattle.judge.specs.Judge.{judged, andThen, rule}
+use Rattle.judge.specs.Judge.{judged, andThen, refuseUnless}
 use Rattle.judge.specs.declared.Judged.{Judged}
 use Rattle.judge.specs.declared.Judged.the-variants.{Accepted}
 use Rattle.rules.specs.Rules.{FileOk}
@@ -26,15 +26,15 @@ use Rattle.rules.specs.Files.{accepted-files}
 use Rattle.orient.specs.Terms.{positiveAt, termsAt}
 use Rattle.orient.specs.declared.Terms.{Terms}
 use Rattle.pierce.specs.Formula.{pierced}
-use Rattle.question_listing.specs.Hits.{isInside, insideCount}
-use Rattle.question_listing.specs.Pour.{allIn}
+use Rattle.question_listing.specs.Hits.{enclosedVertex, enclosedCount}
+use Rattle.question_listing.specs.WritePairs.{allIn}
 use Rattle.scene.specs.View.{viewOf, solid}
 use Rattle.scene.specs.declared.Solid.{Solid}
 use Rattle.questions.specs.Laws.{answered-then}
-use Rattle.questions.specs.Answers.{answered, enclosedIn, maskedIn, piercesIn, signIn, signFault, signOf, yesNo, piercesFault, piercesOf}
+use Rattle.questions.specs.Answers.{orRefuse, enclosedIn, maskedIn, piercesIn, signIn, signFault, signOf, yesNo, piercesFault, piercesOf}
 use Rattle.questions.specs.Answers.{maskIn, maskFault, maskedOf, refused, faces-are, isEnclosed, enclosedFault, enclosedOf, countsIn}
 use Rattle.questions.specs.Answers.{countedOf, verdictIn, verdictOf, listFault, listedIn, heldIn, IsListed, isVertex, listingIn}
-use Rattle.questions.specs.Answers.{seen, insideIn, insideFault, enclosingIn, insideOf, isSolid, IsPart}
+use Rattle.questions.specs.Answers.{pierceView, insideIn, insideFault, enclosingIn, insideOf, isSolid, IsPart}
 use Rattle.questions.specs.declared.Signed.the-variants as sign
 use Rattle.questions.specs.declared.Answer.{Answer}
 use Rattle.questions.specs.declared.Answer.the-variants as answer
@@ -54,7 +54,7 @@ use Rattle.theorem_demands.specs.Answers.Tests.{mask-iff, alike-points, 
 use Rattle.theorem_demands.specs.Exact.Mask.{mask, mask-is, mask-once, enclosed-in}
 use Rattle.theorem_demands.specs.Exact.Pairs.{listing-is}
 use Rattle.theorem_demands.specs.Exact.Verdict.{Says, verdict-iff}
-use Rattle.theorem_demands.specs.Words.Solids.{Worded, a-worded, b-worded}
+use Rattle.theorem_demands.specs.Words.Solids.{InWords, a-worded, b-worded}
 
 module _ (s : List ℕ) where
   accepted : (judged s ≡ Accepted) ↔ FileOk limits s
@@ -100,7 +100,7 @@ module _ (s : List ℕ) where
         Iff·trans (then-iff _ _) (Iff·and accepted (Iff·trans (rule-iff _ _ _) (λ k. leb-iff _ _ .0 (k .0), λ k. (leb-iff _ _ .1 k, refl))))
 
     listed-is : ListedIs s d d′ x
-    unfolding allIn answered heldIn
+    unfolding allIn orRefuse heldIn
     listed-is =
         record {
           count = λ n. Iff·trans (fits n) (
@@ -121,7 +121,7 @@ module _ (s : List ℕ) where
         (answered-ok listed.Refused (listed.Count n) (λ r e. nonsense (cc)) (judged s) (listed.Count (length (listingIn (viewOf s)))))
 
     part-is : PartIs s from d d′ x
-    unfolding answered
+    unfolding orRefuse
     part-is =
         record {
           count = λ n. Iff·trans (part-told n) (Iff·and accepted (λ e. cc, λ e. ap listed.Count (sym e)));
@@ -215,14 +215,15 @@ module _ (s : List ℕ) where
 
   -- ---- counts
 
-  number-in : {k : Solid} {n : ℕ} {Of Own Other : ℕ → Type 0} → Worded s k n Of Own Other →
-      Number (Enclosed s) (numbered (k .low + 1) (k .verts)) (insideCount (seen (viewOf s)) k)
-  unfolding insideCount
+  number-in : {k : Solid} {n : ℕ} {Of Own Other : ℕ → Type 0} → InWords s k n Of Own Other →
+      Number (Enclosed s) (numbered (k .vert0 + 1) (k .verts)) (enclosedCount (pierceView (viewOf s)) k)
+  unfolding enclosedCount
   number-in {k} w =
       let e = isEnclosed (viewOf s) in
-      let a : ℕ = k .low + 1 in
-      number-iff (Enclosed s) e (λ i. Iff·rfl) (numbered a (k .verts)) (countOf (isInside (seen (viewOf s)) k) a (a + k .verts)) .0
-      (sym (count-same (isInside (seen (viewOf s)) k) e a (a + k .verts)
+      let a : ℕ = k .vert0 + 1 in
+      number-iff (Enclosed s) e (λ i. Iff·rfl) (numbered a (k .verts))
+          (countOf (enclosedVertex (pierceView (viewOf s)) k) a (a + k .verts)) .0
+      (sym (count-same (enclosedVertex (pierceView (viewOf s)) k) e a (a + k .verts)
       (λ i l m. w .inside i (w .vertices i .0 (omega arith, omega arith)))
       ∙ count-run (λ i. i) e e a (a + k .verts) (k .verts) (omega arith) (λ i. refl)))
 
@@ -242,11 +243,11 @@ module _ (s : List ℕ) where
       ))
 
   inside-is : (n : ℕ) → InsideIs s n
-  unfolding insideOf enclosingIn insideFault isSolid within rule answered insideIn solid
+  unfolding insideOf enclosingIn insideFault isSolid within refuseUnless orRefuse insideIn solid
   inside-is n = record { of-a = by (number-in (a-worded s)); of-b = by (number-in (b-worded s)) }
     where
       by : {l : List ℕ} {m : ℕ} → Number (Enclosed s) l m →
-          (answered enclosing.Refused (judged s) (enclosing.Count m) ≡ enclosing.Count n) ↔ (FileOk limits s × Number (Enclosed s) l n)
+          (orRefuse enclosing.Refused (judged s) (enclosing.Count m) ≡ enclosing.Count n) ↔ (FileOk limits s × Number (Enclosed s) l n)
       by {l} h =
           Iff·trans (answered-ok enclosing.Refused (enclosing.Count n) (λ r e. nonsense (cc)) (judged s) _)
           (Iff·and accepted (λ e. subst (Number (Enclosed s) l) (cc) h, λ k. ap enclosing.Count (number-once h k)))

@@ -15,17 +15,17 @@ use Rattle.scene.specs.Records.{vertsA, verts}
 use Rattle.judge.specs.Judge.{judged}
 use Rattle.judge.specs.declared.Judged.the-variants.{Accepted}
 use Rattle.scene.specs.declared.Solid.{Solid}
-use Rattle.question_listing.specs.Hits.{Hit, isInside, lowestInside}
+use Rattle.question_listing.specs.Hits.{Hit, enclosedVertex, lowestEnclosed}
 use Rattle.question_listing.specs.First.{firstOf}
-use Rattle.question_listing.specs.Pour.{three}
+use Rattle.question_listing.specs.WritePairs.{three}
 use Rattle.question_listing.specs.declared.find.Found.the-variants.{Nothing, Pair}
 use Rattle.scene.specs.View.{viewOf, solidA, solidB, solid}
-use Rattle.questions.specs.Answers.{enclosureIn, verdictIn, listingIn, seen}
+use Rattle.questions.specs.Answers.{enclosureIn, verdictIn, listingIn, pierceView}
 use Rattle.questions.specs.declared.Verdict.{Verdict}
 use Rattle.questions.specs.declared.Verdict.the-variants as verdict
 use Rattle.theorem_demands.specs.Words.{VertexOfA, VertexOfB, Enclosed}
 use Rattle.theorem_demands.specs.Exact.{PiercedPair, solidOf, Before, FirstPair, NonePierced, NoneEnclosed, LowestEnclosed}
-use Rattle.theorem_demands.specs.Words.Solids.{Worded, a-worded, b-worded}
+use Rattle.theorem_demands.specs.Words.Solids.{InWords, a-worded, b-worded}
 use Rattle.theorem_demands.specs.Exact.Pairs.{members, rises}
 
 -- ---- the first of a listing
@@ -63,19 +63,19 @@ module _ (s : List ℕ) where
 
   -- ---- the lowest enclosed vertex of a solid
 
-  module _ {k : Solid} {n : ℕ} {Of Own Other : ℕ → Type 0} (w : Worded s k n Of Own Other) where
+  module _ {k : Solid} {n : ℕ} {Of Own Other : ℕ → Type 0} (w : InWords s k n Of Own Other) where
     abbrev lowest : ℕ
-    lowest = lowestInside (seen (viewOf s)) k
+    lowest = lowestEnclosed (pierceView (viewOf s)) k
 
-    lowest-found : LowestEnclosed s Of lowest ⊎ ((lowest ≡ k .low + 1 + k .verts) × NoneEnclosed s Of)
-    unfolding lowestInside
-    lowest-found = go (lowest-or-none (isInside (seen (viewOf s)) k) (k .low + 1) (k .verts))
+    lowest-found : LowestEnclosed s Of lowest ⊎ ((lowest ≡ k .vert0 + 1 + k .verts) × NoneEnclosed s Of)
+    unfolding lowestEnclosed
+    lowest-found = go (lowest-or-none (enclosedVertex (pierceView (viewOf s)) k) (k .vert0 + 1) (k .verts))
       where
-        off : {i : ℕ} → isInside (seen (viewOf s)) k i ≡ false → Of i → ¬ Enclosed s i
+        off : {i : ℕ} → enclosedVertex (pierceView (viewOf s)) k i ≡ false → Of i → ¬ Enclosed s i
         off e o t = true≢false (sym t ∙ sym (w .inside _ o) ∙ e)
 
-        go : {l : ℕ} → FirstOrNone (isInside (seen (viewOf s)) k) (k .low + 1) (k .verts) l →
-            LowestEnclosed s Of l ⊎ ((l ≡ k .low + 1 + k .verts) × NoneEnclosed s Of)
+        go : {l : ℕ} → FirstOrNone (enclosedVertex (pierceView (viewOf s)) k) (k .vert0 + 1) (k .verts) l →
+            LowestEnclosed s Of l ⊎ ((l ≡ k .vert0 + 1 + k .verts) × NoneEnclosed s Of)
         go {l} (inl f) =
             let o = w .vertices l .0 (omega (arith, f .from), omega (arith, f .below)) in
             inl (record {
@@ -94,7 +94,7 @@ module _ (s : List ℕ) where
             let b : ¬ (p < lowest) = λ b. q .none-lower p (h .of) b (h .enclosed) in
             omega arith
 
-    lowest-none : NoneEnclosed s Of → lowest ≡ k .low + 1 + k .verts
+    lowest-none : NoneEnclosed s Of → lowest ≡ k .vert0 + 1 + k .verts
     lowest-none n = ⊎-elim (λ q. absurd (n lowest (q .of) (q .enclosed))) (λ h. h .0) lowest-found
 
   -- ---- of A, then of B
@@ -104,9 +104,9 @@ module _ (s : List ℕ) where
   in-a p h = rw (lowest-is (a-worded s) p h, le-leb p (vertsA s) (h .of .1))
 
   module _ (none-a : NoneEnclosed s (VertexOfA s)) where
-    not-a : leb (lowestInside (seen (viewOf s)) (solidA (viewOf s))) (vertsA s) ≡ false
+    not-a : leb (lowestEnclosed (pierceView (viewOf s)) (solidA (viewOf s))) (vertsA s) ≡ false
     not-a =
-        lt-leb (lowestInside (seen (viewOf s)) (solidA (viewOf s))) (vertsA s)
+        lt-leb (lowestEnclosed (pierceView (viewOf s)) (solidA (viewOf s))) (vertsA s)
         (omega (arith, lowest-none (a-worded s) none-a))
 
     in-b : (p : ℕ) → LowestEnclosed s (VertexOfB s) p → enclosureIn (viewOf s) ≡ verdict.BInA p
@@ -116,7 +116,8 @@ module _ (s : List ℕ) where
     in-neither : NoneEnclosed s (VertexOfB s) → enclosureIn (viewOf s) ≡ verdict.Apart
     unfolding enclosureIn solid
     in-neither n =
-        rw (not-a, lt-leb (lowestInside (seen (viewOf s)) (solidB (viewOf s))) (verts s) (omega (arith, lowest-none (b-worded s) n)))
+        rw (not-a, lt-leb (lowestEnclosed (pierceView (viewOf s)) (solidB (viewOf s))) (verts s)
+            (omega (arith, lowest-none (b-worded s) n)))
 
   -- ---- the verdict
 

@@ -12,7 +12,7 @@ use Rattle.scene.specs.Bytes.{twoAt, weightAt}
 use Rattle.scene.specs.Records.{facesA, verts, faces, faceRecord, lastRecord, pointStart}
 use Rattle.scene.specs.Tables.{cornerAt}
 use Rattle.scene.specs.declared.Refusal.the-variants.{Mark, Coordinate, Weight, Edge}
-use Rattle.judge.specs.Judge.{rule, andThen, firstFault, headerFault, coordinateOk, pointMark, recordFault, unusedsFault, isEdge}
+use Rattle.judge.specs.Judge.{refuseUnless, andThen, firstFault, headerFault, coordinateOk, pointMark, recordFault, unusedsFault, isEdge}
 use Rattle.judge.specs.declared.Judged.{Judged}
 use Rattle.judge.specs.declared.Judged.the-variants.{Accepted}
 
@@ -20,11 +20,11 @@ module _ (s : List ℕ) where
   -- 6 was "a weight 0 or outside its limits", of the far point too
   abbrev pub pointFaultBefore : ℕ → Judged
   pointFaultBefore j =
-      rule (eqb (twoAt s (pointStart j)) (pointMark j)) (Mark (j + 1))
-      (rule (coordinateOk limitsBefore s (pointStart j + 2)) (Coordinate (j + 1))
-      (rule (coordinateOk limitsBefore s (pointStart j + 4)) (Coordinate (j + 1))
-      (rule (coordinateOk limitsBefore s (pointStart j + 6)) (Coordinate (j + 1))
-      (rule (within 1 (limitsBefore .mostWeight) (natAbs (weightAt s (pointStart j + 8)))) (Weight (j + 1)) Accepted))))
+      refuseUnless (eqb (twoAt s (pointStart j)) (pointMark j)) (Mark (j + 1))
+      (refuseUnless (coordinateOk limitsBefore s (pointStart j + 2)) (Coordinate (j + 1))
+      (refuseUnless (coordinateOk limitsBefore s (pointStart j + 4)) (Coordinate (j + 1))
+      (refuseUnless (coordinateOk limitsBefore s (pointStart j + 6)) (Coordinate (j + 1))
+      (refuseUnless (within 1 (limitsBefore .mostWeight) (natAbs (weightAt s (pointStart j + 8)))) (Weight (j + 1)) Accepted))))
 
   -- the records of faces, and the last, are as they were
   abbrev pub recordFaultBefore : ℕ → Judged
@@ -41,7 +41,8 @@ module _ (s : List ℕ) where
 
   abbrev pub edgeFaultBefore : ℕ → Judged
   edgeFaultBefore i =
-      rule (cond (ltb i (facesA s)) (sidesInTwo 0 (facesA s) i) (sidesInTwo (facesA s) (faces s) i)) (Edge (faceRecord s i)) Accepted
+      refuseUnless (cond (ltb i (facesA s)) (sidesInTwo 0 (facesA s) i) (sidesInTwo (facesA s) (faces s) i)) (Edge (faceRecord s i))
+          Accepted
 
   -- 1, 2, 3; 4 to 7 record by record; 8; 9
   abbrev pub judgedBefore : Judged

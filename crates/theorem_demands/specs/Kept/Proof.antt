@@ -21,13 +21,13 @@ use Rattle.scene.specs.Faces.{Both, Sides, EdgeOk}
 use Rattle.scene.specs.declared.Face.{Face}
 use Rattle.scene.specs.declared.Refusal.{Refusal}
 use Rattle.scene.specs.declared.Refusal.the-variants.{Counts}
-use Rattle.judge.specs.Judge.{rule, andThen, countsOk, headerFault, coordinateOk, weightOk, pointFault}
+use Rattle.judge.specs.Judge.{refuseUnless, andThen, countsOk, headerFault, coordinateOk, weightOk, pointFault}
 use Rattle.judge.specs.Judge.{recordFault, recordsFault, judgedAt, judged}
 use Rattle.judge.specs.declared.Judged.{Judged}
 use Rattle.judge.specs.declared.Judged.the-variants.{Accepted, Refused}
 use Rattle.rules.specs.Rules.{CountsOk, FileOk}
 use Rattle.rules.specs.Accepted.{opens-iff, counts-iff, accepted}
-use Rattle.questions.specs.Answers.{answered, signOf, piercesOf, maskedOf, refused, enclosedOf, countedOf, insideOf, verdictOf}
+use Rattle.questions.specs.Answers.{orRefuse, signOf, piercesOf, maskedOf, refused, enclosedOf, countedOf, insideOf, verdictOf}
 use Rattle.questions.specs.declared.Signed.the-variants as sign
 use Rattle.questions.specs.declared.Answer.the-variants as answer
 use Rattle.questions.specs.declared.Counted.the-variants as counted
@@ -42,9 +42,9 @@ use Rattle.theorem_demands.specs.Kept.Before.Proof.{least-one, before-ac
 use Rattle.theorem_demands.specs.Shift.Same.{pierces-same}
 
 -- the scene's judgement comes first, and says nothing
-taken : {X : Type 0} (refuse : Refusal → X) {j : Judged} → j ≡ Accepted → (x : X) → answered refuse j x ≡ x
-unfolding answered
-taken refuse e x = ap (λ (j : Judged). answered refuse j x) e
+taken : {X : Type 0} (refuse : Refusal → X) {j : Judged} → j ≡ Accepted → (x : X) → orRefuse refuse j x ≡ x
+unfolding orRefuse
+taken refuse e x = ap (λ (j : Judged). orRefuse refuse j x) e
 
 pub answers-of : (s : List ℕ) → judged s ≡ Accepted → Answers s
 unfolding signOf piercesOf maskedOf enclosedOf countedOf insideOf verdictOf
@@ -100,7 +100,7 @@ module _ (s : List ℕ) where
   alike c = rw (same-header (counts-iff limitsBefore s .1 c ∙ sym (counts-iff limits s .1 (wider c))), same-records)
 
   refused-then : judged s ≡ Accepted → (CountsOk limitsBefore s → ⊥) → judgedAt limitsBefore s ≡ Refused Counts
-  unfolding judgedAt headerFault rule andThen
+  unfolding judgedAt headerFault refuseUnless andThen
   refused-then e n =
       let h = accepted limits s .0 e in
       rw (opens-iff s .1 (h .header .opens), fails-iff _ (counts-iff limitsBefore s) .1 n)

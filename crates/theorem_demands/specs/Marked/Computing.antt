@@ -7,7 +7,7 @@ use Rattle.laws.specs.Range.{over, firstOf, anyOf, countOf, lowestOf}
 use Rattle.scene.specs.Bytes.{twoAt, coordinateAt, weightAt}
 use Rattle.scene.specs.Tables.{cornerAt, row, face, tablesOf}
 use Rattle.scene.specs.Faces.{isCorner, hasBoth}
-use Rattle.judge.specs.Judge.{rule, andThen, opens, countsOk, headerFault, coordinateOk, weightOk}
+use Rattle.judge.specs.Judge.{refuseUnless, andThen, opens, countsOk, headerFault, coordinateOk, weightOk}
 use Rattle.judge.specs.Judge.{nowhere, somewhereOk, pointFault, areCorners}
 use Rattle.judge.specs.Judge.{vertsAt, cornersOk, faceFault, endFault, recordFault, recordsFault, isCornerOf, isEdge, isUsed, unusedFault}
 use Rattle.judge.specs.Judge.{unusedsFault, edgeOk, sidesOk, closedAt, edgeFault, edgesFault, judgedAt, judged}
@@ -18,7 +18,7 @@ use Rattle.pierce.specs.Formula.{canHelp, helper, counts, sidesCount, formula, 
 
 -- the judge
 unfoldable pub judging : List ℕ → Judged
-unfolding flatMap over firstOf anyOf countOf twoAt coordinateAt weightAt cornerAt rule andThen within opens countsOk headerFault
+unfolding flatMap over firstOf anyOf countOf twoAt coordinateAt weightAt cornerAt refuseUnless andThen within opens countsOk headerFault
     coordinateOk weightOk nowhere somewhereOk pointFault areCorners vertsAt cornersOk faceFault endFault recordFault recordsFault isCornerOf
     isCorner isEdge hasBoth isUsed unusedFault unusedsFault edgeOk sidesOk closedAt edgeFault edgesFault judgedAt
 judging = judged

@@ -2,13 +2,14 @@
 use mathlib.Core.Path.{refl}
 use Rattle.scene.specs.Faces.{isCorner}
 use Rattle.orient.specs.Terms.{termsAt}
-use Rattle.questions.specs.Answers.{answered, isPoint, isFace, differ, arePoints, signFault, signOf, clear}
+use Rattle.questions.specs.Answers.{orRefuse, isPoint, isFace, differ, arePoints, signFault, signOf, endsOffFace}
 use Rattle.questions.specs.Answers.{edgeAndFace, piercesFault, piercesOf, signIn, piercesIn}
 use Rattle.theorem_demands.specs.Marked.Computing.{judging, piercing}
 use Rattle.theorem_demands.specs.Marked.{Marked}
 
 pub marked : Marked
-unfolding judging piercing termsAt isCorner answered isPoint isFace differ arePoints signFault signOf signIn clear edgeAndFace piercesFault
+unfolding judging piercing termsAt isCorner orRefuse isPoint isFace differ arePoints signFault signOf signIn endsOffFace edgeAndFace
+    piercesFault
     piercesOf piercesIn
 marked =
     record {

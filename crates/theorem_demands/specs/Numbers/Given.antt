@@ -15,8 +15,8 @@ use Rattle.scene.specs.Refusal.{numberOf}
 use Rattle.scene.specs.Tables.{cornerAt, row, face}
 use Rattle.scene.specs.Faces.{isCorner, hasBoth}
 use Rattle.scene.specs.declared.Refusal.{Refusal}
-use Rattle.scene.specs.declared.Refusal.the-variants.{Opening, Counts, Length, Mark, Coordinate, Weight, Corner, Unused, Edge, Nowhere}
-use Rattle.judge.specs.Judge.{rule, andThen, opens, countsOk, headerFault, coordinateOk, weightOk}
+use Rattle.scene.specs.declared.Refusal.the-variants.{Opening, Counts, Length, Mark, Coordinate, Weight, Corner, Unused, Edge, FarAllZero}
+use Rattle.judge.specs.Judge.{refuseUnless, andThen, opens, countsOk, headerFault, coordinateOk, weightOk}
 use Rattle.judge.specs.Judge.{nowhere, somewhereOk, pointFault, areCorners}
 use Rattle.judge.specs.Judge.{vertsAt, cornersOk, faceFault, endFault, recordFault, recordsFault, isCornerOf, isEdge, isUsed, unusedFault}
 use Rattle.judge.specs.Judge.{unusedsFault, edgeOk, sidesOk, closedAt, edgeFault, edgesFault, judgedAt, judged}
@@ -27,9 +27,9 @@ use Rattle.rules.specs.Accepted.{accepted}
 use Rattle.rules.specs.Refused as table
 use Rattle.orient.specs.Terms.{terms, orientation, positiveAt}
 use Rattle.pierce.specs.Formula.{canHelp, helper, counts, sidesCount, formula, pierces}
-use Rattle.question_listing.specs.Pour.{partIn}
+use Rattle.question_listing.specs.WritePairs.{partIn}
 use Rattle.scene.specs.View.{viewOf}
-use Rattle.questions.specs.Answers.{answered, IsListed, IsPart, listingIn, listedIn, heldIn}
+use Rattle.questions.specs.Answers.{orRefuse, IsListed, IsPart, listingIn, listedIn, heldIn}
 use Rattle.questions.specs.declared.Listed.{Listed}
 use Rattle.questions.specs.declared.Listed.the-variants as listed
 use Rattle.theorem_demands.specs.Words.{Pierces, CornerOf}
@@ -78,7 +78,8 @@ four =
     69 ∷ 78 ∷ []
 
 base-accepted : judged base ≡ Accepted
-unfolding judgedAt andThen rule headerFault opens countsOk within recordsFault firstOf over recordFault pointFault coordinateOk weightOk
+unfolding judgedAt andThen refuseUnless headerFault opens countsOk within recordsFault firstOf over recordFault pointFault coordinateOk
+    weightOk
     nowhere somewhereOk faceFault cornersOk areCorners vertsAt endFault unusedsFault unusedFault isUsed isCornerOf isCorner anyOf edgesFault
     edgeFault closedAt sidesOk edgeOk isEdge hasBoth countOf cornerAt twoAt coordinateAt weightAt
 base-accepted = refl
@@ -93,7 +94,8 @@ abbrev ByScene : List ℕ → Refusal → Type 0
 ByScene s r = judged s ≡ Refused r
 
 ten : Each (Given ByScene) ofScene
-unfolding judgedAt andThen rule headerFault opens countsOk within recordsFault firstOf over recordFault pointFault coordinateOk weightOk
+unfolding judgedAt andThen refuseUnless headerFault opens countsOk within recordsFault firstOf over recordFault pointFault coordinateOk
+    weightOk
     nowhere somewhereOk faceFault cornersOk areCorners vertsAt endFault unusedsFault unusedFault isUsed isCornerOf isCorner anyOf edgesFault
     edgeFault closedAt sidesOk edgeOk isEdge hasBoth countOf cornerAt twoAt coordinateAt weightAt
 ten = (
@@ -114,7 +116,7 @@ ten = (
                 (Unused 4, refl, four, refl),
                 (
                   (Edge 9, refl, set four 87 4, refl),
-                  ((Nowhere 1, refl, set (set (set (set base 8 0) 10 0) 12 0) 14 0, refl), tt),
+                  ((FarAllZero 1, refl, set (set (set (set base 8 0) 10 0) 12 0) 14 0, refl), tt),
                 ),
               ),
             ),
@@ -164,19 +166,19 @@ not-empty =
     (inr (record { lower-first = omega arith; on = (3, (omega arith, omega arith), on-4, on-5) }, (omega arith, omega arith), through)))
 
 abbrev pub listedOf : (s d : List ℕ) → Listed
-listedOf s d = answered listed.Refused (judged s) (listedIn (viewOf s) d)
+listedOf s d = orRefuse listed.Refused (judged s) (listedIn (viewOf s) d)
 
 abbrev pub heldOf : (s d : List ℕ) → List ℕ
-heldOf s d = answered (λ _. d) (judged s) (heldIn (viewOf s) d)
+heldOf s d = orRefuse (λ _. d) (judged s) (heldIn (viewOf s) d)
 
 pub is-listed : (s d : List ℕ) → IsListed s d (heldOf s d) (listedOf s d)
 is-listed s d = record { answer = refl; held = refl }
 
 abbrev pub partOf : List ℕ → Listed
-partOf s = answered listed.Refused (judged s) (listed.Count (length (listingIn (viewOf s))))
+partOf s = orRefuse listed.Refused (judged s) (listed.Count (length (listingIn (viewOf s))))
 
 abbrev pub partHeld : List ℕ → List ℕ
-partHeld s = answered (λ _. []) (judged s) (partIn (listingIn (viewOf s)) 0 [])
+partHeld s = orRefuse (λ _. []) (judged s) (partIn (listingIn (viewOf s)) 0 [])
 
 pub is-part : (s : List ℕ) → IsPart s 0 [] (partHeld s) (partOf s)
 is-part s = record { answer = refl; held = refl }

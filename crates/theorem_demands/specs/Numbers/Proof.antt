@@ -9,7 +9,7 @@ use Rattle.laws.specs.Lists.{Some}
 use Rattle.scene.specs.Refusal.{numberOf}
 use Rattle.scene.specs.declared.Refusal.{Refusal}
 use Rattle.scene.specs.declared.Refusal.the-variants.{Opening, Counts, Length, Mark, Coordinate, Weight, Corner}
-use Rattle.scene.specs.declared.Refusal.the-variants.{Unused, Edge, Room, Lacking, Same, Buffer, Nowhere}
+use Rattle.scene.specs.declared.Refusal.the-variants.{Unused, Edge, ListTooShort, NoSuchNumber, NotDistinct, BufferTooShort, FarAllZero}
 use Rattle.scene.specs.View.{viewOf}
 use Rattle.questions.specs.Answers.{IsListed, listingIn}
 use Rattle.questions.specs.declared.Listed.{Listed}
@@ -29,8 +29,9 @@ Own own r = Some (λ n. numberOf r ≡ n) own
 behind : (own : List ℕ) (r : Refusal) → Own own r → By own r
 behind own r h = inr (inr (inr (inr (inr (inr (inr (inr (inr (inr h)))))))))
 
-by : (own : List ℕ) (R : Refusal → Type 0) → ((n : ℕ) → ¬ R (Buffer n)) → ((n : ℕ) → R (Room n) → Own own (Room n)) →
-    (R Lacking → Own own Lacking) → (R Same → Own own Same) → (r : Refusal) → R r → By own r
+by : (own : List ℕ) (R : Refusal → Type 0) → ((n : ℕ) → ¬ R (BufferTooShort n)) →
+    ((n : ℕ) → R (ListTooShort n) → Own own (ListTooShort n)) →
+    (R NoSuchNumber → Own own NoSuchNumber) → (R NotDistinct → Own own NotDistinct) → (r : Refusal) → R r → By own r
 by own R buffer room lacking same Opening e = inl refl
 by own R buffer room lacking same Counts e = inr (inl refl)
 by own R buffer room lacking same Length e = inr (inr (inl refl))
@@ -40,11 +41,11 @@ by own R buffer room lacking same (Weight k) e = inr (inr (inr (inr (inr (inl re
 by own R buffer room lacking same (Corner k) e = inr (inr (inr (inr (inr (inr (inl refl))))))
 by own R buffer room lacking same (Unused k) e = inr (inr (inr (inr (inr (inr (inr (inl refl)))))))
 by own R buffer room lacking same (Edge k) e = inr (inr (inr (inr (inr (inr (inr (inr (inl refl))))))))
-by own R buffer room lacking same (Nowhere k) e = inr (inr (inr (inr (inr (inr (inr (inr (inr (inl refl)))))))))
-by own R buffer room lacking same (Room n) e = behind own (Room n) (room n e)
-by own R buffer room lacking same Lacking e = behind own Lacking (lacking e)
-by own R buffer room lacking same Same e = behind own Same (same e)
-by own R buffer room lacking same (Buffer n) e = absurd (buffer n e)
+by own R buffer room lacking same (FarAllZero k) e = inr (inr (inr (inr (inr (inr (inr (inr (inr (inl refl)))))))))
+by own R buffer room lacking same (ListTooShort n) e = behind own (ListTooShort n) (room n e)
+by own R buffer room lacking same NoSuchNumber e = behind own NoSuchNumber (lacking e)
+by own R buffer room lacking same NotDistinct e = behind own NotDistinct (same e)
+by own R buffer room lacking same (BufferTooShort n) e = absurd (buffer n e)
 
 module _ {s : List ℕ} {R : Refusal → Type 0} {Has Alike : Type 0} (t : Refusals s R NoList Has Alike) where
   by-both : (r : Refusal) → R r → By (11 ∷ 12 ∷ []) r
@@ -62,32 +63,32 @@ numbers =
     record {
       sign =
           gives (11 ∷ 12 ∷ []) (λ r s h g. (0, 0, 0, 0, answers s .sign 0 0 0 0 .scene r h .1 g)) (
-            (Lacking, refl, base, (0, 0, 0, 0, answers base .sign 0 0 0 0 .lacking .1 (keeps, λ h. omega (arith, h .0)))),
-            ((Same, refl, base, (1, 1, 1, 1, answers base .sign 1 1 1 1 .same .1 (keeps, omega arith, inl refl))), tt),
+            (NoSuchNumber, refl, base, (0, 0, 0, 0, answers base .sign 0 0 0 0 .lacking .1 (keeps, λ h. omega (arith, h .0)))),
+            ((NotDistinct, refl, base, (1, 1, 1, 1, answers base .sign 1 1 1 1 .same .1 (keeps, omega arith, inl refl))), tt),
           ) (λ s r q. by-both (answers s .sign (q .0) (q .1) (q .2) (q .3)) r (q .4));
       pierces =
           gives (11 ∷ 12 ∷ []) (λ r s h g. (0, 0, 0, answers s .pierces 0 0 0 .scene r h .1 g)) (
-            (Lacking, refl, base, (0, 0, 0, answers base .pierces 0 0 0 .lacking .1 (keeps, λ h. omega (arith, h .0)))),
-            ((Same, refl, base, (4, 4, 1, answers base .pierces 4 4 1 .same .1 (keeps, omega arith, inl refl))), tt),
+            (NoSuchNumber, refl, base, (0, 0, 0, answers base .pierces 0 0 0 .lacking .1 (keeps, λ h. omega (arith, h .0)))),
+            ((NotDistinct, refl, base, (4, 4, 1, answers base .pierces 4 4 1 .same .1 (keeps, omega arith, inl refl))), tt),
           ) (λ s r q. by-both (answers s .pierces (q .0) (q .1) (q .2)) r (q .3));
       mask =
           gives (11 ∷ 12 ∷ []) (λ r s h g. (0, 0, 0, answers s .mask 0 0 0 .scene r h .1 g)) (
-            (Lacking, refl, base, (0, 0, 0, answers base .mask 0 0 0 .lacking .1 (keeps, λ h. omega (arith, h .0)))),
-            ((Same, refl, base, (4, 4, 1, answers base .mask 4 4 1 .same .1 (keeps, omega arith, inl refl))), tt),
+            (NoSuchNumber, refl, base, (0, 0, 0, answers base .mask 0 0 0 .lacking .1 (keeps, λ h. omega (arith, h .0)))),
+            ((NotDistinct, refl, base, (4, 4, 1, answers base .mask 4 4 1 .same .1 (keeps, omega arith, inl refl))), tt),
           ) (λ s r q. by-both (answers s .mask (q .0) (q .1) (q .2)) r (q .3));
       enclosed =
           gives (11 ∷ []) (λ r s h g. (0, answers s .enclosed 0 .scene r h .1 g))
-          ((Lacking, refl, base, (7, answers base .enclosed 7 .lacking .1 (keeps, λ h. omega (arith, h .1)))), tt)
+          ((NoSuchNumber, refl, base, (7, answers base .enclosed 7 .lacking .1 (keeps, λ h. omega (arith, h .1)))), tt)
           (λ s r q. by-lacking (answers s .enclosed (q .0)) (λ e. e) r (q .1));
       record-shown =
           gives (11 ∷ []) (λ r s h g. (0, answers s .record-shown 0 .scene r h .1 g))
-          ((Lacking, refl, base, (13, answers base .record-shown 13 .lacking .1 (keeps, λ h. omega (arith, h)))), tt)
+          ((NoSuchNumber, refl, base, (13, answers base .record-shown 13 .lacking .1 (keeps, λ h. omega (arith, h)))), tt)
           (λ s r q. by-lacking (answers s .record-shown (q .0)) (λ e. e) r (q .1));
       verdict = gives [] (λ r s h g. answers s .verdict .scene r h .1 g) tt (λ s. by-scene (answers s .verdict) tt (λ e. e));
       counts = gives [] (λ r s h g. answers s .counts .scene r h .1 g) tt (λ s. by-scene (answers s .counts) tt (λ e. e));
       inside =
           gives (11 ∷ []) (λ r s h g. (0, answers s .inside 0 .scene r h .1 g))
-          ((Lacking, refl, base, (3, answers base .inside 3 .lacking .1 (keeps, λ h. omega (arith, h .1)))), tt)
+          ((NoSuchNumber, refl, base, (3, answers base .inside 3 .lacking .1 (keeps, λ h. omega (arith, h .1)))), tt)
           (λ s r q. by-lacking (answers s .inside (q .0)) (λ e. e) r (q .1));
       listing =
           gives (10 ∷ [])
@@ -106,7 +107,7 @@ numbers =
     by-room =
         let n = length (listingIn (viewOf base)) in
         let told = answers base .listing [] _ _ (is-listed base []) .room n .1 (keeps, (refl, omega (arith, not-empty))) in
-        (Room n, refl, base, ([], heldOf base [], listedOf base [], is-listed base [], told))
+        (ListTooShort n, refl, base, ([], heldOf base [], listedOf base [], is-listed base [], told))
 
 pub places : Places
 places = record { room = λ n. refl; lacking = refl; same = refl }

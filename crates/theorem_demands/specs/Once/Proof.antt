@@ -18,15 +18,15 @@ use Rattle.scene.specs.declared.Face.{Face}
 use Rattle.pierce_masks.specs.Faces.{valueOf}
 use Rattle.pierce_masks.specs.declared.Mask.{Mask}
 use Rattle.scene.specs.declared.Solid.{Solid}
-use Rattle.question_listing.specs.Hits.{Seen}
+use Rattle.question_listing.specs.Hits.{PierceView}
 use Rattle.question_listing.specs.declared.find.Found.{Found}
 use Rattle.survey_edges.specs.Table.{Entry, entryIn, entriesIn}
 use Rattle.survey_enclosed.specs.Walk.{insideWord}
 use Rattle.survey.specs.Survey.{Surveyed}
-use Rattle.survey_first.specs.Seek.{unlessPair}
-use Rattle.survey_first.specs.declared.Sought.{Sought}
-use Rattle.questions.specs.Answers.{saidMask, seen}
-use Rattle.survey_scene.specs.Surveys.{SoughtIs}
+use Rattle.survey_first.specs.FindFirst.{unlessPair}
+use Rattle.survey_first.specs.declared.FirstOrEnclosed.{FirstOrEnclosed}
+use Rattle.questions.specs.Answers.{saidMask, pierceView}
+use Rattle.survey_scene.specs.Surveys.{FirstOrEnclosedIs}
 use Rattle.questions.specs.declared.Masked.{Masked}
 use Rattle.questions.specs.declared.Masked.the-variants.{Refused, Faces}
 use Rattle.theorem_demands.specs.Once.{Words, WordsSaid, SceneOnce, JudgeOnce, RecordOnce, OrientOnce, EdgesOnce, PierceOnce}
@@ -71,7 +71,7 @@ same-faces a b l e = ext-getD 0 a b l (λ i h. at i (i / 3) (i % 3) (omega arith
 
 -- ---- what is sought, and a table of edges
 
-same-sought : (v : View) (b c : Sought) → SoughtIs v b → SoughtIs v c → b ≡ c
+same-sought : (v : View) (b c : FirstOrEnclosed) → FirstOrEnclosedIs v b → FirstOrEnclosedIs v c → b ≡ c
 same-sought v b c p q =
     let first : b .first ≡ c .first = p .first ∙ sym (q .first) in
     λ i. record {
@@ -81,9 +81,9 @@ same-sought v b c p q =
     }
   where
     word : ℕ → Found → ℕ
-    word k x = unlessPair x (insideWord (seen v) (solid v k))
+    word k x = unlessPair x (insideWord (pierceView v) (solid v k))
 
-module _ {s : Seen} {k : Solid} (x y : Table) (in-x : WordsHeld x) (in-y : WordsHeld y)
+module _ {s : PierceView} {k : Solid} (x y : Table) (in-x : WordsHeld x) (in-y : WordsHeld y)
     (p : Surveyed s k (x .ends) (x .masks) (x .part)) (q : Surveyed s k (y .ends) (y .masks) (y .part)) where
   run : (x .part .edges ≡ y .part .edges) ×
       ((j : ℕ) → j < x .part .edges → entryIn (x .ends) (x .masks) j ≡ entryIn (y .ends) (y .masks) j)
@@ -175,10 +175,10 @@ of-surveys : SurveysOnce
 of-surveys =
     record {
       survey-of = λ s a b c d wa wb wc wd p q. (alike a c wa wc (p .of-a) (q .of-a), alike b d wb wd (p .of-b) (q .of-b));
-      sought-of = λ s. same-sought _;
+      first-or-enclosed = λ s. same-sought _;
       verdict-by = once _;
       verdict-read = once _;
-      pour-read = λ s from all out b c p q i. ((p .held ∙ sym (q .held)) i, (p .count ∙ sym (q .count)) i);
+      write-read = λ s from all out b c p q i. ((p .held ∙ sym (q .held)) i, (p .count ∙ sym (q .count)) i);
       survey = λ s out b c p q i. ((p .held ∙ sym (q .held)) i, (p .answer ∙ sym (q .answer)) i);
     }
 

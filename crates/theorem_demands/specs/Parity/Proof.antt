@@ -13,7 +13,7 @@ use Rattle.scene.specs.Read.{points-are}
 use Rattle.scene.specs.View.{View, viewOf, points, solid}
 use Rattle.scene.specs.View.Laws.{either-solid}
 use Rattle.scene.specs.declared.Solid as numbers
-use Rattle.judge.specs.Judge.{judgedAt, rule}
+use Rattle.judge.specs.Judge.{judgedAt, refuseUnless}
 use Rattle.judge.specs.declared.Judged.the-variants.{Accepted}
 use Rattle.rules.specs.Given.{weighted, each-of-a, each-of-b, edges-of-a, edges-of-b}
 use Rattle.judge.specs.Tests.{within-iff}
@@ -21,8 +21,9 @@ use Rattle.orient.specs.Signs.{Upto}
 use Rattle.orient.specs.Weighted.{Weighted}
 use Rattle.pierce.specs.Parity.{Solid, Triangle, solid-by-edges}
 use Rattle.pierce.specs.Scene.{scene-parity, scene-route}
-use Rattle.questions.specs.Answers.{answered, isPoint, isVertexOf, edgeAndSolid, outside, maskFault, maskIn, maskedIn, maskedOf, isSolid}
-use Rattle.theorem_demands.specs.Parity.{Outside, Parity, CountParity, Route, ParityAt, Asked}
+use Rattle.questions.specs.Answers.{orRefuse, isPoint, isVertexOf, edgeAndSolid, endsOffSolid, maskFault, maskIn, maskedIn, maskedOf}
+use Rattle.questions.specs.Answers.{isSolid}
+use Rattle.theorem_demands.specs.Parity.{Outside, Parity, CountParity, Route, ParityAt, MasksAreTheAnswers}
 use Rattle.theorem_demands.specs.Words.{SolidNumber, VertexOf}
 use Rattle.theorem_demands.specs.Words.Solids.{vertex-of}
 use Rattle.theorem_demands.specs.Exact.Mask.{mask-is}
@@ -47,7 +48,7 @@ module _ (s : List ℕ) where
     all-weighted i a b = weighted l s ok i a (omega (arith, points-are s))
 
   module _ {k a b c : ℕ} (n : SolidNumber k) (h : Outside s k a b c) where
-    triangle : Triangle (points v) (solid v k .low) (solid v k .low + solid v k .verts) a b c
+    triangle : Triangle (points v) (solid v k .vert0) (solid v k .vert0 + solid v k .verts) a b c
     triangle =
         record {
           u-in = h .each .0 .0;
@@ -103,8 +104,8 @@ module _ (s : List ℕ) (k i : ℕ) where
   unfolding isVertexOf
   out h n = fails-iff _ (within-iff _ _ i) .1 (λ x. n (vertex-of s k h i .0 (omega arith)))
 
-pub asked : Asked
-unfolding maskedOf maskedIn maskFault edgeAndSolid isSolid outside answered rule
+pub asked : MasksAreTheAnswers
+unfolding maskedOf maskedIn maskFault edgeAndSolid isSolid endsOffSolid orRefuse refuseUnless
 asked s ok k n a b c h =
     rw (
       ok,

@@ -43,7 +43,8 @@ abbrev refusalOf : (n p : ℕ) → Refusal
 refusalOf n p =
     getD (
     refuse.Opening ∷ refuse.Counts ∷ refuse.Length ∷ refuse.Mark p ∷ refuse.Coordinate p ∷ refuse.Weight p ∷ refuse.Corner p ∷
-    refuse.Unused p ∷ refuse.Edge p ∷ refuse.Room p ∷ refuse.Lacking ∷ refuse.Same ∷ refuse.Buffer p ∷ refuse.Nowhere p ∷ []
+    refuse.Unused p ∷ refuse.Edge p ∷ refuse.ListTooShort p ∷ refuse.NoSuchNumber ∷ refuse.NotDistinct ∷ refuse.BufferTooShort p ∷
+        refuse.FarAllZero p ∷ []
     ) (n - 1) refuse.Opening
 
 refusal-found : (r : Refusal) → refusalOf (numberOf r) (placeOf r) ≡ r
@@ -56,11 +57,11 @@ refusal-found (refuse.Weight p) = refl
 refusal-found (refuse.Corner p) = refl
 refusal-found (refuse.Unused p) = refl
 refusal-found (refuse.Edge p) = refl
-refusal-found (refuse.Room p) = refl
-refusal-found refuse.Lacking = refl
-refusal-found refuse.Same = refl
-refusal-found (refuse.Buffer p) = refl
-refusal-found (refuse.Nowhere p) = refl
+refusal-found (refuse.ListTooShort p) = refl
+refusal-found refuse.NoSuchNumber = refl
+refusal-found refuse.NotDistinct = refl
+refusal-found (refuse.BufferTooShort p) = refl
+refusal-found (refuse.FarAllZero p) = refl
 
 abbrev refusalIn : Said → Refusal
 refusalIn x = refusalOf (whole x 0) (whole x 1)

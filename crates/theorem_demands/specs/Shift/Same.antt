@@ -21,11 +21,12 @@ use Rattle.pierce.specs.Helper.{helper-found}
 use Rattle.pierce.specs.Beside.{Beside, BesideAll}
 use Rattle.pierce_masks.specs.Faces.{isOdd}
 use Rattle.pierce.specs.Against.{maskAgainst}
-use Rattle.question_listing.specs.Hits.{Seen, Hit, faceHits, edgeHits, pairHits, pairsAt, vertexHits, solidHits, isInside, insideCount}
-use Rattle.question_listing.specs.Hits.{lowestInside}
+use Rattle.question_listing.specs.Hits.{PierceView, Hit, faceHits, edgeHits, pairHits, pairsAt, vertexHits, solidHits, enclosedVertex}
+use Rattle.question_listing.specs.Hits.{enclosedCount}
+use Rattle.question_listing.specs.Hits.{lowestEnclosed}
 use Rattle.question_listing.specs.Hits.{Own, Sound}
 use Rattle.question_listing.specs.First.{firstOf}
-use Rattle.questions.specs.Answers.{seen, maskIn, listingIn, insideIn, crossOr, enclosureIn, verdictIn}
+use Rattle.questions.specs.Answers.{pierceView, maskIn, listingIn, insideIn, crossOr, enclosureIn, verdictIn}
 use Rattle.questions.specs.declared.Verdict.{Verdict}
 use Rattle.questions.specs.declared.Verdict.the-variants.{AInB, BInA, Apart}
 use Rattle.theorem_demands.specs.Shift.{withRows}
@@ -67,15 +68,15 @@ module _ (n : ℕ) (row row′ : ℕ → Row) (same : SameSigns n row row′) (e
 
 -- ---- a solid, seen with two kinds of rows
 
-module _ (s : Seen) (k : Solid) (ok : Sound s k) (row′ : ℕ → Row) (same : SameSigns (s .points) (s .row) row′) where
-  abbrev t : Seen
+module _ (s : PierceView) (k : Solid) (ok : Sound s k) (row′ : ℕ → Row) (same : SameSigns (s .points) (s .row) row′) where
+  abbrev t : PierceView
   t = record { points = s .points; row = row′; face = s .face }
 
-  edge-same : (u v : ℕ) → BesideAll (s .points) u v (s .face) (k .other) (k .others) → edgeHits s k u v ≡ edgeHits t k u v
+  edge-same : (u v : ℕ) → BesideAll (s .points) u v (s .face) (k .other0) (k .others) → edgeHits s k u v ≡ edgeHits t k u v
   unfolding edgeHits faceHits
   edge-same u v h =
       upTo-same (faceHits s k u v) (faceHits t k u v) (k .others)
-      (λ i b. rw (pierced-same (s .points) (s .row) row′ same (ok .points .0) u v (s .face (k .other + 1 + i)) (h i b)))
+      (λ i b. rw (pierced-same (s .points) (s .row) row′ same (ok .points .0) u v (s .face (k .other0 + 1 + i)) (h i b)))
 
   pair-same : (u v : ℕ) (both : Bool) → Own s k u → Own s k v → pairHits s k u v both ≡ pairHits t k u v both
   unfolding pairHits
@@ -89,48 +90,48 @@ module _ (s : Seen) (k : Solid) (ok : Sound s k) (row′ : ℕ → Row) (same : 
   unfolding vertexHits
   vertex-same u hu =
       upTo-same (pairsAt s k u) (pairsAt t k u) (k .verts)
-      (λ m b. pair-same u (k .low + 1 + m) (joined (s .face) k u (k .low + 1 + m)) hu (omega arith))
+      (λ m b. pair-same u (k .vert0 + 1 + m) (joined (s .face) k u (k .vert0 + 1 + m)) hu (omega arith))
 
   pub hits-same : solidHits s k ≡ solidHits t k
   unfolding solidHits
   hits-same =
-      upTo-same (λ i. vertexHits s k (k .low + 1 + i)) (λ i. vertexHits t k (k .low + 1 + i)) (k .verts)
-      (λ i b. vertex-same (k .low + 1 + i) (omega arith))
+      upTo-same (λ i. vertexHits s k (k .vert0 + 1 + i)) (λ i. vertexHits t k (k .vert0 + 1 + i)) (k .verts)
+      (λ i b. vertex-same (k .vert0 + 1 + i) (omega arith))
 
-  inside-same : (u : ℕ) → k .low + 1 ≤ u → u < k .low + 1 + k .verts → isInside s k u ≡ isInside t k u
-  unfolding isInside
+  inside-same : (u : ℕ) → k .vert0 + 1 ≤ u → u < k .vert0 + 1 + k .verts → enclosedVertex s k u ≡ enclosedVertex t k u
+  unfolding enclosedVertex
   inside-same u l m =
-      ap isOdd (masks-same (s .points) (s .row) row′ same (ok .points .0) (s .face) u (s .points) (k .other) (k .others)
+      ap isOdd (masks-same (s .points) (s .row) row′ same (ok .points .0) (s .face) u (s .points) (k .other0) (k .others)
       (ok .outward u (omega arith)))
 
-  pub counts-same : insideCount s k ≡ insideCount t k
-  unfolding insideCount
-  counts-same = count-same (isInside s k) (isInside t k) (k .low + 1) (k .low + 1 + k .verts) inside-same
+  pub counts-same : enclosedCount s k ≡ enclosedCount t k
+  unfolding enclosedCount
+  counts-same = count-same (enclosedVertex s k) (enclosedVertex t k) (k .vert0 + 1) (k .vert0 + 1 + k .verts) inside-same
 
-  pub lowests-same : lowestInside s k ≡ lowestInside t k
-  unfolding lowestInside
-  lowests-same = lowest-same (isInside s k) (isInside t k) (k .low + 1) (k .low + 1 + k .verts) inside-same
+  pub lowests-same : lowestEnclosed s k ≡ lowestEnclosed t k
+  unfolding lowestEnclosed
+  lowests-same = lowest-same (enclosedVertex s k) (enclosedVertex t k) (k .vert0 + 1) (k .vert0 + 1 + k .verts) inside-same
 
 -- ---- a scene
 
-module _ (v : View) (ok : (k : ℕ) → Sound (seen v) (solid v k)) (row′ : ℕ → Row) (same : SameSigns (points v) (v .row) row′) where
-  pub mask-same-rows : (u w k : ℕ) → BesideAll (points v) u w (v .face) (solid v k .first) (solid v k .count) →
+module _ (v : View) (ok : (k : ℕ) → Sound (pierceView v) (solid v k)) (row′ : ℕ → Row) (same : SameSigns (points v) (v .row) row′) where
+  pub mask-same-rows : (u w k : ℕ) → BesideAll (points v) u w (v .face) (solid v k .face0) (solid v k .faces) →
       maskIn v u w k ≡ maskIn (withRows v row′) u w k
   unfolding maskIn solid
-  mask-same-rows u w k h = masks-same (points v) (v .row) row′ same (ok 1 .points .0) (v .face) u w (solid v k .first) (solid v k .count) h
+  mask-same-rows u w k h = masks-same (points v) (v .row) row′ same (ok 1 .points .0) (v .face) u w (solid v k .face0) (solid v k .faces) h
 
   pub inside-same-rows : (k : ℕ) → insideIn v k ≡ insideIn (withRows v row′) k
   unfolding insideIn solid
-  inside-same-rows k = counts-same (seen v) (solid v k) (ok k) row′ same
+  inside-same-rows k = counts-same (pierceView v) (solid v k) (ok k) row′ same
 
   pub listing-same-rows : listingIn v ≡ listingIn (withRows v row′)
   unfolding listingIn solid
   listing-same-rows =
-      ap₂ _++_ (hits-same (seen v) (solid v 1) (ok 1) row′ same) (hits-same (seen v) (solid v 2) (ok 2) row′ same)
+      ap₂ _++_ (hits-same (pierceView v) (solid v 1) (ok 1) row′ same) (hits-same (pierceView v) (solid v 2) (ok 2) row′ same)
 
   pub verdict-same-rows : verdictIn v ≡ verdictIn (withRows v row′)
   unfolding verdictIn enclosureIn solid
   verdict-same-rows =
       ap₂ (λ (l : List Hit) (rest : Verdict). crossOr (firstOf l) rest) listing-same-rows
       (ap₂ (λ (p q : ℕ). cond (leb p (v .vertsA)) (AInB p) (cond (leb q (verts v)) (BInA q) Apart))
-      (lowests-same (seen v) (solid v 1) (ok 1) row′ same) (lowests-same (seen v) (solid v 2) (ok 2) row′ same))
+      (lowests-same (pierceView v) (solid v 1) (ok 1) row′ same) (lowests-same (pierceView v) (solid v 2) (ok 2) row′ same))

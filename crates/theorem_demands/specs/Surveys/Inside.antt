@@ -7,25 +7,26 @@ use native.Mathlib.Omega.{arith}
 use Rattle.laws.specs.Mask.{mask-lt, mask-test}
 use Rattle.scene.specs.View.{viewOf, solid}
 use Rattle.scene.specs.declared.Solid.{Solid}
-use Rattle.question_listing.specs.Hits.{isInside}
+use Rattle.question_listing.specs.Hits.{enclosedVertex}
 use Rattle.survey_enclosed.specs.Walk.{insideWord}
-use Rattle.questions.specs.Answers.{seen}
-use Rattle.theorem_demands.specs.Words.Solids.{Worded, a-worded, b-worded}
+use Rattle.questions.specs.Answers.{pierceView}
+use Rattle.theorem_demands.specs.Words.Solids.{InWords, a-worded, b-worded}
 use Rattle.theorem_demands.specs.Surveys.{IsWord, AreWords}
 
-word-in : (s : List ℕ) {k : Solid} {n : ℕ} {Of Own Other : ℕ → Type 0} → Worded s k n Of Own Other →
-    IsWord s (k .low) (k .verts) (insideWord (seen (viewOf s)) k)
+word-in : (s : List ℕ) {k : Solid} {n : ℕ} {Of Own Other : ℕ → Type 0} → InWords s k n Of Own Other →
+    IsWord s (k .vert0) (k .verts) (insideWord (pierceView (viewOf s)) k)
 unfolding insideWord
 word-in s {k} w =
-    let g : ℕ → Bool = λ m. isInside (seen (viewOf s)) k (k .low + 1 + m) in
+    let g : ℕ → Bool = λ m. enclosedVertex (pierceView (viewOf s)) k (k .vert0 + 1 + m) in
     record {
       small = mask-lt g (k .verts);
       bits = λ j b.
-          let e = mask-test g (k .verts) j b ∙ w .inside (k .low + 1 + j) (w .vertices (k .low + 1 + j) .0 (omega arith, omega arith)) in
+          let e = mask-test g (k .verts) j b ∙ w .inside (k .vert0 + 1 + j) (w .vertices (k .vert0 + 1 + j) .0 (omega arith, omega arith))
+              in
           (λ t. sym e ∙ t, λ t. e ∙ t);
     }
 
-pub are-words : (s : List ℕ) {a b : ℕ} → a ≡ insideWord (seen (viewOf s)) (solid (viewOf s) 1) →
-    b ≡ insideWord (seen (viewOf s)) (solid (viewOf s) 2) → AreWords s a b
+pub are-words : (s : List ℕ) {a b : ℕ} → a ≡ insideWord (pierceView (viewOf s)) (solid (viewOf s) 1) →
+    b ≡ insideWord (pierceView (viewOf s)) (solid (viewOf s) 2) → AreWords s a b
 unfolding solid
 are-words s d e = (rw d (word-in s (a-worded s)), rw e (word-in s (b-worded s)))

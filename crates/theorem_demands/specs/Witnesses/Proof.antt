@@ -5,17 +5,17 @@ use Rattle.laws.specs.Mask.{maskOf}
 use Rattle.laws.specs.Runs.{upTo}
 use Rattle.scene_edges.specs.Edges.{joined}
 use Rattle.pierce_masks.specs.Faces.{isOdd}
-use Rattle.question_listing.specs.Hits.{faceHits, edgeHits, pairHits, vertexHits, solidHits, isInside, insideCount, lowestInside}
+use Rattle.question_listing.specs.Hits.{faceHits, edgeHits, pairHits, vertexHits, solidHits, enclosedVertex, enclosedCount, lowestEnclosed}
 use Rattle.question_listing.specs.First.{firstOf}
 use Rattle.scene.specs.View.{solid}
 use Rattle.scene.specs.Faces.{isCorner, hasBoth}
-use Rattle.questions.specs.Answers.{answered, countsIn, countedOf, enclosureIn, verdictIn, verdictOf, listingIn, insideIn}
+use Rattle.questions.specs.Answers.{orRefuse, countsIn, countedOf, enclosureIn, verdictIn, verdictOf, listingIn, insideIn}
 use Rattle.theorem_demands.specs.Marked.Computing.{judging, piercing}
 use Rattle.theorem_demands.specs.Witnesses.{Witnesses}
 
 pub witnesses : Witnesses
-unfolding judging piercing ones maskOf isCorner hasBoth joined isOdd upTo faceHits edgeHits pairHits vertexHits solidHits isInside
-    insideCount lowestInside firstOf listingIn solid answered countsIn insideIn countedOf enclosureIn verdictIn verdictOf
+unfolding judging piercing ones maskOf isCorner hasBoth joined isOdd upTo faceHits edgeHits pairHits vertexHits solidHits enclosedVertex
+    enclosedCount lowestEnclosed firstOf listingIn solid orRefuse countsIn insideIn countedOf enclosureIn verdictIn verdictOf
 witnesses =
     record {
       cross = record { long = refl; accepted = refl; listing = refl; counts = refl; verdict = refl };

@@ -10,8 +10,8 @@ use Rattle.scene.specs.Faces.{Vertex}
 use Rattle.scene.specs.Records.{vertsA}
 use Rattle.scene.specs.View.{viewOf, solidA, solidB, solid}
 use Rattle.scene.specs.declared.Solid.{Solid}
-use Rattle.question_listing.specs.Hits.{isInside}
-use Rattle.questions.specs.Answers.{seen, maskIn, otherSolid, isEnclosed}
+use Rattle.question_listing.specs.Hits.{enclosedVertex}
+use Rattle.questions.specs.Answers.{pierceView, maskIn, otherSolid, isEnclosed}
 use Rattle.theorem_demands.specs.Words.{SolidNumber, VertexOf, VertexOfA, VertexOfB, FaceOfA, FaceOfB}
 use Rattle.theorem_demands.specs.Exact.{solidOf}
 
@@ -25,15 +25,15 @@ either {k} h = go (decLt k 2)
 
 module _ (s : List ℕ) where
   -- the solid k has the number n, the vertices Of and the faces Own; the other has the faces Other
-  pub record Worded (k : Solid) (n : ℕ) (Of Own Other : ℕ → Type 0) : Type 0 where
-    pub vertices : (i : ℕ) → Vertex (k .low) (k .low + k .verts) i ↔ Of i
-    pub faces : (f : ℕ) → ((k .first + 1 ≤ f) × (f < k .first + 1 + k .count)) ↔ Own f
-    pub others : (f : ℕ) → Vertex (k .other) (k .other + k .others) f ↔ Other f
+  pub record InWords (k : Solid) (n : ℕ) (Of Own Other : ℕ → Type 0) : Type 0 where
+    pub vertices : (i : ℕ) → Vertex (k .vert0) (k .vert0 + k .verts) i ↔ Of i
+    pub faces : (f : ℕ) → ((k .face0 + 1 ≤ f) × (f < k .face0 + 1 + k .faces)) ↔ Own f
+    pub others : (f : ℕ) → Vertex (k .other0) (k .other0 + k .others) f ↔ Other f
     pub number : (i : ℕ) → Of i → solidOf s i ≡ n
-    pub inside : (i : ℕ) → Of i → isInside (seen (viewOf s)) k i ≡ isEnclosed (viewOf s) i
+    pub inside : (i : ℕ) → Of i → enclosedVertex (pierceView (viewOf s)) k i ≡ isEnclosed (viewOf s) i
 
-  pub a-worded : Worded (solidA (viewOf s)) 1 (VertexOfA s) (FaceOfA s) (FaceOfB s)
-  unfolding isInside isEnclosed otherSolid maskIn solid
+  pub a-worded : InWords (solidA (viewOf s)) 1 (VertexOfA s) (FaceOfA s) (FaceOfB s)
+  unfolding enclosedVertex isEnclosed otherSolid maskIn solid
   a-worded =
       record {
         vertices = λ i. omega arith;
@@ -43,8 +43,8 @@ module _ (s : List ℕ) where
         inside = λ i h. rw (le-leb i (vertsA s) (h .1));
       }
 
-  pub b-worded : Worded (solidB (viewOf s)) 2 (VertexOfB s) (FaceOfB s) (FaceOfA s)
-  unfolding isInside isEnclosed otherSolid maskIn solid
+  pub b-worded : InWords (solidB (viewOf s)) 2 (VertexOfB s) (FaceOfB s) (FaceOfA s)
+  unfolding enclosedVertex isEnclosed otherSolid maskIn solid
   b-worded =
       record {
         vertices = λ i. omega arith;
@@ -56,7 +56,7 @@ module _ (s : List ℕ) where
 
   -- by its number
   pub vertex-of : (k : ℕ) → SolidNumber k → (i : ℕ) →
-      Vertex (solid (viewOf s) k .low) (solid (viewOf s) k .low + solid (viewOf s) k .verts) i ↔ VertexOf s k i
+      Vertex (solid (viewOf s) k .vert0) (solid (viewOf s) k .vert0 + solid (viewOf s) k .verts) i ↔ VertexOf s k i
   unfolding solid
   vertex-of k h i =
       ⊎-elim

@@ -74,17 +74,17 @@ loop-again c =
     sofar-next (now (a .args .block)) (l .at) (l .lines) (l .pairs) (l .inv) (omega arith) (now (r .read-scene .result))
     (r .read-scene .ensures) (m .mark-of .result) (m .mark-of .ensures) (c .before .count-in .ensures)
 
-told-requires : tie.Need-told-requires Inv-loop μ-loop
-told-requires c κs = search needs
+tally-of-requires : tie.Need-tally-of-requires Inv-loop μ-loop
+tally-of-requires c κs = search needs
 
 returns : tie.Need-returns Inv-loop μ-loop
 returns c =
     let l = c .before .before .before .loop in
     let a = c .before .before .before .before .before in
-    c .told .ensures ∙ sofar-end (now (a .args .block)) (l .at) (l .lines) (l .pairs) (l .inv) (omega arith) (a .pre)
+    c .tally-of .ensures ∙ sofar-end (now (a .args .block)) (l .at) (l .lines) (l .pairs) (l .inv) (omega arith) (a .pre)
 
 pub tally-spec : {M : Type 1} → statement M
 tally-spec =
     tie.close
     (tie.spec Inv-loop μ-loop loop-holds read-scene-requires mark-of-requires count-in-requires add-pairs add-at loop-less loop-again
-    told-requires returns)
+    tally-of-requires returns)

@@ -1,11 +1,11 @@
 -- The word of p is written anew.
-use Rattle.judge.specs.Words.{turned}
+use Rattle.judge.specs.Words.{xoredAt}
 use borrow.Author.Needs.{needs}
 use Rattle.judge.proofs.words.turn.Statement.{statement}
 use Rattle.judge.proofs.words.turn.Tie as tie
 
 returns : tie.Need-returns
-unfolding turned
+unfolding xoredAt
 returns c = search needs
 
 pub turn-spec : {M : Type 1} → statement M

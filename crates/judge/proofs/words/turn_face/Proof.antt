@@ -2,7 +2,7 @@
 use Prim.Native.Nat.{ℕ, _^_}
 use mathlib.Core.Path.{ap, _∙_}
 use native.Mathlib.Omega.{arith}
-use Rattle.judge.specs.Words.{turned-size, three-places, turns-face}
+use Rattle.judge.specs.Words.{xored-size, three-places, turns-face}
 use borrow.Author.Needs.{needs}
 use Rattle.judge.proofs.words.turn_face.Statement.{statement}
 use Rattle.judge.proofs.words.turn_face.Tie as tie
@@ -12,7 +12,7 @@ turn-requires-2 c κs =
     let c1 = c .before in
     let k3 = let b3 = c1 .before .before in b3 .before .before .before in
     let p = k3 .before .before .before .before .pre in
-    (turned-size _ _ _ (c1 .turn .ensures) (p .0), omega (arith, p .2 .q, k3 .before .corner2 .ensures .0))
+    (xored-size _ _ _ (c1 .turn .ensures) (p .0), omega (arith, p .2 .q, k3 .before .corner2 .ensures .0))
 
 turn-requires-3 : tie.Need-turn-requires-3
 turn-requires-3 c κs =
@@ -20,7 +20,7 @@ turn-requires-3 c κs =
     let c1 = c2 .before .before in
     let k3 = let b3 = c1 .before .before in b3 .before .before .before in
     let p = k3 .before .before .before .before .pre in
-    (turned-size _ _ _ (c2 .turn2 .ensures) (turned-size _ _ _ (c1 .turn .ensures) (p .0)), omega (arith, p .2 .r, k3 .corner3 .ensures .0))
+    (xored-size _ _ _ (c2 .turn2 .ensures) (xored-size _ _ _ (c1 .turn .ensures) (p .0)), omega (arith, p .2 .r, k3 .corner3 .ensures .0))
 
 returns : tie.Need-returns
 returns c =

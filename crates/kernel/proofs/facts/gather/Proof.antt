@@ -6,13 +6,13 @@ use Rattle.kernel.proofs.facts.gather.Statement.{statement}
 use Rattle.kernel.proofs.facts.gather.Tie as tie
 
 -- from the last count back: after the pairs are poured, after the survey, and before it
-abbrev poured : tie.After-count-inside2 → tie.After-pour-read
-poured c =
+abbrev pairsWritten : tie.After-count-inside2 → tie.After-write-read
+pairsWritten c =
     let after-verdict-read = c .before .before in
     let lent = after-verdict-read .before .before .before .before in
     lent .before .before .before
 
-abbrev surveyed : tie.After-pour-read → tie.After-survey-of
+abbrev surveyed : tie.After-write-read → tie.After-survey-of
 surveyed c = let lent = c .before .before .before .before in lent .before .before
 
 abbrev entry : tie.After-survey-of → tie.Start
@@ -20,8 +20,8 @@ entry c = let lent = c .before .before .before .before in lent .before .before .
 
 returns : tie.Need-returns
 returns c =
-    let s = entry (surveyed (poured c)) in
-    gathered (now (s .args .s)) (s .pre) (surveyed (poured c) .survey-of .ensures) (search needs) (search needs) _ (search needs)
+    let s = entry (surveyed (pairsWritten c)) in
+    gathered (now (s .args .s)) (s .pre) (surveyed (pairsWritten c) .survey-of .ensures) (search needs) (search needs) _ (search needs)
     (search needs)
 
 pub gather-spec : {M : Type 1} → statement M

@@ -1,5 +1,5 @@
 -- One more than the number, in its field.
-use Rattle.off_solids.specs.Told.{corner-told-low, corner-told-high}
+use Rattle.off_solids.specs.ReadOf.{corner-told-low, corner-told-high}
 use native.Mathlib.Omega.{arith}
 use borrow.Author.Needs.{needs}
 use Rattle.off_solids.proofs.points.corner_at.Statement.{statement}

@@ -1,6 +1,6 @@
 -- Corner by corner.
 use native.Mathlib.Omega.{arith}
-use Rattle.off_solids.specs.Told.{corners-told}
+use Rattle.off_solids.specs.ReadOf.{corners-told}
 use borrow.Author.Needs.{needs}
 use Rattle.off_solids.proofs.points.face_at.Statement.{statement}
 use Rattle.off_solids.proofs.points.face_at.Tie as tie

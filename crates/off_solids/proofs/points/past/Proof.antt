@@ -1,5 +1,5 @@
 -- One item a turn.
-use Rattle.off_solids.specs.Told.{past-next}
+use Rattle.off_solids.specs.ReadOf.{past-next}
 use Prim.Native.Nat.{_-_, _≤_}
 use mathlib.Core.Path.{_≡_, refl, ap, _∙_}
 use lib.ListN.{length}

@@ -1,6 +1,6 @@
 -- Told, or 1.
 use native.Mathlib.Omega.{arith}
-use Rattle.off_solids.specs.Told.{number-told, weight-told, weight-one}
+use Rattle.off_solids.specs.ReadOf.{number-told, weight-told, weight-one}
 use borrow.Author.Needs.{needs}
 use Rattle.off_solids.proofs.points.weight_at.Statement.{statement}
 use Rattle.off_solids.proofs.points.weight_at.Tie as tie
@@ -9,7 +9,7 @@ returns : tie.Need-returns
 returns c =
     let n = c .before .next .ensures in
     weight-told _ _ _ (c .before .before .if1 .taken)
-    (number-told _ _ (n .0) (n .1) 127 (omega arith) (c .told .ensures .0) (c .told .ensures .1))
+    (number-told _ _ (n .0) (n .1) 127 (omega arith) (c .signed-number .ensures .0) (c .signed-number .ensures .1))
 
 returns-2 : tie.Need-returns-2
 returns-2 c = weight-one _ _ _ (c .if1 .left)

@@ -6,7 +6,7 @@ use lib.ListN.{length}
 use Rattle.off_items.specs.Items.{after}
 use Rattle.off_form.specs.Form.{numbersOf, verticesOf}
 use Rattle.off_solids.specs.Grown.{Grown}
-use Rattle.off_solids.specs.Told.{group-next}
+use Rattle.off_solids.specs.ReadOf.{group-next}
 use Rattle.off_solids.specs.Bytes.{facesBytes, few-items, faces-none, faces-first, faces-more, faces-all}
 use borrow.Author.Needs.{needs}
 use Rattle.off_solids.proofs.whole.put_faces.Statement.{statement}

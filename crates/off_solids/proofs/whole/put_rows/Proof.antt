@@ -5,7 +5,7 @@ use native.Mathlib.Omega.{arith}
 use lib.ListN.{length}
 use Rattle.off_items.specs.Items.{after}
 use Rattle.off_solids.specs.Grown.{Grown}
-use Rattle.off_solids.specs.Told.{group-next}
+use Rattle.off_solids.specs.ReadOf.{group-next}
 use Rattle.off_solids.specs.Bytes.{rowBytes, rows-none, rows-first, rows-more, rows-all}
 use borrow.Author.Needs.{needs}
 use Rattle.off_solids.proofs.whole.put_rows.Statement.{statement}

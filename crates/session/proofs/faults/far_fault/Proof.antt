@@ -1,7 +1,7 @@
 -- Each rule that fails decides.
 use mathlib.Core.Path.{ap, ap₂, _∙_}
 use Prim.Native.Nat.{ℕ, _+_}
-use Rattle.scene.specs.declared.Refusal.the-variants.{Nowhere}
+use Rattle.scene.specs.declared.Refusal.the-variants.{FarAllZero}
 use Rattle.judge.specs.Laws.{rules, rule-passed, then-refused, then-accepted}
 use Rattle.session.specs.Session.{rowFault, isNowhere, farFault}
 use Rattle.session.specs.Laws.{refused-where, passed-where}
@@ -36,7 +36,7 @@ returns-3 c =
     rule-passed _ (c8 .is-whole .ensures) (c7 .if1 .left)
     (then-accepted (c4 .row-fault .ensures ∙ ap₂ (rowFault 0) (ap (λ (n : ℕ). n + 1) (c6 .vertices .ensures .0)) (c5 .sizes-of .ensures))
     (c .before .before .enum-told .given .1)
-    (refused-where Nowhere (c .before .is-nowhere .ensures ∙ ap isNowhere (c5 .sizes-of .ensures)) (c .if2 .taken)
+    (refused-where FarAllZero (c .before .is-nowhere .ensures ∙ ap isNowhere (c5 .sizes-of .ensures)) (c .if2 .taken)
     (ap (λ (n : ℕ). n + 1) (c6 .vertices .ensures .0))))
 
 returns-4 : tie.Need-returns-4

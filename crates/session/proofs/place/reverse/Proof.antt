@@ -16,14 +16,14 @@ face-start-requires c κs =
     let m = face-room _ _ (sym (c .before .before .before .reverse-fault .ensures) ∙ c .before .enum-told .given .1) in
     omega (arith, m .high)
 
-sub-turned : tie.Need-sub-turned
-sub-turned c =
+sub-reversed-face : tie.Need-sub-reversed-face
+sub-reversed-face c =
     let c3 = c .before .before .before in
     let c5 = c3 .before .before in
     let m = face-room _ _ (sym (c5 .reverse-fault .ensures) ∙ c3 .enum-told .given .1) in m .low
 
-turned-requires : tie.Need-turned-requires
-turned-requires c κs =
+reversed-face-requires : tie.Need-reversed-face-requires
+reversed-face-requires c κs =
     let c3 = c .before .before .before in
     let c5 = c3 .before .before in
     let m = face-room _ _ (sym (c5 .reverse-fault .ensures) ∙ c3 .enum-told .given .1) in omega (arith, m .high)
@@ -34,7 +34,7 @@ put-corners-requires c κs =
     let c5 = c3 .before .before in
     let c7 = c5 .before .before in
     let m = face-room _ _ (sym (c7 .reverse-fault .ensures) ∙ c5 .enum-told .given .1) in
-    (c .before .turned .ensures .1, omega (arith, m .room, c3 .face-start .ensures .0))
+    (c .before .reversed-face .ensures .1, omega (arith, m .room, c3 .face-start .ensures .0))
 
 returns : tie.Need-returns
 returns c = kept-so _ _ (c .before .before .before .reverse-fault .ensures) (c .before .j .given .1)
@@ -46,10 +46,11 @@ returns-2 c =
     let c8 = c6 .before .before in
     let c10 = c8 .before .before in
     put-so _ _ (c10 .reverse-fault .ensures) (c8 .enum-told .given .1)
-    (c .before .before .put-corners .ensures ∙ ap₂ (cornersPut _) (c6 .face-start .ensures .0) (c4 .turned .ensures .0))
+    (c .before .before .put-corners .ensures ∙ ap₂ (cornersPut _) (c6 .face-start .ensures .0) (c4 .reversed-face .ensures .0))
 
 pub reverse-spec : {M : Type 1} → statement M
 reverse-spec =
     tie.close
-    (tie.spec (λ c κs. search needs) (λ c. search needs) (λ c. search needs) sub-face-start face-start-requires sub-turned turned-requires
+    (tie.spec (λ c κs. search needs) (λ c. search needs) (λ c. search needs) sub-face-start face-start-requires sub-reversed-face
+        reversed-face-requires
     put-corners-requires (λ c. search needs) returns (λ c. search needs) returns-2)

@@ -6,17 +6,17 @@ use native.Mathlib.Omega.{arith}
 use denote.Ref.{now}
 use Rattle.survey_edges.specs.Order.{higher}
 use Rattle.question_listing.specs.First.{first-start, first-more}
-use Rattle.question_listing.specs.Hits.{seenIn, Own}
+use Rattle.question_listing.specs.Hits.{viewIn, Own}
 use Rattle.survey_first.specs.First.{hitsTo, all-found, all-end}
 use borrow.Author.Needs.{needs}
 use Rattle.survey_first.proofs.first.first_of.Statement.{statement}
 use Rattle.survey_first.proofs.first.first_of.Tie as tie
 
 abbrev Inv-loop : tie.InvT-loop
-Inv-loop engine rows corners n k links words own cuts low verts i₀ i = (i ≤ verts) × ([] ≡ hitsTo (seenIn n rows corners) k i)
+Inv-loop engine rows corners n k links words own separating low verts i₀ i = (i ≤ verts) × ([] ≡ hitsTo (viewIn n rows corners) k i)
 
 abbrev μ-loop : tie.MeasureT-loop
-μ-loop engine rows corners n k links words own cuts low verts i₀ i = verts - i
+μ-loop engine rows corners n k links words own separating low verts i₀ i = verts - i
 
 loop-holds : tie.Need-loop-holds Inv-loop μ-loop
 loop-holds c = (omega arith, first-start _)
@@ -37,10 +37,10 @@ first-of-vertex-requires : tie.Need-first-of-vertex-requires Inv-loop μ-loop
 first-of-vertex-requires c κs =
     let l = c .before .before in
     let s = l .before in
-    let v = seenIn (s .args .n) (now (s .args .rows)) (now (s .args .corners)) in
+    let v = viewIn (s .args .n) (now (s .args .rows)) (now (s .args .corners)) in
     let o = s .pre .0 .0 in
     let i = l .loop .i in
-    let own : Own v (s .args .k) (s .args .k .low + 1 + i) = (omega arith, omega arith) in
+    let own : Own v (s .args .k) (s .args .k .vert0 + 1 + i) = (omega arith, omega arith) in
     ((o, own, higher v (s .args .k) o i (omega arith) (s .pre .0 .1 _ own)), s .pre .1)
 
 loop-again : tie.Need-loop-again Inv-loop μ-loop

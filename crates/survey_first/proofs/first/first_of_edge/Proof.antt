@@ -21,7 +21,7 @@ returns c =
     let e = c .before in
     let s = e .before .args in
     c .first-of-mask .ensures
-    ∙ ap (λ (w : ℕ). firstOf (entryHits (s .k .other) (record { low = s .u; high = s .v; mask = w }))) (e .edge-mask .ensures)
+    ∙ ap (λ (w : ℕ). firstOf (entryHits (s .k .other0) (record { low = s .u; high = s .v; mask = w }))) (e .edge-mask .ensures)
 
 pub first-of-edge-spec : {M : Type 1} → statement M
 first-of-edge-spec = tie.close (tie.spec edge-mask-requires first-of-mask-requires returns)

@@ -7,7 +7,7 @@ use denote.Ref.{now}
 use lib.Bits.{and-le-r}
 use lib.Count.{trailing-le}
 use Rattle.laws.specs.Walk.{walk-less}
-use Rattle.question_listing.specs.Hits.{seenIn}
+use Rattle.question_listing.specs.Hits.{viewIn}
 use Rattle.question_listing.specs.First.{firstOf}
 use Rattle.survey_edges.specs.Table.{Entry}
 use Rattle.survey_first.specs.First.{hitsOf, Left, left-own, left-found, left-more, left-end}
@@ -16,16 +16,16 @@ use Rattle.survey_first.proofs.first.first_of_vertex.Statement.{stateme
 use Rattle.survey_first.proofs.first.first_of_vertex.Tie as tie
 
 abbrev Inv-loop : tie.InvT-loop
-Inv-loop engine rows corners n k words own cuts u higher left₀ left =
-    (left < 2 ^ 64) × (left ≤ higher) × Left (seenIn n rows corners) k u left
+Inv-loop engine rows corners n k words own separating u higher left₀ left =
+    (left < 2 ^ 64) × (left ≤ higher) × Left (viewIn n rows corners) k u left
 
 abbrev μ-loop : tie.MeasureT-loop
-μ-loop engine rows corners n k words own cuts u higher left₀ left = left
+μ-loop engine rows corners n k words own separating u higher left₀ left = left
 
 loop-holds : tie.Need-loop-holds Inv-loop μ-loop
 loop-holds c =
     let s = c .args in
-    let v = seenIn (s .n) (now (s .rows)) (now (s .corners)) in
+    let v = viewIn (s .n) (now (s .rows)) (now (s .corners)) in
     (search needs, omega arith, ap (λ (l : List Entry). firstOf (hitsOf v (s .k) l)) (c .pre .0 .2 .edges))
 
 cast-v : tie.Need-cast-v Inv-loop μ-loop
@@ -38,7 +38,7 @@ first-of-edge-requires : tie.Need-first-of-edge-requires Inv-loop μ-loop
 first-of-edge-requires c κs =
     let l = c .before in
     let s = l .before in
-    let v = seenIn (s .args .n) (now (s .args .rows)) (now (s .args .corners)) in
+    let v = viewIn (s .args .n) (now (s .args .rows)) (now (s .args .corners)) in
     let p = s .pre .0 in
     let t = left-own v (s .args .k) (s .args .u) (l .loop .left) (p .0) (p .1) (p .2) (l .loop .inv .1) (omega arith) in
     (p .0, ((p .1, t, omega arith), s .pre .1))
@@ -48,7 +48,7 @@ returns c =
     let f = c .before .before .before in
     let l = f .before .before in
     let s = l .before in
-    let v = seenIn (s .args .n) (now (s .args .rows)) (now (s .args .corners)) in
+    let v = viewIn (s .args .n) (now (s .args .rows)) (now (s .args .corners)) in
     search
     (left-found v (s .args .k) (s .args .u) (l .loop .left) (omega arith) (l .loop .inv .0) refl (f .first-of-edge .ensures)
     (l .loop .inv .2))
@@ -61,7 +61,7 @@ loop-again c =
     let f = c .before .before in
     let l = f .before .before in
     let s = l .before in
-    let v = seenIn (s .args .n) (now (s .args .rows)) (now (s .args .corners)) in (
+    let v = viewIn (s .args .n) (now (s .args .rows)) (now (s .args .corners)) in (
       omega (arith, and-le-r (l .loop .left) (l .loop .left - 1)),
       omega (arith, and-le-r (l .loop .left) (l .loop .left - 1)),
       search

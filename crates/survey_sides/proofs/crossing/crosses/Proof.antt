@@ -8,7 +8,7 @@ use Rattle.scene.specs.Arrays.{rowIn}
 use Rattle.scene.specs.declared.Row.{Row}
 use Rattle.survey_sides.specs.Planes.{planeOf}
 use Rattle.survey_sides.specs.Crossing.{ask-qp, ask-qr, ask-pr, one-hand, other-hand}
-use Rattle.survey_sides.specs.Told.{span-asked, spanned, dot-asked, dot-term}
+use Rattle.survey_sides.specs.PlaneAt.{span-asked, spanned, dot-asked, dot-term}
 use Rattle.survey_sides.proofs.crossing.crosses.Statement.{statement}
 use Rattle.survey_sides.proofs.crossing.crosses.Tie as tie
 

@@ -10,8 +10,8 @@ use Rattle.survey_sides.specs.Units.{units-are}
 use Rattle.survey_sides.proofs.slopes.slope.Statement.{statement}
 use Rattle.survey_sides.proofs.slopes.slope.Tie as tie
 
-slope-seen-requires : tie.Need-slope-seen-requires
-slope-seen-requires c κs =
+slope-from-directions-requires : tie.Need-slope-from-directions-requires
+slope-from-directions-requires c κs =
     let e = c .before in
     let r3 = e .before in
     let r2 = r3 .before in
@@ -112,6 +112,6 @@ returns-2 c =
 pub slope-spec : {M : Type 1} → statement M
 slope-spec =
     tie.close
-    (tie.spec (λ c κs. search needs) (λ c κs. search needs) (λ c κs. search needs) (λ c κs. search needs) slope-seen-requires
+    (tie.spec (λ c κs. search needs) (λ c κs. search needs) (λ c κs. search needs) (λ c κs. search needs) slope-from-directions-requires
     (λ c. search needs) (λ c κs. search needs) through-requires (λ c κs. search needs) through-requires-2 shift-at-requires-3
     through-requires-3 added-requires returns-2)

@@ -30,7 +30,7 @@ returns-2 c =
     let b = c .before in
     let d = b .before in
     let s = d .before .before in
-    let e = d .held .ensures in
+    let e = d .stored-slope .ensures in
     (e ∙ s .pre .1 .made (s .args .k) (sym (ap isBlank e) ∙ sym (b .is-blank .ensures) ∙ c .if1 .left), s .pre .1)
 
 pub slope-at-spec : {M : Type 1} → statement M

@@ -11,7 +11,7 @@ settled-requires : tie.Need-settled-requires
 settled-requires c κs =
     let d = c .before .before .before in
     let p = d .before .pre in
-    (p .0, ((p .1 .0 .0, p .1 .0 .1, p .1 .1 .0), (d .tell .ensures, p .1 .1 .1)))
+    (p .0, ((p .1 .0 .0, p .1 .0 .1, p .1 .1 .0), (d .digits-of-point .ensures, p .1 .1 .1)))
 
 returns : tie.Need-returns
 returns c = c .settled .ensures
@@ -25,7 +25,7 @@ returns-2 c =
     let a = s .args in (
       c .above-of .ensures
           ∙ masks-clear (rowIn (now (a .rows))) (faceIn (now (a .corners))) (a .first) (a .count) (a .t) (s .pre .1 .0 .1)
-          (d .tell .ensures)
+          (d .digits-of-point .ensures)
           (sym (h .has-ties .ensures) ∙ e .if1 .left),
       s .pre .1 .1 .1,
     )

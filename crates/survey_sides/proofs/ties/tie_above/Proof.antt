@@ -8,8 +8,8 @@ use Rattle.survey_sides.specs.Slopes.{tilt-told}
 use Rattle.survey_sides.proofs.ties.tie_above.Statement.{statement}
 use Rattle.survey_sides.proofs.ties.tie_above.Tie as tie
 
-tilt-at-requires : tie.Need-tilt-at-requires
-tilt-at-requires c κs =
+c1-at-requires : tie.Need-c1-at-requires
+c1-at-requires c κs =
     let p = c .before .pre in
     (p .0, (p .1 .0, (p .1 .1 .0 .made, p .1 .1 .1 .1)))
 
@@ -18,10 +18,10 @@ returns c =
     let d = c .before in
     let s = d .before .before in
     let a = s .args in (
-      tilt-told (rowIn (now (a .rows))) (faceIn (now (a .corners)) (a .k)) (a .t) (s .pre .1 .1 .1 .0) (d .tilt-at .ok)
-          (d .tilt-at .ensures .0)
+      tilt-told (rowIn (now (a .rows))) (faceIn (now (a .corners)) (a .k)) (a .t) (s .pre .1 .1 .1 .0) (d .c1-at .ok)
+          (d .c1-at .ensures .0)
           (c .if1 .taken),
-      d .tilt-at .ensures .1,
+      d .c1-at .ensures .1,
     )
 
 tied-at-requires : tie.Need-tied-at-requires
@@ -33,7 +33,7 @@ tied-at-requires c κs =
 
 returns-2 : tie.Need-returns-2
 unfolding above
-returns-2 c = (c .tied-at .ensures ∙ ap (above _ _) (c .before .face-in .ensures), c .before .before .before .tilt-at .ensures .1)
+returns-2 c = (c .tied-at .ensures ∙ ap (above _ _) (c .before .face-in .ensures), c .before .before .before .c1-at .ensures .1)
 
 pub tie-above-spec : {M : Type 1} → statement M
-tie-above-spec = tie.close (tie.spec tilt-at-requires returns (λ c κs. search needs) tied-at-requires returns-2)
+tie-above-spec = tie.close (tie.spec c1-at-requires returns (λ c κs. search needs) tied-at-requires returns-2)
