@@ -15,14 +15,14 @@ use Rattle.judge.specs.Judge.{judged}
 use Rattle.judge.specs.declared.Judged.{Judged}
 use Rattle.judge.specs.declared.Judged.the-variants.{Accepted, Refused}
 use Rattle.rules.specs.Given as given
-use Rattle.scene_edges.specs.Edges.{joined}
+use Rattle.scene.specs.Edges.{joined}
 use Rattle.scene.specs.declared.Solid.{Solid}
 use Rattle.pierce.specs.Formula.{pierced}
-use Rattle.question_listing.specs.Hits.{PierceView, faceHits, edgeHits, pairHits, pairsAt, vertexHits, solidHits, lowestEnclosed}
+use Rattle.questions.specs.Hits.{PierceView, faceHits, edgeHits, pairHits, pairsAt, vertexHits, solidHits, lowestEnclosed}
 use Rattle.scene.specs.View.{viewOf, solidA, solidB, solid}
-use Rattle.question_listing.specs.First.{firstOf}
-use Rattle.question_listing.specs.declared.find.Found.{Found}
-use Rattle.question_listing.specs.declared.find.Found.the-variants.{Nothing, Pair}
+use Rattle.questions.specs.First.{firstOf}
+use Rattle.questions.specs.declared.find.Found.{Found}
+use Rattle.questions.specs.declared.find.Found.the-variants.{Nothing, Pair}
 use Rattle.questions.specs.Answers.{orRefuse, countsIn, countedOf, crossOr, enclosureIn, verdictIn, verdictOf, listingIn, pierceView}
 use Rattle.questions.specs.declared.Verdict.the-variants as verdict
 use Rattle.questions.specs.declared.Counted.the-variants as counted

@@ -94,10 +94,10 @@ fn is_clear(u: usize, v: usize, f: Face) -> bool
     if u == v {
         return false;
     }
-    if scene_edges::is_corner(f, u) {
+    if scene::edges::is_corner(f, u) {
         return false;
     }
-    !scene_edges::is_corner(f, v)
+    !scene::edges::is_corner(f, v)
 }
 
 fn is_clear_of(s: &[u8], u: usize, v: usize, f: usize) -> bool

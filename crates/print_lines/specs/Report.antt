@@ -14,9 +14,9 @@ use Rattle.scene.specs.declared.Scene.{Scene}
 use Rattle.judge.specs.Judge.{judged}
 use Rattle.judge.specs.declared.Judged.{Judged}
 use Rattle.judge.specs.declared.Judged.the-variants.{Accepted, Refused}
-use Rattle.question_listing.specs.Hits.{Hit}
-use Rattle.question_listing.specs.WritePairs.{flat, partIn}
-use Rattle.question_listing.specs.PairsWritten.{length-flat}
+use Rattle.questions.specs.Hits.{Hit}
+use Rattle.questions.specs.WritePairs.{flat, partIn}
+use Rattle.questions.specs.PairsWritten.{length-flat}
 use Rattle.scene.specs.View.{viewOf}
 use Rattle.questions.specs.Answers.{orRefuse, verdictIn, verdictOf, countsIn, countedOf, IsPart, listingIn}
 use Rattle.questions.specs.Listings.{PouredIf, part-told}

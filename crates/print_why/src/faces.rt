@@ -11,7 +11,7 @@ use print::word;
 use scene::is_within;
 use scene::read;
 use scene::read::byte;
-use scene_edges::is_corner;
+use scene::edges::is_corner;
 
 // Corner m is the number at byte b.
 fn cornered(s: &[u8], k: usize, b: usize, m: usize, out: &mut [u8], at: usize) -> usize

@@ -21,11 +21,11 @@ use Rattle.orient.specs.Terms.{positiveAt, termsAt}
 use Rattle.pierce.specs.Formula.{pierced}
 use Rattle.pierce_masks.specs.Faces.{isOdd, valueOf}
 use Rattle.pierce.specs.Against.{maskAgainst}
-use Rattle.question_listing.specs.Hits.{PierceView, Hit, solidHits, enclosedCount, lowestEnclosed}
-use Rattle.question_listing.specs.First.{firstOf}
-use Rattle.question_listing.specs.WritePairs.{allIn, partIn}
-use Rattle.question_listing.specs.declared.find.Found.{Found}
-use Rattle.question_listing.specs.declared.find.Found.the-variants.{Nothing, Pair}
+use Rattle.questions.specs.Hits.{PierceView, Hit, solidHits, enclosedCount, lowestEnclosed}
+use Rattle.questions.specs.First.{firstOf}
+use Rattle.questions.specs.WritePairs.{allIn, partIn}
+use Rattle.questions.specs.declared.find.Found.{Found}
+use Rattle.questions.specs.declared.find.Found.the-variants.{Nothing, Pair}
 use Rattle.questions.specs.declared.Signed.{Signed}
 use Rattle.questions.specs.declared.Signed.the-variants as sign
 use Rattle.questions.specs.declared.Answer.{Answer}

@@ -4,10 +4,10 @@ use Prim.Native.Nat.{ℕ, _≤_, _<_}
 use borrow.Author.Tests.{le-leb, lt-leb}
 use lib.ListN.{length}
 use Rattle.scene.specs.View.{View, verts, solid}
-use Rattle.question_listing.specs.Hits.{lowestEnclosed}
-use Rattle.question_listing.specs.First.{firstOf}
-use Rattle.question_listing.specs.declared.find.Found.{Found}
-use Rattle.question_listing.specs.declared.find.Found.the-variants.{Pair, Nothing}
+use Rattle.questions.specs.Hits.{lowestEnclosed}
+use Rattle.questions.specs.First.{firstOf}
+use Rattle.questions.specs.declared.find.Found.{Found}
+use Rattle.questions.specs.declared.find.Found.the-variants.{Pair, Nothing}
 use Rattle.questions.specs.Answers.{pierceView, listingIn, insideIn, countsIn, crossOr, enclosureIn, verdictIn}
 use Rattle.questions.specs.declared.Counts.{Counts}
 use Rattle.questions.specs.declared.Verdict.{Verdict}

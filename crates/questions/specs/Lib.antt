@@ -3,3 +3,8 @@ pub mod Laws
 pub mod Asked
 pub mod Both
 pub mod Listings
+pub mod Hits
+pub mod WritePairs
+pub mod MaskHits
+pub mod PairsWritten
+pub mod First

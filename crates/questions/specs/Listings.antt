@@ -12,9 +12,9 @@ use Rattle.scene.specs.declared.Refusal.the-variants.{ListTooShort}
 use Rattle.judge.specs.Judge.{refuseUnless, judged}
 use Rattle.judge.specs.declared.Judged.{Judged}
 use Rattle.judge.specs.declared.Judged.the-variants.{Accepted, Refused}
-use Rattle.question_listing.specs.Hits.{Hit}
-use Rattle.question_listing.specs.WritePairs.{WritesPairs, pairsWritten, partIn, allIn}
-use Rattle.question_listing.specs.PairsWritten.{pairs-written-part, poured-all}
+use Rattle.questions.specs.Hits.{Hit}
+use Rattle.questions.specs.WritePairs.{WritesPairs, pairsWritten, partIn, allIn}
+use Rattle.questions.specs.PairsWritten.{pairs-written-part, poured-all}
 use Rattle.scene.specs.View.{View, viewOf}
 use Rattle.questions.specs.Answers.{orRefuse, listingIn, listFault, listedIn, heldIn, IsListed, IsPart}
 use Rattle.questions.specs.declared.Listed.{Listed}

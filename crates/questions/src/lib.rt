@@ -4,6 +4,8 @@ use pierce_masks::Mask;
 use scene::Refusal;
 use scene::Scene;
 
+pub mod find;
+
 // The four terms, and whether the first that is not zero is positive.
 pub enum Signed {
     Refused(Refusal),

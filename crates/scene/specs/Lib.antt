@@ -14,3 +14,5 @@ pub mod Write
 pub mod Negative
 pub mod Written
 pub mod Copy
+pub mod Edges
+pub mod Words

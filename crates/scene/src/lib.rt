@@ -4,6 +4,7 @@ ghost use Rattle.scene.specs.Limits.{limits, within, mostPoints, longest
 ghost use Rattle.scene.specs.Refusal.{numberOf, placeOf};
 
 pub mod decode;
+pub mod edges;
 pub mod offsets;
 pub mod read;
 pub mod write;

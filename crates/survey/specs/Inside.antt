@@ -11,9 +11,9 @@ use Rattle.laws.specs.Lists.{count-run}
 use Rattle.laws.specs.Mask.{mask-ones, mask-test, testBit}
 use Rattle.laws.specs.Range.{fold, over, lowestOf}
 use Rattle.laws.specs.Walk.{mask-first}
-use Rattle.survey_links.specs.Bits.{test-zero}
+use Rattle.survey_edges.specs.Bits.{test-zero}
 use Rattle.scene.specs.declared.Solid.{Solid}
-use Rattle.question_listing.specs.Hits.{PierceView, enclosedVertex, enclosedCount, lowestEnclosed}
+use Rattle.questions.specs.Hits.{PierceView, enclosedVertex, enclosedCount, lowestEnclosed}
 use Rattle.survey_enclosed.specs.Walk.{insideWord}
 
 -- the lowest vertex of the word w, of the n points above low; the number behind the last where there is none

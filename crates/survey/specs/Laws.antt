@@ -9,9 +9,9 @@ use lib.Dec.{ltb}
 use lib.ListN.{length, length-append}
 use Rattle.laws.specs.Lists.{Each, each-left, each-right}
 use Rattle.laws.specs.Runs.{upTo, bounded, each-upTo, each-only}
-use Rattle.scene_edges.specs.Edges.{joined}
+use Rattle.scene.specs.Edges.{joined}
 use Rattle.scene.specs.declared.Solid.{Solid}
-use Rattle.question_listing.specs.Hits.{PierceView, Sound, solidHits}
+use Rattle.questions.specs.Hits.{PierceView, Sound, solidHits}
 use Rattle.pierce_masks.specs.Faces.{width}
 use Rattle.survey_edges.specs.Table.{Entry, entryIn, entriesIn, entryHits, tableHits}
 use Rattle.survey_edges.specs.Entries.{entry-most}

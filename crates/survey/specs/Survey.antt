@@ -5,8 +5,8 @@ use mathlib.Core.List.{List, _++_}
 use Prim.Native.Nat.{ℕ, _*_, _≤_}
 use lib.ListN.{length}
 use Rattle.scene.specs.declared.Solid.{Solid}
-use Rattle.question_listing.specs.Hits.{PierceView, Hit}
-use Rattle.survey_links.specs.Links.{words}
+use Rattle.questions.specs.Hits.{PierceView, Hit}
+use Rattle.survey_edges.specs.Links.{words}
 use Rattle.survey_edges.specs.Table.{mostEdges, entriesIn, tableHits}
 use Rattle.survey_edges.specs.Edges.{solidEdges}
 use Rattle.survey_enclosed.specs.Walk.{insideWord}

@@ -1,7 +1,7 @@
 // The survey of a scene: everything of it is worked out once, and all answers are read off tables.
 ghost use Rattle.survey_sides.specs.Lent.{SidesFilled};
 ghost use Rattle.survey_narrow.specs.Lent.{Separated};
-ghost use Rattle.question_listing.specs.Hits.{viewIn};
+ghost use Rattle.questions.specs.Hits.{viewIn};
 ghost use Rattle.survey_enclosed.specs.Ready.{Ready};
 ghost use Rattle.survey.specs.Survey.{Surveyed, Sized, Wide};
 use pierce_engine::Engine;
@@ -13,14 +13,14 @@ use survey_edges::Ends;
 use survey_edges::Masks;
 use survey_enclosed::enclosed_word;
 use survey_enclosed::odds::fill_odds;
-use survey_links::WORDS;
-use survey_links::VertexSets;
-use survey_links::fill_links;
+use survey_edges::links::WORDS;
+use survey_edges::links::VertexSets;
+use survey_edges::links::fill_links;
 use survey_masks::fill_solid;
 use survey_narrow::separating_faces::SeparatingFaces;
-use survey_setup::make_planes;
-use survey_setup::fill_narrowing;
-use survey_setup::fill_sides;
+use survey_narrow::setup::make_planes;
+use survey_narrow::setup::fill_narrowing;
+use survey_narrow::setup::fill_sides;
 use survey_sides::planes::Planes;
 
 pub mod answers;

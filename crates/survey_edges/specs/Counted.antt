@@ -12,7 +12,7 @@ use Rattle.laws.specs.Lists.{run, length-run}
 use Rattle.laws.specs.Mask.{digit}
 use Rattle.scene.specs.declared.Face.{Face}
 use Rattle.scene.specs.declared.Solid.{Solid}
-use Rattle.scene_edges.specs.Edges.{joined}
+use Rattle.scene.specs.Edges.{joined}
 use Rattle.pierce.specs.Closed.{hasEdge, Closed}
 use Rattle.survey_edges.specs.Sums.{digit-le}
 use Rattle.survey_edges.specs.Pairs.{pairSum, pairs-add, pairs-le, pair-once, list-most}

@@ -9,10 +9,10 @@ use Rattle.laws.specs.Lists.{run}
 use Rattle.laws.specs.Walk.{places}
 use Rattle.laws.specs.Runs.{upTo, only}
 use Rattle.scene.specs.Limits.{limits}
-use Rattle.scene_edges.specs.Edges.{joined, neighbours}
+use Rattle.scene.specs.Edges.{joined, neighbours}
 use Rattle.scene.specs.declared.Solid.{Solid}
 use Rattle.pierce.specs.Closed.{Closed}
-use Rattle.question_listing.specs.Hits.{PierceView, Sound, Own, edgeMask}
+use Rattle.questions.specs.Hits.{PierceView, Sound, Own, edgeMask}
 use Rattle.survey_edges.specs.Table.{Entry, entriesIn, each}
 
 module _ (s : PierceView) (k : Solid) where

@@ -10,13 +10,13 @@ use lib.ListN.{length}
 use lib.Pow.{pow-add}
 use Rattle.laws.specs.Mask.{digit, testBit, test-low, test-high}
 use Rattle.laws.specs.Runs.{upTo-same, bounded, only-most, upTo-join}
-use Rattle.survey_links.specs.Bits.{word-bits, word-first, test-zero}
+use Rattle.survey_edges.specs.Bits.{word-bits, word-first, test-zero}
 use Rattle.pierce_masks.specs.Faces.{width, valueOf}
 use Rattle.pierce_masks.specs.declared.Mask.{Mask}
-use Rattle.question_listing.specs.Hits.{Hit}
-use Rattle.question_listing.specs.WritePairs.{maskHit, maskHits}
-use Rattle.question_listing.specs.First.{firstOf, first-none, first-found}
-use Rattle.question_listing.specs.declared.find.Found.the-variants.{Nothing, Pair}
+use Rattle.questions.specs.Hits.{Hit}
+use Rattle.questions.specs.WritePairs.{maskHit, maskHits}
+use Rattle.questions.specs.First.{firstOf, first-none, first-found}
+use Rattle.questions.specs.declared.find.Found.the-variants.{Nothing, Pair}
 use Rattle.survey_edges.specs.Table.{Entry, entryHits}
 use Rattle.survey_edges.specs.Sums.{sumOf, ones-sum}
 use Rattle.survey_edges.specs.Runs.{upTo-none, upTo-length, only-length}

@@ -9,3 +9,5 @@ pub mod Pairs
 pub mod TwoFaces
 pub mod Counted
 pub mod Room
+pub mod Bits
+pub mod Links

@@ -12,17 +12,17 @@ use Rattle.laws.specs.Mask.{maskOf, mask-lt, mask-join, mask-none, mask-same, t
 use Rattle.laws.specs.Range.{fold, over, anyOf}
 use Rattle.laws.specs.Walk.{mask-places}
 use Rattle.laws.specs.Runs.{upTo, only, upTo-same, upTo-join}
-use Rattle.survey_links.specs.Bits.{test-beyond}
-use Rattle.survey_links.specs.Links.{outside}
+use Rattle.survey_edges.specs.Bits.{test-beyond}
+use Rattle.survey_edges.specs.Links.{outside}
 use Rattle.scene.specs.Faces.{Vertex, isCorner, hasBoth}
 use Rattle.scene.specs.declared.Face.{Face}
-use Rattle.scene_edges.specs.Edges as words
-use Rattle.scene_edges.specs.Edges.{joined, neighbours, Corners}
+use Rattle.scene.specs.Edges as words
+use Rattle.scene.specs.Edges.{joined, neighbours, Corners}
 use Rattle.scene.specs.declared.Solid.{Solid}
 use Rattle.pierce_masks.specs.Faces.{width}
-use Rattle.question_listing.specs.Hits.{PierceView, Hit, Sound, edgeMask, edgeHits, pairHits, vertexHits, solidHits}
-use Rattle.question_listing.specs.Laws.{edge-hits}
-use Rattle.question_listing.specs.WritePairs.{maskHit}
+use Rattle.questions.specs.Hits.{PierceView, Hit, Sound, edgeMask, edgeHits, pairHits, vertexHits, solidHits}
+use Rattle.questions.specs.MaskHits.{edge-hits}
+use Rattle.questions.specs.WritePairs.{maskHit}
 use Rattle.survey_edges.specs.Table.{Entry, entryIn, entriesIn, entryHits, each, tableHits}
 use Rattle.survey_edges.specs.Runs.{upTo-none, each-upTo, each-one, each-only, each-passing}
 use Rattle.survey_edges.specs.Edges.{entry, vertexEdges, solidEdges, bitEdges, Higher}

@@ -7,8 +7,8 @@ use lib.Bits.{bitAnd}
 use lib.Count.{trailingZeros}
 use lib.ListN.{length}
 use Rattle.laws.specs.Walk.{places, places-none, walk-turn}
-use Rattle.question_listing.specs.Hits.{Hit}
-use Rattle.question_listing.specs.WritePairs.{WritesPairs, pairsWritten, stepped, maskHits}
+use Rattle.questions.specs.Hits.{Hit}
+use Rattle.questions.specs.WritePairs.{WritesPairs, pairsWritten, stepped, maskHits}
 use Rattle.survey_edges.specs.Table.{each}
 use Rattle.survey_edges.specs.Runs.{each-place}
 

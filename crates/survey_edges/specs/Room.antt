@@ -8,7 +8,7 @@ use lib.ListN.{length, length-append}
 use Rattle.laws.specs.Mask.{digit}
 use Rattle.laws.specs.Runs.{upTo, upTo-join}
 use Rattle.scene.specs.declared.Solid.{Solid}
-use Rattle.question_listing.specs.Hits.{PierceView}
+use Rattle.questions.specs.Hits.{PierceView}
 use Rattle.survey_edges.specs.Table.{Entry, mostEdges}
 use Rattle.survey_edges.specs.Sums.{sumOf}
 use Rattle.survey_edges.specs.Runs.{upTo-length, only-length}

@@ -9,7 +9,7 @@ use lib.ListN.{length, length-append}
 use Rattle.laws.specs.Mask.{digit, testBit}
 use Rattle.laws.specs.Walk.{places, passing, placed, mask-places}
 use Rattle.laws.specs.Runs.{upTo, only, upTo-first, upTo-same}
-use Rattle.survey_links.specs.Bits.{word-bits}
+use Rattle.survey_edges.specs.Bits.{word-bits}
 use Rattle.survey_edges.specs.Table.{each}
 use Rattle.survey_edges.specs.Sums.{sumOf}
 

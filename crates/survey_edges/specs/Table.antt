@@ -6,8 +6,8 @@ use Rattle.scene.specs.Limits.{limits}
 use Rattle.pierce_masks.specs.Faces.{width, valueOf}
 use Rattle.pierce_masks.specs.declared.Mask.{Mask}
 use Rattle.laws.specs.Runs.{upTo}
-use Rattle.question_listing.specs.Hits.{Hit}
-use Rattle.question_listing.specs.WritePairs.{maskHits}
+use Rattle.questions.specs.Hits.{Hit}
+use Rattle.questions.specs.WritePairs.{maskHits}
 
 -- the edges of a solid that a table has room for: each lies in two faces at least
 abbrev pub mostEdges : ℕ

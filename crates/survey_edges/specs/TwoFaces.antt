@@ -14,7 +14,7 @@ use Rattle.laws.specs.Range.{more}
 use Rattle.scene.specs.Faces.{Both, both-iff, hasBoth}
 use Rattle.scene.specs.declared.Face.{Face}
 use Rattle.scene.specs.declared.Solid.{Solid}
-use Rattle.scene_edges.specs.Edges.{joined}
+use Rattle.scene.specs.Edges.{joined}
 use Rattle.pierce.specs.Closed.{Edge, hasEdge, Closed}
 
 module _ (i j : ℕ) where

@@ -1,7 +1,7 @@
 // The first pair of a table.
 ghost use mathlib.Core.Path.{_≡_};
 ghost use Prim.Native.Nat.{_*_, _≤_, _<_};
-ghost use Rattle.question_listing.specs.First.{firstOf};
+ghost use Rattle.questions.specs.First.{firstOf};
 ghost use Rattle.scene.specs.Limits.{limits};
 ghost use Rattle.survey_edges.specs.Table.{mostEdges, entryIn, entryOf, entryHits, tableHits};
 use crate::Ends;
@@ -10,7 +10,7 @@ use crate::mask_at;
 use pierce_masks::Mask;
 use pierce_masks::first_face;
 use pierce_masks::has_face;
-use question_listing::find::Found;
+use questions::find::Found;
 
 fn wide(x: u16) -> usize
     ensures { λ r. ⌜ r ≡ x ⌝ }

@@ -9,6 +9,7 @@ use pierce_masks::Mask;
 use scene::Scene;
 
 pub mod first;
+pub mod links;
 pub mod pairs;
 
 // The edges of a solid that a table has room for: a face has three, and each lies in two faces at least.

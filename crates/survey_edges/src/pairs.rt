@@ -1,7 +1,7 @@
 // The pairs of a table into a lent list of numbers, three for each, by the set bits of the masks.
 ghost use mathlib.Core.Path.{_≡_};
 ghost use Prim.Native.Nat.{_+_, _*_, _≤_, _<_};
-ghost use Rattle.question_listing.specs.WritePairs.{WritesPairs, stepped, maskHits, most};
+ghost use Rattle.questions.specs.WritePairs.{WritesPairs, stepped, maskHits, most};
 ghost use Rattle.pierce_masks.specs.Faces.{width};
 ghost use Rattle.scene.specs.Limits.{limits};
 ghost use Rattle.survey_edges.specs.Table.{mostEdges, entryIn, entryHits, tableHits};

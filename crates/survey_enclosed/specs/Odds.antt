@@ -12,12 +12,12 @@ use lib.ListN.{length, getD}
 use Rattle.laws.specs.Bools.{_⊕_}
 use Rattle.laws.specs.Mask.{maskOf, mask-same, mask-none, or-masks, place-mask, testBit}
 use Rattle.laws.specs.Runs.{upTo, upTo-more}
-use Rattle.survey_links.specs.Links.{words, ored, ored-at, ored-size, Cleared}
+use Rattle.survey_edges.specs.Links.{words, ored, ored-at, ored-size, Cleared}
 use Rattle.scene.specs.Faces.{Vertex}
-use Rattle.scene_edges.specs.Edges.{joined}
+use Rattle.scene.specs.Edges.{joined}
 use Rattle.scene.specs.declared.Solid.{Solid}
 use Rattle.pierce_masks.specs.Faces.{isOdd}
-use Rattle.question_listing.specs.Hits.{PierceView, Own, enclosedVertex}
+use Rattle.questions.specs.Hits.{PierceView, Own, enclosedVertex}
 use Rattle.survey_edges.specs.Table.{Entry, entryIn, entriesIn}
 
 -- p passes for one of the list

@@ -12,10 +12,10 @@ use Rattle.laws.specs.Mask.{mask-test, testBit}
 use Rattle.laws.specs.Range.{anyOf}
 use Rattle.laws.specs.Runs.{upTo, only}
 use Rattle.scene.specs.Faces.{isCorner, hasBoth}
-use Rattle.scene_edges.specs.Edges.{joined}
+use Rattle.scene.specs.Edges.{joined}
 use Rattle.scene.specs.declared.Solid.{Solid}
 use Rattle.pierce_masks.specs.Faces.{isOdd}
-use Rattle.question_listing.specs.Hits.{PierceView, Own, edgeMask, enclosedVertex}
+use Rattle.questions.specs.Hits.{PierceView, Own, edgeMask, enclosedVertex}
 use Rattle.survey_edges.specs.Table.{Entry}
 use Rattle.survey_edges.specs.Edges.{entry, vertexEdges, solidEdges}
 use Rattle.survey_enclosed.specs.Ready.{Ready, across}

@@ -10,7 +10,7 @@ use Rattle.scene.specs.declared.Solid as own
 use Rattle.pierce_masks.specs.Faces.{isOdd}
 use Rattle.pierce.specs.Parity.{Solid}
 use Rattle.pierce.specs.Scene.{scene-enclosed}
-use Rattle.question_listing.specs.Hits.{PierceView, Own, edgeMask, enclosedVertex}
+use Rattle.questions.specs.Hits.{PierceView, Own, edgeMask, enclosedVertex}
 use Rattle.survey_edges.specs.Edges.{Within}
 
 module _ (s : PierceView) (k : own.Solid) where

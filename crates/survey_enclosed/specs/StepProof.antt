@@ -15,10 +15,10 @@ use lib.Pow.{pow-lt, pow-pos}
 use Rattle.laws.specs.Bools.{_⊕_}
 use Rattle.laws.specs.Mask.{mask-test, testBit}
 use Rattle.laws.specs.Walk.{First}
-use Rattle.survey_links.specs.Bits.{test-or, test-and, test-xor, test-one, same-bits, word-first}
-use Rattle.scene_edges.specs.Edges.{joined, neighbours}
+use Rattle.survey_edges.specs.Bits.{test-or, test-and, test-xor, test-one, same-bits, word-first}
+use Rattle.scene.specs.Edges.{joined, neighbours}
 use Rattle.scene.specs.declared.Solid.{Solid}
-use Rattle.question_listing.specs.Hits.{PierceView, Own, enclosedVertex}
+use Rattle.questions.specs.Hits.{PierceView, Own, enclosedVertex}
 use Rattle.survey_edges.specs.Edges.{AreLinks}
 use Rattle.survey_edges.specs.Order.{neighbours-small}
 use Rattle.survey_enclosed.specs.Ready.{Ready}

@@ -8,7 +8,7 @@ use lib.Count.{trailingZeros}
 use lib.ListN.{getD}
 use Rattle.laws.specs.Mask.{maskOf, testBit}
 use Rattle.scene.specs.declared.Solid.{Solid}
-use Rattle.question_listing.specs.Hits.{PierceView, enclosedVertex}
+use Rattle.questions.specs.Hits.{PierceView, enclosedVertex}
 use Rattle.survey_enclosed.specs.declared.Spread.{Spread}
 
 module _ (s : PierceView) (k : Solid) where

@@ -11,9 +11,9 @@ use lib.Dec.{eqb}
 use lib.Pow.{pow-lt, pow-pos}
 use Rattle.laws.specs.Mask.{maskOf, mask-test, mask-same, testBit}
 use Rattle.laws.specs.Walk.{First}
-use Rattle.survey_links.specs.Bits.{test-or, test-and, test-one, test-zero, word-bits, word-first}
+use Rattle.survey_edges.specs.Bits.{test-or, test-and, test-one, test-zero, word-bits, word-first}
 use Rattle.scene.specs.declared.Solid.{Solid}
-use Rattle.question_listing.specs.Hits.{PierceView, enclosedVertex}
+use Rattle.questions.specs.Hits.{PierceView, enclosedVertex}
 use Rattle.survey_enclosed.specs.Walk.{insideWord, Reached, Started}
 use Rattle.survey_enclosed.specs.declared.Spread.{Spread}
 

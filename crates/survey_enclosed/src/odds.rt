@@ -2,17 +2,17 @@
 ghost use mathlib.Core.Path.{_≡_};
 ghost use Prim.Native.Nat.{ℕ, _+_, _≤_, _<_};
 ghost use lib.ListN.{length};
-ghost use Rattle.survey_links.specs.Links.{words};
+ghost use Rattle.survey_edges.specs.Links.{words};
 ghost use Rattle.survey_edges.specs.Table.{mostEdges, entryIn, entriesIn};
 ghost use Rattle.survey_enclosed.specs.Odds.{EndsIn, MarksEntry, Marked};
 use pierce_masks::is_odd;
 use survey_edges::Ends;
 use survey_edges::Masks;
 use survey_edges::mask_at;
-use survey_links::VertexSets;
-use survey_links::bit;
-use survey_links::clear;
-use survey_links::join;
+use survey_edges::links::VertexSets;
+use survey_edges::links::bit;
+use survey_edges::links::clear;
+use survey_edges::links::join;
 
 fn wide(x: u16) -> usize
     ensures { λ r. ⌜ r ≡ x ⌝ }

@@ -3,10 +3,10 @@ use mathlib.Core.Path.{_≡_, refl, sym, _∙_}
 use mathlib.Core.List.{List, [], _++_}
 use Prim.Native.Nat.{ℕ}
 use Rattle.scene.specs.declared.Solid.{Solid}
-use Rattle.question_listing.specs.Hits.{PierceView, Hit, solidHits}
-use Rattle.question_listing.specs.First.{firstOf, empty-next, first-left, first-right}
-use Rattle.question_listing.specs.declared.find.Found.{Found}
-use Rattle.question_listing.specs.declared.find.Found.the-variants.{Nothing, Pair}
+use Rattle.questions.specs.Hits.{PierceView, Hit, solidHits}
+use Rattle.questions.specs.First.{firstOf, empty-next, first-left, first-right}
+use Rattle.questions.specs.declared.find.Found.{Found}
+use Rattle.questions.specs.declared.find.Found.the-variants.{Nothing, Pair}
 use Rattle.survey_enclosed.specs.Walk.{insideWord}
 use Rattle.survey_first.specs.FirstLook.{FirstIfFound, glimpsed-pair}
 use Rattle.survey_first.specs.declared.FirstOrEnclosed.{FirstOrEnclosed}

@@ -6,13 +6,13 @@ use native.Mathlib.Nat.{lt-of-le-of-lt}
 use native.Mathlib.Omega.{arith}
 use lib.Bits.{bitAnd}
 use lib.Count.{trailingZeros}
-use Rattle.survey_links.specs.Bits.{word-first}
+use Rattle.survey_edges.specs.Bits.{word-first}
 use Rattle.scene.specs.declared.Solid.{Solid}
 use Rattle.laws.specs.Runs.{upTo}
-use Rattle.question_listing.specs.Hits.{PierceView, Hit, Own, Sound, solidHits}
-use Rattle.question_listing.specs.First.{firstOf, first-left, first-right, first-found, first-end}
-use Rattle.question_listing.specs.declared.find.Found.{Found}
-use Rattle.question_listing.specs.declared.find.Found.the-variants.{Nothing, Pair}
+use Rattle.questions.specs.Hits.{PierceView, Hit, Own, Sound, solidHits}
+use Rattle.questions.specs.First.{firstOf, first-left, first-right, first-found, first-end}
+use Rattle.questions.specs.declared.find.Found.{Found}
+use Rattle.questions.specs.declared.find.Found.the-variants.{Nothing, Pair}
 use Rattle.survey_edges.specs.Table.{Entry, entryHits, each}
 use Rattle.survey_edges.specs.Runs.{each-upTo}
 use Rattle.survey_edges.specs.Edges.{Higher, entry, bitEdges, vertexEdges, solidEdges}

@@ -7,15 +7,15 @@ use lib.IntN.{ℤ}
 use Rattle.scene.specs.Limits.{limits, mostPoints}
 use Rattle.scene.specs.Arrays.{AllWithin, FacesWithin}
 use Rattle.scene.specs.declared.Solid.{Solid}
-use Rattle.scene_edges.specs.Edges.{neighbours}
-use Rattle.question_listing.specs.Hits.{PierceView, Hit, Own, Sound, solidHits}
-use Rattle.question_listing.specs.First.{firstOf, first-start}
-use Rattle.question_listing.specs.declared.find.Found.{Found}
-use Rattle.question_listing.specs.declared.find.Found.the-variants.{Nothing, Pair}
+use Rattle.scene.specs.Edges.{neighbours}
+use Rattle.questions.specs.Hits.{PierceView, Hit, Own, Sound, solidHits}
+use Rattle.questions.specs.First.{firstOf, first-start}
+use Rattle.questions.specs.declared.find.Found.{Found}
+use Rattle.questions.specs.declared.find.Found.the-variants.{Nothing, Pair}
 use Rattle.survey_sides.specs.Sides.{planeIn, ReadyAll, ready-ends}
 use Rattle.survey_edges.specs.Edges.{Higher, vertexEdges}
 use Rattle.survey_edges.specs.Order.{higher}
-use Rattle.survey_setup.specs.Sides.{Made}
+use Rattle.survey_narrow.specs.Sides.{Made}
 use Rattle.survey_first.specs.First.{hitsOf, all-found}
 
 -- what a look at some of the hits l tells: a pair is the first of l, and nothing found says nothing

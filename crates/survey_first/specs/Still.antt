@@ -13,12 +13,12 @@ use Rattle.laws.specs.Bools.{_⊕_, law, all, _≐_}
 use Rattle.laws.specs.Lists.{replicate-at}
 use Rattle.laws.specs.Mask.{mask-none, testBit}
 use Rattle.laws.specs.Runs.{upTo, only}
-use Rattle.survey_links.specs.Bits.{test-zero}
-use Rattle.scene_edges.specs.Edges.{joined}
+use Rattle.survey_edges.specs.Bits.{test-zero}
+use Rattle.scene.specs.Edges.{joined}
 use Rattle.scene.specs.declared.Solid.{Solid}
 use Rattle.pierce_masks.specs.Faces.{isOdd}
 use Rattle.pierce.specs.Formula.{pierced}
-use Rattle.question_listing.specs.Hits.{PierceView, Hit, Own, faceHits, edgeHits, pairHits, vertexHits, solidHits, edgeMask, enclosedVertex}
+use Rattle.questions.specs.Hits.{PierceView, Hit, Own, faceHits, edgeHits, pairHits, vertexHits, solidHits, edgeMask, enclosedVertex}
 use Rattle.survey_enclosed.specs.Ready.{Ready, across}
 use Rattle.survey_enclosed.specs.Odds.{AreOdds}
 use Rattle.survey_enclosed.specs.OddsProof.{joined-back}

@@ -13,7 +13,7 @@ use Rattle.laws.specs.Runs.{upTo, upTo-more, upTo-same}
 use Rattle.scene.specs.declared.Solid.{Solid}
 use Rattle.pierce_masks.specs.Faces.{valueOf}
 use Rattle.pierce_masks.specs.declared.Mask.{Mask}
-use Rattle.question_listing.specs.Hits.{PierceView, edgeMask}
+use Rattle.questions.specs.Hits.{PierceView, edgeMask}
 use Rattle.survey_edges.specs.Table.{Entry, entryIn, entriesIn, each}
 use Rattle.survey_edges.specs.Edges.{entry, bitEdges, Filled}
 

@@ -4,7 +4,7 @@ ghost use Prim.Native.Nat.{_+_, _*_, _<_, _≤_};
 ghost use lib.ListN.{length};
 ghost use Rattle.pierce_masks.specs.Faces.{valueOf};
 ghost use Rattle.scene.specs.Faces.{Vertex};
-ghost use Rattle.question_listing.specs.Hits.{viewIn, Sound, edgeMask};
+ghost use Rattle.questions.specs.Hits.{viewIn, Sound, edgeMask};
 ghost use Rattle.survey_edges.specs.Table.{mostEdges};
 ghost use Rattle.survey_edges.specs.Edges.{vertexEdges, solidEdges, Within, AreLinks, Filled};
 ghost use Rattle.survey_sides.specs.Lent.{SidesFilled};
@@ -17,7 +17,7 @@ use scene::Rows;
 use scene::Solid;
 use survey_edges::Ends;
 use survey_edges::Masks;
-use survey_links::VertexSets;
+use survey_edges::links::VertexSets;
 use survey_narrow::separating_faces::SeparatingFaces;
 use survey_narrow::mask;
 

@@ -5,7 +5,7 @@ use mathlib.Core.List.{List}
 use Prim.Native.Nat.{ℕ, _+_, _<_}
 use Rattle.scene.specs.Faces.{isCorner}
 use Rattle.scene.specs.declared.Solid.{Solid}
-use Rattle.question_listing.specs.Hits.{PierceView, Own}
+use Rattle.questions.specs.Hits.{PierceView, Own}
 use Rattle.survey_sides.specs.Sides.{masksBy}
 use Rattle.survey_sides.specs.Tables.{maskIn}
 use Rattle.survey_narrow.specs.Separated.{parts}

@@ -4,3 +4,5 @@ pub mod Cover
 pub mod Union
 pub mod Narrow
 pub mod Lent
+pub mod Sides
+pub mod Narrowing

@@ -26,8 +26,9 @@ use survey_sides::point_masks::PointMasks;
 use survey_sides::point_masks::bit;
 use survey_sides::point_masks::mask_at;
 
-pub mod separating_faces;
 pub mod faces_at_point;
+pub mod separating_faces;
+pub mod setup;
 
 // The mask of u, v against the `count` faces of a solid, numbered from first + 1 on, in a scene of n points: as `survey_sides::mask`, with the
 // table of the faces at each point and that of the faces that part each face. Where a face at the edge parts none, nothing is asked.

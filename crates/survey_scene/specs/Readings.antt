@@ -11,12 +11,12 @@ use Rattle.scene.specs.View.{View, viewOf, verts, solid}
 use Rattle.scene.specs.declared.Solid.{Solid}
 use Rattle.judge.specs.Judge.{judged}
 use Rattle.judge.specs.declared.Judged.the-variants.{Accepted}
-use Rattle.question_listing.specs.Hits.{Hit, lowestEnclosed}
-use Rattle.question_listing.specs.First.{firstOf}
-use Rattle.question_listing.specs.WritePairs.{WritesPairs}
-use Rattle.question_listing.specs.PairsWritten.{writes-same}
-use Rattle.question_listing.specs.declared.find.Found.{Found}
-use Rattle.question_listing.specs.declared.find.Found.the-variants.{Pair, Nothing}
+use Rattle.questions.specs.Hits.{Hit, lowestEnclosed}
+use Rattle.questions.specs.First.{firstOf}
+use Rattle.questions.specs.WritePairs.{WritesPairs}
+use Rattle.questions.specs.PairsWritten.{writes-same}
+use Rattle.questions.specs.declared.find.Found.{Found}
+use Rattle.questions.specs.declared.find.Found.the-variants.{Pair, Nothing}
 use Rattle.survey.specs.Survey.{Fits, pairsOf}
 use Rattle.survey.specs.Laws.{surveyed-pairs}
 use Rattle.survey.specs.Inside.{lowestOfWord, inside-ones, inside-lowest}

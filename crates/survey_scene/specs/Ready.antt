@@ -28,12 +28,12 @@ use Rattle.orient.specs.Terms.{termsAt, positiveAt}
 use Rattle.orient.specs.Weighted.{Weighted, SignDefined}
 use Rattle.orient.specs.Sizes.{NumbersWithin}
 use Rattle.orient.specs.declared.Terms.{Terms}
-use Rattle.scene_edges.specs.Edges.{Corners}
+use Rattle.scene.specs.Edges.{Corners}
 use Rattle.pierce.specs.Beside.{Beside, BesideAll, beside}
 use Rattle.pierce_masks.specs.Faces.{isOdd}
 use Rattle.pierce.specs.Against.{maskAgainst}
 use Rattle.pierce.specs.Formula.{pierced}
-use Rattle.question_listing.specs.Hits.{PierceView, viewIn, Sound}
+use Rattle.questions.specs.Hits.{PierceView, viewIn, Sound}
 use Rattle.questions.specs.Answers.{pierceView, signFault, piercesFault, maskIn, otherSolid, isEnclosed, faces-are}
 use Rattle.questions.specs.Asked.{NotOf, Outside, sign-four, pierces-ends}
 use Rattle.questions.specs.declared.Signed.the-variants.{Sign}

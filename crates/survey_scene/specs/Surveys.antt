@@ -17,10 +17,10 @@ use Rattle.judge.specs.declared.Judged.the-variants.{Accepted}
 use Rattle.rules.specs.Given.{counts, each-of-a, each-of-b, edges-of-a, edges-of-b}
 use Rattle.pierce.specs.Parity as parity
 use Rattle.pierce.specs.Parity.{solid-by-edges}
-use Rattle.question_listing.specs.Hits.{viewIn, enclosedCount}
-use Rattle.question_listing.specs.First.{firstOf}
-use Rattle.question_listing.specs.declared.find.Found.{Found}
-use Rattle.question_listing.specs.declared.find.Found.the-variants.{Nothing}
+use Rattle.questions.specs.Hits.{viewIn, enclosedCount}
+use Rattle.questions.specs.First.{firstOf}
+use Rattle.questions.specs.declared.find.Found.{Found}
+use Rattle.questions.specs.declared.find.Found.the-variants.{Nothing}
 use Rattle.survey_enclosed.specs.Ready.{Ready}
 use Rattle.survey_enclosed.specs.Walk.{insideWord}
 use Rattle.survey.specs.Survey.{Surveyed}

@@ -8,7 +8,7 @@ ghost use Rattle.questions.specs.Answers.{verdictIn, listingIn};
 ghost use Rattle.questions.specs.Listings.{lacksRoom, PouredIf};
 ghost use Rattle.survey_scene.specs.Surveys.{SurveyIs, FirstOrEnclosedIs, EnoughForVerdict};
 use pierce_engine::Engine;
-use question_listing::find::Found;
+use questions::find::Found;
 use questions::Verdict;
 use scene::Corners;
 use scene::Rows;

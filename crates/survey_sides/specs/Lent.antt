@@ -4,7 +4,7 @@ use mathlib.Core.Path.{_≡_}
 use mathlib.Core.List.{List}
 use Prim.Native.Nat.{ℕ}
 use Rattle.scene.specs.declared.Solid.{Solid}
-use Rattle.question_listing.specs.Hits.{PierceView, Own}
+use Rattle.questions.specs.Hits.{PierceView, Own}
 use Rattle.survey_sides.specs.Sides.{sidesOf}
 use Rattle.survey_sides.specs.Tables.{maskIn}
 

@@ -26,8 +26,8 @@ use Rattle.rules.specs.Files.{FileOf}
 use Rattle.rules.specs.Written.{Bytes}
 use Rattle.orient.specs.Terms.{positiveAt, termsAt}
 use Rattle.orient.specs.declared.Terms.{Terms}
-use Rattle.question_listing.specs.Hits.{Hit}
-use Rattle.question_listing.specs.WritePairs.{three, flat, partIn}
+use Rattle.questions.specs.Hits.{Hit}
+use Rattle.questions.specs.WritePairs.{three, flat, partIn}
 use Rattle.scene.specs.View.{viewOf}
 use Rattle.questions.specs.Answers.{signOf, piercesOf, verdictOf, countedOf, maskedOf, faces-are, enclosedOf}
 use Rattle.questions.specs.Answers.{IsListed, listingIn, insideOf, IsPart}

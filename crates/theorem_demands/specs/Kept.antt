@@ -23,7 +23,7 @@ use Rattle.laws.specs.Sign.{sign, _or_}
 use Rattle.orient.specs.Terms.{Numbered, Powers, powers, isPlus, positiveAt, termsAt}
 use Rattle.pierce.specs.Beside.{Beside}
 use Rattle.pierce.specs.Formula.{pierces, pierced}
-use Rattle.question_listing.specs.WritePairs.{partIn}
+use Rattle.questions.specs.WritePairs.{partIn}
 use Rattle.questions.specs.Answers.{signIn, piercesIn, maskedIn, enclosedIn, countsIn, enclosingIn, verdictIn, listingIn, listedIn, heldIn}
 use Rattle.questions.specs.Answers.{signOf, piercesOf, maskedOf, enclosedOf, countedOf, insideOf, verdictOf, IsListed, IsPart}
 use Rattle.questions.specs.declared.Counted.the-variants as counted

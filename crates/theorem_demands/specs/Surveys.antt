@@ -19,10 +19,10 @@ use Rattle.scene.specs.Records.{vertsA, vertsB}
 use Rattle.scene.specs.View.{viewOf, solid}
 use Rattle.judge.specs.Judge.{judged}
 use Rattle.judge.specs.declared.Judged.the-variants.{Accepted}
-use Rattle.question_listing.specs.Hits.{Hit}
-use Rattle.question_listing.specs.First.{firstOf}
-use Rattle.question_listing.specs.WritePairs.{partIn}
-use Rattle.question_listing.specs.declared.find.Found.the-variants.{Nothing, Pair}
+use Rattle.questions.specs.Hits.{Hit}
+use Rattle.questions.specs.First.{firstOf}
+use Rattle.questions.specs.WritePairs.{partIn}
+use Rattle.questions.specs.declared.find.Found.the-variants.{Nothing, Pair}
 use Rattle.survey_edges.specs.Table.{Entry, entriesIn}
 use Rattle.survey.specs.Survey.{pairsOf}
 use Rattle.survey.specs.declared.Survey.{Survey}

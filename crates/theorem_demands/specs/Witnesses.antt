@@ -10,7 +10,7 @@ use Rattle.scene.specs.Tables.{Table}
 use Rattle.judge.specs.Judge.{judged}
 use Rattle.judge.specs.declared.Judged.the-variants.{Accepted}
 use Rattle.rules.specs.Write.{bytesOf}
-use Rattle.question_listing.specs.Hits.{Hit}
+use Rattle.questions.specs.Hits.{Hit}
 use Rattle.scene.specs.View.{viewOf}
 use Rattle.questions.specs.Answers.{countedOf, verdictOf, listingIn}
 use Rattle.questions.specs.declared.Counts.{Counts}

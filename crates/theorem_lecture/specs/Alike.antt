@@ -15,14 +15,14 @@ use Rattle.scene.specs.Faces.{Vertex, FaceOf}
 use Rattle.scene.specs.declared.Row.{Row}
 use Rattle.scene.specs.declared.Face.{Face}
 use Rattle.orient.specs.Signs.{Upto}
-use Rattle.scene_edges.specs.Edges.{joined}
+use Rattle.scene.specs.Edges.{joined}
 use Rattle.scene.specs.declared.Solid.{Solid}
 use Rattle.pierce.specs.Formula.{pierced}
 use Rattle.pierce.specs.Beside.{Beside, beside}
 use Rattle.pierce_masks.specs.Faces.{isOdd}
 use Rattle.pierce.specs.Against.{maskAgainst}
-use Rattle.question_listing.specs.Hits.{PierceView, Hit, faceHits, edgeHits, pairHits, pairsAt, vertexHits, solidHits, enclosedVertex}
-use Rattle.question_listing.specs.Hits.{enclosedCount, lowestEnclosed}
+use Rattle.questions.specs.Hits.{PierceView, Hit, faceHits, edgeHits, pairHits, pairsAt, vertexHits, solidHits, enclosedVertex}
+use Rattle.questions.specs.Hits.{enclosedCount, lowestEnclosed}
 
 -- a point of n that is no vertex of the solid whose vertices are the points above low, up to high
 pub record Clear (n low high i : ℕ) : Type 0 where

@@ -15,12 +15,12 @@ use Rattle.scene.specs.declared.Face.{Face}
 use Rattle.scene.specs.declared.Solid.{Solid}
 use Rattle.orient.specs.Signs.{Upto}
 use Rattle.orient.specs.Weighted.{Weighted}
-use Rattle.scene_edges.specs.Edges.{joined}
+use Rattle.scene.specs.Edges.{joined}
 use Rattle.pierce.specs.Beside.{Beside, beside}
 use Rattle.pierce_masks.specs.Faces.{isOdd}
 use Rattle.pierce.specs.Against.{maskAgainst}
 use Rattle.pierce.specs.Formula.{pierced}
-use Rattle.question_listing.specs.Hits.{PierceView, Hit, solidHits, enclosedVertex, enclosedCount, lowestEnclosed}
+use Rattle.questions.specs.Hits.{PierceView, Hit, solidHits, enclosedVertex, enclosedCount, lowestEnclosed}
 use Rattle.theorem_lecture.specs.Alike.{Clear}
 use Rattle.theorem_lecture.specs.Renumbered.{Renumbering, Untied, renamed, pierced-renamed, mask-renamed}
 use Rattle.theorem_lecture.specs.Shifted.{any-shifted, count-shifted, lowest-shifted}

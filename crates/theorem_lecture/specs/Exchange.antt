@@ -15,8 +15,8 @@ use Rattle.judge.specs.Judge.{judged}
 use Rattle.judge.specs.declared.Judged.the-variants.{Accepted}
 use Rattle.rules.specs.Write.{bytesOf}
 use Rattle.orient.specs.Signs.{Upto}
-use Rattle.question_listing.specs.Hits.{Hit, solidHits, enclosedCount, lowestEnclosed}
-use Rattle.question_listing.specs.First.{firstOf}
+use Rattle.questions.specs.Hits.{Hit, solidHits, enclosedCount, lowestEnclosed}
+use Rattle.questions.specs.First.{firstOf}
 use Rattle.questions.specs.Answers.{countedOf, crossOr, verdictNumber, verdictOf}
 use Rattle.questions.specs.declared.Counted.the-variants.{Counts}
 use Rattle.questions.specs.declared.Verdict.{Verdict}

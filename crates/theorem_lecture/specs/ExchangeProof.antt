@@ -19,8 +19,8 @@ use Rattle.judge.specs.declared.Judged.the-variants.{Accepted}
 use Rattle.rules.specs.Given.{counts, weighted, face-of-a, face-of-b}
 use Rattle.orient.specs.Weighted.{Weighted}
 use Rattle.pierce.specs.Beside.{beside}
-use Rattle.question_listing.specs.Hits.{Hit, solidHits, enclosedVertex, enclosedCount, lowestEnclosed}
-use Rattle.question_listing.specs.First.{firstOf}
+use Rattle.questions.specs.Hits.{Hit, solidHits, enclosedVertex, enclosedCount, lowestEnclosed}
+use Rattle.questions.specs.First.{firstOf}
 use Rattle.questions.specs.Answers.{orRefuse, countsIn, countedOf, crossOr, enclosureIn, verdictIn}
 use Rattle.questions.specs.Answers.{verdictOf, verdictNumber, listingIn, insideIn}
 use Rattle.questions.specs.declared.Counted.the-variants.{Counts}

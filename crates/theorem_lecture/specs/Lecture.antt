@@ -17,7 +17,7 @@ use Rattle.scene.specs.declared.Solid.{Solid}
 use Rattle.orient.specs.Signs.{Upto, Four}
 use Rattle.orient.specs.Terms.{positiveAt}
 use Rattle.pierce.specs.Against.{maskAgainst}
-use Rattle.question_listing.specs.Hits.{PierceView, Hit, solidHits, enclosedCount, lowestEnclosed}
+use Rattle.questions.specs.Hits.{PierceView, Hit, solidHits, enclosedCount, lowestEnclosed}
 use Rattle.questions.specs.Answers.{verdictOf, countedOf}
 use Rattle.map_image.specs.declared.Map.{Map}
 use Rattle.map_image.specs.Mapped.{mapped, determinantOf}

@@ -11,7 +11,7 @@ use Rattle.scene.specs.Records.{vertsA, vertsB, facesA, facesB, verts}
 use Rattle.scene.specs.Tables.{tablesOf, face}
 use Rattle.judge.specs.Judge.{judged}
 use Rattle.judge.specs.declared.Judged.the-variants.{Accepted}
-use Rattle.question_listing.specs.Hits.{Hit}
+use Rattle.questions.specs.Hits.{Hit}
 use Rattle.questions.specs.Answers.{countedOf, verdictNumber, verdictOf}
 use Rattle.theorem_demands.specs.Words.{VertexOfA, VertexOfB, Point, FaceNumber, farPoint}
 use Rattle.theorem_demands.specs.Exact.{PiercedPair}

@@ -23,7 +23,7 @@ use Rattle.pierce.specs.Beside.{Beside, beside}
 use Rattle.pierce_masks.specs.Faces.{isOdd}
 use Rattle.pierce.specs.Against.{maskAgainst}
 use Rattle.pierce.specs.Formula.{pierced}
-use Rattle.question_listing.specs.Hits.{Hit, enclosedVertex, enclosedCount}
+use Rattle.questions.specs.Hits.{Hit, enclosedVertex, enclosedCount}
 use Rattle.questions.specs.Answers.{orRefuse, countsIn, countedOf, insideIn, listingIn, verdictNumber, verdictOf}
 use Rattle.questions.specs.declared.Counted.the-variants.{Counts}
 use Rattle.theorem_demands.specs.Words.{VertexOfA, VertexOfB, FaceOfA, FaceOfB, Point, Pierces}

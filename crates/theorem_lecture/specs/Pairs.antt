@@ -21,8 +21,8 @@ use Rattle.judge.specs.declared.Judged.the-variants.{Accepted}
 use Rattle.rules.specs.Given.{face-of-a, face-of-b}
 use Rattle.pierce.specs.Beside.{Beside, beside}
 use Rattle.scene.specs.View.{viewOf}
-use Rattle.question_listing.specs.Hits.{Hit}
-use Rattle.question_listing.specs.WritePairs.{three}
+use Rattle.questions.specs.Hits.{Hit}
+use Rattle.questions.specs.WritePairs.{three}
 use Rattle.questions.specs.Answers.{listingIn}
 use Rattle.theorem_demands.specs.Words.{FaceOfA, FaceOfB, FaceNumber, Point, CornerOf, Edge, Pierces}
 use Rattle.theorem_demands.specs.Exact.{PiercedPair, Before, solidOf}

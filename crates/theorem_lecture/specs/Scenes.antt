@@ -16,8 +16,8 @@ use Rattle.judge.specs.Judge.{judged}
 use Rattle.judge.specs.declared.Judged.the-variants.{Accepted}
 use Rattle.rules.specs.Given.{counts, face-of-a, face-of-b}
 use Rattle.pierce.specs.Against.{maskAgainst}
-use Rattle.question_listing.specs.Hits.{Hit, solidHits, enclosedCount, lowestEnclosed}
-use Rattle.question_listing.specs.First.{firstOf}
+use Rattle.questions.specs.Hits.{Hit, solidHits, enclosedCount, lowestEnclosed}
+use Rattle.questions.specs.First.{firstOf}
 use Rattle.scene.specs.View.{solid}
 use Rattle.questions.specs.Answers.{orRefuse, countsIn, countedOf, crossOr, enclosureIn, verdictIn, verdictOf, listingIn, insideIn}
 use Rattle.questions.specs.declared.Counted.the-variants as answers

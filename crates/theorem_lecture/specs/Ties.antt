@@ -13,10 +13,10 @@ use Rattle.scene.specs.Faces.{isCorner, hasBoth}
 use Rattle.judge.specs.Judge.{judged}
 use Rattle.judge.specs.declared.Judged.the-variants.{Accepted}
 use Rattle.rules.specs.Write.{bytesOf}
-use Rattle.scene_edges.specs.Edges.{joined}
+use Rattle.scene.specs.Edges.{joined}
 use Rattle.pierce_masks.specs.Faces.{isOdd}
-use Rattle.question_listing.specs.First.{firstOf}
-use Rattle.question_listing.specs.Hits.{faceHits, edgeHits, pairHits, vertexHits, solidHits, enclosedVertex, lowestEnclosed}
+use Rattle.questions.specs.First.{firstOf}
+use Rattle.questions.specs.Hits.{faceHits, edgeHits, pairHits, vertexHits, solidHits, enclosedVertex, lowestEnclosed}
 use Rattle.questions.specs.Answers.{orRefuse, enclosureIn, verdictIn, verdictOf, listingIn}
 use Rattle.questions.specs.declared.Verdict.the-variants.{Cross, Apart}
 use Rattle.theorem_demands.specs.Marked.Computing.{judging, piercing}

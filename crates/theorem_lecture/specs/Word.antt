@@ -11,8 +11,8 @@ use Rattle.laws.specs.Range.{fold, over, more, countOf, lowestOf}
 use Rattle.scene.specs.View.{viewOf, solid}
 use Rattle.judge.specs.Judge.{judged}
 use Rattle.judge.specs.declared.Judged.the-variants.{Accepted}
-use Rattle.question_listing.specs.Hits.{Hit, enclosedVertex, enclosedCount, lowestEnclosed}
-use Rattle.question_listing.specs.First.{firstOf}
+use Rattle.questions.specs.Hits.{Hit, enclosedVertex, enclosedCount, lowestEnclosed}
+use Rattle.questions.specs.First.{firstOf}
 use Rattle.questions.specs.Answers.{orRefuse, countsIn, insideIn, crossOr, enclosureIn, listingIn, verdictIn, verdictOf, verdictNumber}
 use Rattle.questions.specs.declared.Counts.{Counts}
 use Rattle.questions.specs.declared.Verdict.the-variants.{AInB, BInA, Apart}

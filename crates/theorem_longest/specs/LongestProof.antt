@@ -23,7 +23,7 @@ use Rattle.pierce.specs.Closed.{Closed, closed-by-edges}
 use Rattle.pierce.specs.Formula.{pierced}
 use Rattle.survey_sides.specs.Sides.{above}
 use Rattle.survey_sides.specs.Crossing.{pierced-differs}
-use Rattle.question_listing.specs.Hits.{PierceView, Hit, faceHits, edgeHits, pairHits, pairsAt, vertexHits, solidHits}
+use Rattle.questions.specs.Hits.{PierceView, Hit, faceHits, edgeHits, pairHits, pairsAt, vertexHits, solidHits}
 use Rattle.survey_edges.specs.Sums.{sumOf, ones-sum, digit-le}
 use Rattle.survey_edges.specs.Runs.{upTo-length, only-length}
 use Rattle.survey_edges.specs.Pairs.{pairSum, pairs-le, list-most}

@@ -11,7 +11,7 @@ use Rattle.laws.specs.Decides.{and-iff, differ-iff}
 use Rattle.judge.specs.Judge.{judged}
 use Rattle.judge.specs.declared.Judged.{Judged}
 use Rattle.judge.specs.declared.Judged.the-variants.{Accepted, Refused}
-use Rattle.question_listing.specs.Hits.{Hit}
+use Rattle.questions.specs.Hits.{Hit}
 use Rattle.scene.specs.View.{viewOf}
 use Rattle.questions.specs.Answers.{orRefuse, verdictOf, countedOf, listingIn}
 use Rattle.questions.specs.declared.Counts.{Counts}

@@ -2,7 +2,7 @@
 use native.Mathlib.Omega.{arith}
 use denote.Ref.{now}
 use mathlib.Core.Path.{_∙_}
-use Rattle.question_listing.specs.Hits.{viewIn}
+use Rattle.questions.specs.Hits.{viewIn}
 use Rattle.survey_edges.specs.Room.{solid-room}
 use Rattle.survey_enclosed.specs.OddsProof.{odds-are}
 use Rattle.survey.specs.Laws.{filled-edges, marked-edges, ends-in}

@@ -1,7 +1,7 @@
 -- Each solid by its own words, narrowed by the other's; what was told for A leaves the words of B's vertices empty.
 use denote.Ref.{now}
-use Rattle.question_listing.specs.Hits.{viewIn}
-use Rattle.survey_setup.specs.Narrowing.{blank-new, parts-asked, parts-told, blank-told}
+use Rattle.questions.specs.Hits.{viewIn}
+use Rattle.survey_narrow.specs.Narrowing.{blank-new, parts-asked, parts-told, blank-told}
 use borrow.Author.Needs.{needs}
 use Rattle.survey.proofs.survey_scene.Statement.{statement}
 use Rattle.survey.proofs.survey_scene.Tie as tie

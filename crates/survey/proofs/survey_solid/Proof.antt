@@ -1,7 +1,7 @@
 -- The words are told; the tables that narrow the questions stay empty.
 use denote.Ref.{now}
-use Rattle.question_listing.specs.Hits.{viewIn}
-use Rattle.survey_setup.specs.Narrowing.{parted-new}
+use Rattle.questions.specs.Hits.{viewIn}
+use Rattle.survey_narrow.specs.Narrowing.{parted-new}
 use borrow.Author.Needs.{needs}
 use Rattle.survey.proofs.survey_solid.Statement.{statement}
 use Rattle.survey.proofs.survey_solid.Tie as tie

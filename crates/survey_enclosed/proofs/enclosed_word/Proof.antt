@@ -2,7 +2,7 @@
 use native.Mathlib.Omega.{arith}
 use denote.Ref.{now}
 use lib.Pow.{pow-pos}
-use Rattle.question_listing.specs.Hits.{viewIn}
+use Rattle.questions.specs.Hits.{viewIn}
 use Rattle.survey_enclosed.specs.Walk.{Reached}
 use Rattle.survey_enclosed.specs.WalkProof.{reached-none, reached-all}
 use Rattle.survey_enclosed.specs.StepProof.{here, step-reached, step-less}

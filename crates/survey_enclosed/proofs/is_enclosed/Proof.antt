@@ -1,7 +1,7 @@
 -- The oddness of the mask toward the far point, asked for against the other solid.
 use mathlib.Core.Path.{ap, _∙_}
 use Rattle.pierce_masks.specs.Faces.{isOdd}
-use Rattle.question_listing.specs.Hits.{enclosedVertex}
+use Rattle.questions.specs.Hits.{enclosedVertex}
 use borrow.Author.Needs.{needs}
 use Rattle.survey_enclosed.proofs.is_enclosed.Statement.{statement}
 use Rattle.survey_enclosed.proofs.is_enclosed.Tie as tie

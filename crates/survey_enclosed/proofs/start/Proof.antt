@@ -3,7 +3,7 @@ use mathlib.Core.Path.{refl}
 use native.Mathlib.Omega.{arith}
 use lib.Bits.{bitOr}
 use lib.Count.{trailing-le}
-use Rattle.survey_links.specs.Bits.{word-first}
+use Rattle.survey_edges.specs.Bits.{word-first}
 use Rattle.survey_enclosed.specs.WalkProof.{started-known, started-asked, told-yes, told-no}
 use borrow.Author.Needs.{needs}
 use Rattle.survey_enclosed.proofs.start.Statement.{statement}

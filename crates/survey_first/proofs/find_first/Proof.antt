@@ -1,8 +1,8 @@
 -- The first look, and where it finds nothing all edges.
 use denote.Ref.{now}
-use Rattle.question_listing.specs.Hits.{viewIn}
+use Rattle.questions.specs.Hits.{viewIn}
 use Rattle.survey_sides.specs.Slopes.{zeros-sloped}
-use Rattle.survey_setup.specs.Sides.{Begun}
+use Rattle.survey_narrow.specs.Sides.{Begun}
 use Rattle.survey_first.specs.FindFirst.{sought-early}
 use borrow.Author.Needs.{needs}
 use Rattle.survey_first.proofs.find_first.Statement.{statement}

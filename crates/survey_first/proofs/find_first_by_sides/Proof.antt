@@ -1,7 +1,7 @@
 -- A's edges, then B's; where none pierces no edge is odd.
 use denote.Ref.{now}
-use Rattle.question_listing.specs.Hits.{viewIn, solidHits}
-use Rattle.survey_setup.specs.Narrowing.{blank-new, parts-asked, parts-told, blank-told}
+use Rattle.questions.specs.Hits.{viewIn, solidHits}
+use Rattle.survey_narrow.specs.Narrowing.{blank-new, parts-asked, parts-told, blank-told}
 use Rattle.survey_first.specs.FindFirst.{none-first, sought-in-a, sought-in-b, sought-none}
 use borrow.Author.Needs.{needs}
 use Rattle.survey_first.proofs.find_first_by_sides.Statement.{statement}

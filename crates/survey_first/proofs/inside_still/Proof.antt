@@ -1,7 +1,7 @@
 -- No edge is odd.
 use denote.Ref.{now}
-use Rattle.survey_links.specs.Links.{words}
-use Rattle.question_listing.specs.Hits.{viewIn}
+use Rattle.survey_edges.specs.Links.{words}
+use Rattle.questions.specs.Hits.{viewIn}
 use Rattle.survey_first.specs.Still.{odds-still}
 use borrow.Author.Needs.{needs}
 use Rattle.survey_first.proofs.inside_still.Statement.{statement}

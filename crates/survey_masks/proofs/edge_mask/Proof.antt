@@ -1,5 +1,5 @@
 -- The mask is asked for against the other solid.
-use Rattle.question_listing.specs.Hits.{edgeMask}
+use Rattle.questions.specs.Hits.{edgeMask}
 use Rattle.survey_narrow.specs.Lent.{around}
 use borrow.Author.Needs.{needs}
 use Rattle.survey_masks.proofs.edge_mask.Statement.{statement}

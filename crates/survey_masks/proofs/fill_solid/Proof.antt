@@ -4,7 +4,7 @@ use mathlib.Core.Path.{_≡_}
 use native.Mathlib.Omega.{arith}
 use denote.Ref.{now}
 use Rattle.laws.specs.Runs.{upTo}
-use Rattle.question_listing.specs.Hits.{viewIn}
+use Rattle.questions.specs.Hits.{viewIn}
 use Rattle.survey_edges.specs.Edges.{vertexEdges, solidEdges, Filled}
 use Rattle.survey_edges.specs.Room.{room}
 use Rattle.survey_masks.specs.Store.{filled-none, filled-more}

@@ -8,8 +8,8 @@ use lib.Bits.{and-le-r}
 use lib.Count.{trailing-le}
 use lib.Pow.{pow-mono}
 use Rattle.laws.specs.Walk.{walk-less}
-use Rattle.survey_links.specs.Bits.{word-first}
-use Rattle.question_listing.specs.Hits.{viewIn}
+use Rattle.survey_edges.specs.Bits.{word-first}
+use Rattle.questions.specs.Hits.{viewIn}
 use Rattle.survey_edges.specs.Edges.{bitEdges, vertexEdges}
 use Rattle.survey_edges.specs.Order.{higher}
 use Rattle.survey_masks.specs.Store.{Filling, filling-start, filling-room, filling-turn, filling-end}

@@ -24,11 +24,11 @@ use Rattle.rules.specs.Accepted.{accepted}
 use Rattle.rules.specs.Refused as table
 use Rattle.record.specs.Shown.{refusal, shown, ifAccepted}
 use Rattle.pierce.specs.Formula.{pierced}
-use Rattle.question_listing.specs.Hits.{lowestEnclosed}
-use Rattle.question_listing.specs.WritePairs.{allIn}
-use Rattle.question_listing.specs.First.{firstOf}
-use Rattle.question_listing.specs.declared.find.Found.{Found}
-use Rattle.question_listing.specs.declared.find.Found.the-variants.{Nothing, Pair}
+use Rattle.questions.specs.Hits.{lowestEnclosed}
+use Rattle.questions.specs.WritePairs.{allIn}
+use Rattle.questions.specs.First.{firstOf}
+use Rattle.questions.specs.declared.find.Found.{Found}
+use Rattle.questions.specs.declared.find.Found.the-variants.{Nothing, Pair}
 use Rattle.scene.specs.View.{viewOf, solidA, solidB, solid}
 use Rattle.questions.specs.Laws.{answered-then}
 use Rattle.questions.specs.Answers.{orRefuse, pierceView, refused, yesNo, isVertex, isSolid, signIn, signFault}

@@ -9,11 +9,11 @@ use Rattle.laws.specs.Lists.{Each, each-map}
 use Rattle.laws.specs.Runs.{each-upTo, each-only, rising-only, rising-upTo}
 use Rattle.laws.specs.Rising.{Less, Rising}
 use Rattle.scene.specs.Faces.{Vertex}
-use Rattle.scene_edges.specs.Edges.{joined}
+use Rattle.scene.specs.Edges.{joined}
 use Rattle.scene.specs.declared.Solid.{Solid}
 use Rattle.pierce.specs.Formula.{pierced}
-use Rattle.question_listing.specs.Hits.{PierceView, Hit, faceHits, edgeHits, pairHits, pairsAt, vertexHits, solidHits}
-use Rattle.question_listing.specs.WritePairs.{three}
+use Rattle.questions.specs.Hits.{PierceView, Hit, faceHits, edgeHits, pairHits, pairsAt, vertexHits, solidHits}
+use Rattle.questions.specs.WritePairs.{three}
 
 -- ---- the hits of one solid's edges
 

@@ -14,8 +14,8 @@ use Rattle.pierce.specs.Formula.{pierced}
 use Rattle.pierce_masks.specs.Faces.{isOdd}
 use Rattle.pierce.specs.Against.{maskAgainst}
 use Rattle.scene.specs.declared.Solid.{Solid}
-use Rattle.survey_links.specs.Bits.{same-bits}
-use Rattle.question_listing.specs.Hits.{enclosedVertex}
+use Rattle.survey_edges.specs.Bits.{same-bits}
+use Rattle.questions.specs.Hits.{enclosedVertex}
 use Rattle.theorem_demands.specs.Words.{farPoint, Pierces, Enclosed}
 use Rattle.theorem_demands.specs.Exact.{numbered, MaskIs, Odd}
 use Rattle.theorem_demands.specs.Words.Solids.{InWords}

@@ -17,11 +17,11 @@ use Rattle.scene.specs.Faces.{Corner, Both, Vertex, FaceOf, both-iff}
 use Rattle.scene.specs.declared.Face.{Face}
 use Rattle.judge.specs.Judge.{judged}
 use Rattle.judge.specs.declared.Judged.the-variants.{Accepted}
-use Rattle.scene_edges.specs.Edges.{joined, Corners}
+use Rattle.scene.specs.Edges.{joined, Corners}
 use Rattle.scene.specs.declared.Solid.{Solid}
 use Rattle.pierce.specs.Formula.{pierced}
-use Rattle.question_listing.specs.Hits.{PierceView, Hit, Own, faceHits, edgeHits, pairHits, pairsAt, vertexHits, solidHits}
-use Rattle.question_listing.specs.WritePairs.{three}
+use Rattle.questions.specs.Hits.{PierceView, Hit, Own, faceHits, edgeHits, pairHits, pairsAt, vertexHits, solidHits}
+use Rattle.questions.specs.WritePairs.{three}
 use Rattle.scene.specs.View.{viewOf, solidA, solidB, solid}
 use Rattle.questions.specs.Answers.{listingIn, pierceView}
 use Rattle.survey_scene.specs.Ready.{sound-a, sound-b}

@@ -26,8 +26,8 @@ use Rattle.rules.specs.Files.{accepted-files}
 use Rattle.orient.specs.Terms.{positiveAt, termsAt}
 use Rattle.orient.specs.declared.Terms.{Terms}
 use Rattle.pierce.specs.Formula.{pierced}
-use Rattle.question_listing.specs.Hits.{enclosedVertex, enclosedCount}
-use Rattle.question_listing.specs.WritePairs.{allIn}
+use Rattle.questions.specs.Hits.{enclosedVertex, enclosedCount}
+use Rattle.questions.specs.WritePairs.{allIn}
 use Rattle.scene.specs.View.{viewOf, solid}
 use Rattle.scene.specs.declared.Solid.{Solid}
 use Rattle.questions.specs.Laws.{answered-then}

@@ -15,10 +15,10 @@ use Rattle.scene.specs.Records.{vertsA, verts}
 use Rattle.judge.specs.Judge.{judged}
 use Rattle.judge.specs.declared.Judged.the-variants.{Accepted}
 use Rattle.scene.specs.declared.Solid.{Solid}
-use Rattle.question_listing.specs.Hits.{Hit, enclosedVertex, lowestEnclosed}
-use Rattle.question_listing.specs.First.{firstOf}
-use Rattle.question_listing.specs.WritePairs.{three}
-use Rattle.question_listing.specs.declared.find.Found.the-variants.{Nothing, Pair}
+use Rattle.questions.specs.Hits.{Hit, enclosedVertex, lowestEnclosed}
+use Rattle.questions.specs.First.{firstOf}
+use Rattle.questions.specs.WritePairs.{three}
+use Rattle.questions.specs.declared.find.Found.the-variants.{Nothing, Pair}
 use Rattle.scene.specs.View.{viewOf, solidA, solidB, solid}
 use Rattle.questions.specs.Answers.{enclosureIn, verdictIn, listingIn, pierceView}
 use Rattle.questions.specs.declared.Verdict.{Verdict}

@@ -27,7 +27,7 @@ use Rattle.rules.specs.Accepted.{accepted}
 use Rattle.rules.specs.Refused as table
 use Rattle.orient.specs.Terms.{terms, orientation, positiveAt}
 use Rattle.pierce.specs.Formula.{canHelp, helper, counts, sidesCount, formula, pierces}
-use Rattle.question_listing.specs.WritePairs.{partIn}
+use Rattle.questions.specs.WritePairs.{partIn}
 use Rattle.scene.specs.View.{viewOf}
 use Rattle.questions.specs.Answers.{orRefuse, IsListed, IsPart, listingIn, listedIn, heldIn}
 use Rattle.questions.specs.declared.Listed.{Listed}

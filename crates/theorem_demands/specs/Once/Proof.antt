@@ -18,8 +18,8 @@ use Rattle.scene.specs.declared.Face.{Face}
 use Rattle.pierce_masks.specs.Faces.{valueOf}
 use Rattle.pierce_masks.specs.declared.Mask.{Mask}
 use Rattle.scene.specs.declared.Solid.{Solid}
-use Rattle.question_listing.specs.Hits.{PierceView}
-use Rattle.question_listing.specs.declared.find.Found.{Found}
+use Rattle.questions.specs.Hits.{PierceView}
+use Rattle.questions.specs.declared.find.Found.{Found}
 use Rattle.survey_edges.specs.Table.{Entry, entryIn, entriesIn}
 use Rattle.survey_enclosed.specs.Walk.{insideWord}
 use Rattle.survey.specs.Survey.{Surveyed}

@@ -15,17 +15,17 @@ use Rattle.scene.specs.declared.Face.{Face}
 use Rattle.scene.specs.declared.Solid.{Solid}
 use Rattle.orient.specs.Signs.{Upto, Four, Six, ne-sym}
 use Rattle.orient.specs.Terms.{positiveAt}
-use Rattle.scene_edges.specs.Edges.{joined}
+use Rattle.scene.specs.Edges.{joined}
 use Rattle.pierce.specs.Formula.{helper, sidesCount, formula, pierces, pierced}
 use Rattle.pierce.specs.Helper.{helper-found}
 use Rattle.pierce.specs.Beside.{Beside, BesideAll}
 use Rattle.pierce_masks.specs.Faces.{isOdd}
 use Rattle.pierce.specs.Against.{maskAgainst}
-use Rattle.question_listing.specs.Hits.{PierceView, Hit, faceHits, edgeHits, pairHits, pairsAt, vertexHits, solidHits, enclosedVertex}
-use Rattle.question_listing.specs.Hits.{enclosedCount}
-use Rattle.question_listing.specs.Hits.{lowestEnclosed}
-use Rattle.question_listing.specs.Hits.{Own, Sound}
-use Rattle.question_listing.specs.First.{firstOf}
+use Rattle.questions.specs.Hits.{PierceView, Hit, faceHits, edgeHits, pairHits, pairsAt, vertexHits, solidHits, enclosedVertex}
+use Rattle.questions.specs.Hits.{enclosedCount}
+use Rattle.questions.specs.Hits.{lowestEnclosed}
+use Rattle.questions.specs.Hits.{Own, Sound}
+use Rattle.questions.specs.First.{firstOf}
 use Rattle.questions.specs.Answers.{pierceView, maskIn, listingIn, insideIn, crossOr, enclosureIn, verdictIn}
 use Rattle.questions.specs.declared.Verdict.{Verdict}
 use Rattle.questions.specs.declared.Verdict.the-variants.{AInB, BInA, Apart}

@@ -15,8 +15,8 @@ use Rattle.scene.specs.declared.Solid.{Solid}
 use Rattle.scene.specs.View.{viewOf, solid}
 use Rattle.judge.specs.Judge.{judged}
 use Rattle.judge.specs.declared.Judged.the-variants.{Accepted}
-use Rattle.scene_edges.specs.Edges.{joined, Corners}
-use Rattle.question_listing.specs.Hits.{PierceView, edgeMask}
+use Rattle.scene.specs.Edges.{joined, Corners}
+use Rattle.questions.specs.Hits.{PierceView, edgeMask}
 use Rattle.survey_edges.specs.Table.{Entry}
 use Rattle.survey_edges.specs.Edges.{entry, vertexEdges, solidEdges}
 use Rattle.questions.specs.Answers.{pierceView, maskIn}

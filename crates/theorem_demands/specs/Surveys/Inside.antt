@@ -7,7 +7,7 @@ use native.Mathlib.Omega.{arith}
 use Rattle.laws.specs.Mask.{mask-lt, mask-test}
 use Rattle.scene.specs.View.{viewOf, solid}
 use Rattle.scene.specs.declared.Solid.{Solid}
-use Rattle.question_listing.specs.Hits.{enclosedVertex}
+use Rattle.questions.specs.Hits.{enclosedVertex}
 use Rattle.survey_enclosed.specs.Walk.{insideWord}
 use Rattle.questions.specs.Answers.{pierceView}
 use Rattle.theorem_demands.specs.Words.Solids.{InWords, a-worded, b-worded}

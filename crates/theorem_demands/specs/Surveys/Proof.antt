@@ -8,9 +8,9 @@ use denote.Ref.{now}
 use Rattle.scene.specs.View.{viewOf, solid}
 use Rattle.judge.specs.Judge.{judged}
 use Rattle.judge.specs.declared.Judged.the-variants.{Accepted}
-use Rattle.question_listing.specs.Hits.{Hit}
-use Rattle.question_listing.specs.PairsWritten.{pairs-written-part}
-use Rattle.question_listing.specs.declared.find.Found.{Found}
+use Rattle.questions.specs.Hits.{Hit}
+use Rattle.questions.specs.PairsWritten.{pairs-written-part}
+use Rattle.questions.specs.declared.find.Found.{Found}
 use Rattle.survey_enclosed.specs.Walk.{insideWord}
 use Rattle.survey.specs.Laws.{surveyed-pairs}
 use Rattle.survey.specs.declared.Survey.{Survey}

@@ -3,10 +3,10 @@ use mathlib.Core.Path.{refl}
 use lib.Count.{ones}
 use Rattle.laws.specs.Mask.{maskOf}
 use Rattle.laws.specs.Runs.{upTo}
-use Rattle.scene_edges.specs.Edges.{joined}
+use Rattle.scene.specs.Edges.{joined}
 use Rattle.pierce_masks.specs.Faces.{isOdd}
-use Rattle.question_listing.specs.Hits.{faceHits, edgeHits, pairHits, vertexHits, solidHits, enclosedVertex, enclosedCount, lowestEnclosed}
-use Rattle.question_listing.specs.First.{firstOf}
+use Rattle.questions.specs.Hits.{faceHits, edgeHits, pairHits, vertexHits, solidHits, enclosedVertex, enclosedCount, lowestEnclosed}
+use Rattle.questions.specs.First.{firstOf}
 use Rattle.scene.specs.View.{solid}
 use Rattle.scene.specs.Faces.{isCorner, hasBoth}
 use Rattle.questions.specs.Answers.{orRefuse, countsIn, countedOf, enclosureIn, verdictIn, verdictOf, listingIn, insideIn}

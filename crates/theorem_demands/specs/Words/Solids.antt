@@ -10,7 +10,7 @@ use Rattle.scene.specs.Faces.{Vertex}
 use Rattle.scene.specs.Records.{vertsA}
 use Rattle.scene.specs.View.{viewOf, solidA, solidB, solid}
 use Rattle.scene.specs.declared.Solid.{Solid}
-use Rattle.question_listing.specs.Hits.{enclosedVertex}
+use Rattle.questions.specs.Hits.{enclosedVertex}
 use Rattle.questions.specs.Answers.{pierceView, maskIn, otherSolid, isEnclosed}
 use Rattle.theorem_demands.specs.Words.{SolidNumber, VertexOf, VertexOfA, VertexOfB, FaceOfA, FaceOfB}
 use Rattle.theorem_demands.specs.Exact.{solidOf}

@@ -1,6 +1,6 @@
 -- A's first, else B's.
 use Rattle.survey.specs.Survey.{pairsOf}
-use Rattle.question_listing.specs.First.{first-left, first-right}
+use Rattle.questions.specs.First.{first-left, first-right}
 use borrow.Author.Needs.{needs}
 use Rattle.survey.proofs.answers.first_pair.Statement.{statement}
 use Rattle.survey.proofs.answers.first_pair.Tie as tie

@@ -1,7 +1,7 @@
 -- A's pairs, then B's.
 use native.Mathlib.Omega.{arith}
 use denote.Ref.{now}
-use Rattle.question_listing.specs.PairsWritten.{writes-more}
+use Rattle.questions.specs.PairsWritten.{writes-more}
 use Rattle.survey.specs.Survey.{pairsOf}
 use Rattle.survey.specs.Laws.{table-most}
 use borrow.Author.Needs.{needs}

@@ -3,7 +3,7 @@ use Prim.Native.Nat.{_-_, _≤_}
 use mathlib.Core.Path.{_≡_}
 use mathlib.Core.List.{[]}
 use native.Mathlib.Omega.{arith}
-use Rattle.question_listing.specs.First.{first-start, first-more, first-found, first-end}
+use Rattle.questions.specs.First.{first-start, first-more, first-found, first-end}
 use Rattle.survey_edges.specs.Table.{tableHits}
 use borrow.Author.Needs.{needs}
 use Rattle.survey_edges.proofs.first.find.Statement.{statement}

@@ -1,6 +1,6 @@
 -- Ends and mask are read, and the mask tells the first face.
 use mathlib.Core.Path.{_∙_}
-use Rattle.question_listing.specs.First.{firstOf}
+use Rattle.questions.specs.First.{firstOf}
 use Rattle.survey_edges.specs.Table.{entryHits}
 use borrow.Author.Needs.{needs}
 use Rattle.survey_edges.proofs.first.find_entry.Statement.{statement}

@@ -5,7 +5,7 @@ use native.Mathlib.Omega.{arith}
 use borrow.Author.Tests.{not-true, not-false}
 use lib.Count.{trailing-le}
 use Rattle.pierce_masks.specs.Faces.{width, valueOf, some-face, no-face}
-use Rattle.question_listing.specs.declared.find.Found.the-variants.{Pair}
+use Rattle.questions.specs.declared.find.Found.the-variants.{Pair}
 use Rattle.survey_edges.specs.Table.{entryOf}
 use Rattle.survey_edges.specs.Entries.{words-fit, entry-none, entry-first}
 use borrow.Author.Needs.{needs}

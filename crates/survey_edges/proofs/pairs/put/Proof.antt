@@ -4,7 +4,7 @@ use native.Mathlib.Omega.{arith}
 use native.Mathlib.Numerals.{towards-suc}
 use borrow.Author.Tests.{le-leb, lt-leb}
 use lib.ListN.{length-set}
-use Rattle.question_listing.specs.WritePairs.{stepped}
+use Rattle.questions.specs.WritePairs.{stepped}
 use borrow.Author.Needs.{needs}
 use Rattle.survey_edges.proofs.pairs.put.Statement.{statement}
 use Rattle.survey_edges.proofs.pairs.put.Tie as tie

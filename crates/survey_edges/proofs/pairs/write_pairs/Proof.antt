@@ -3,8 +3,8 @@ use Prim.Native.Nat.{_-_, _≤_}
 use native.Mathlib.Omega.{arith}
 use denote.Ref.{now}
 use Rattle.pierce_masks.specs.Faces.{width}
-use Rattle.question_listing.specs.WritePairs.{WritesPairs}
-use Rattle.question_listing.specs.PairsWritten.{writes-start, writes-next, writes-all, reached}
+use Rattle.questions.specs.WritePairs.{WritesPairs}
+use Rattle.questions.specs.PairsWritten.{writes-start, writes-next, writes-all, reached}
 use Rattle.survey_edges.specs.Table.{entryIn, entryHits, tableHits}
 use Rattle.survey_edges.specs.Entries.{entry-most}
 use borrow.Author.Needs.{needs}

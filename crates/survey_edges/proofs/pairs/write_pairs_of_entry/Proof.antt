@@ -3,7 +3,7 @@ use native.Mathlib.Omega.{arith}
 use denote.Ref.{now}
 use lib.ListN.{getD}
 use Prim.Native.Nat.{_+_, _*_}
-use Rattle.question_listing.specs.PairsWritten.{writes-same, writes-more}
+use Rattle.questions.specs.PairsWritten.{writes-same, writes-more}
 use Rattle.survey_edges.specs.Table.{entryIn}
 use Rattle.survey_edges.specs.Entries.{hits-most, entry-words}
 use borrow.Author.Needs.{needs}

@@ -5,8 +5,8 @@ use native.Mathlib.Omega.{arith}
 use lib.Bits.{and-le-r}
 use lib.Count.{trailing-le}
 use Rattle.laws.specs.Walk.{walk-less}
-use Rattle.survey_links.specs.Bits.{word-first}
-use Rattle.question_listing.specs.WritePairs.{maskHits}
+use Rattle.survey_edges.specs.Bits.{word-first}
+use Rattle.questions.specs.WritePairs.{maskHits}
 use Rattle.survey_edges.specs.Entries.{hits-most}
 use Rattle.survey_edges.specs.Rest.{Rest, bitHits, rest-start, rest-turn, rest-end}
 use borrow.Author.Needs.{needs}

@@ -5,8 +5,8 @@ use mathlib.Core.List.{[]}
 use native.Mathlib.Omega.{arith}
 use denote.Ref.{now}
 use Rattle.survey_edges.specs.Order.{higher}
-use Rattle.question_listing.specs.First.{first-start, first-more}
-use Rattle.question_listing.specs.Hits.{viewIn, Own}
+use Rattle.questions.specs.First.{first-start, first-more}
+use Rattle.questions.specs.Hits.{viewIn, Own}
 use Rattle.survey_first.specs.First.{hitsTo, all-found, all-end}
 use borrow.Author.Needs.{needs}
 use Rattle.survey_first.proofs.first.first_of.Statement.{statement}

@@ -2,7 +2,7 @@
 use Prim.Native.Nat.{ℕ}
 use mathlib.Core.Path.{ap, _∙_}
 use native.Mathlib.Omega.{arith}
-use Rattle.question_listing.specs.First.{firstOf}
+use Rattle.questions.specs.First.{firstOf}
 use Rattle.survey_edges.specs.Table.{entryHits}
 use Rattle.survey_first.proofs.first.first_of_edge.Statement.{statement}
 use Rattle.survey_first.proofs.first.first_of_edge.Tie as tie

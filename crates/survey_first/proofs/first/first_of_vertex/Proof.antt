@@ -7,8 +7,8 @@ use denote.Ref.{now}
 use lib.Bits.{and-le-r}
 use lib.Count.{trailing-le}
 use Rattle.laws.specs.Walk.{walk-less}
-use Rattle.question_listing.specs.Hits.{viewIn}
-use Rattle.question_listing.specs.First.{firstOf}
+use Rattle.questions.specs.Hits.{viewIn}
+use Rattle.questions.specs.First.{firstOf}
 use Rattle.survey_edges.specs.Table.{Entry}
 use Rattle.survey_first.specs.First.{hitsOf, Left, left-own, left-found, left-more, left-end}
 use borrow.Author.Needs.{needs}

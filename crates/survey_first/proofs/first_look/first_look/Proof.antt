@@ -2,7 +2,7 @@
 use Prim.Native.Nat.{_+_}
 use native.Mathlib.Omega.{arith}
 use denote.Ref.{now}
-use Rattle.question_listing.specs.Hits.{viewIn, Own}
+use Rattle.questions.specs.Hits.{viewIn, Own}
 use Rattle.survey_first.specs.FirstLook.{side-asked, higher-first, glimpsed-first}
 use borrow.Author.Needs.{needs}
 use Rattle.survey_first.proofs.first_look.first_look.Statement.{statement}

@@ -3,8 +3,8 @@ use Prim.Native.Nat.{ℕ}
 use mathlib.Core.Path.{ap, _∙_}
 use native.Mathlib.Omega.{arith}
 use denote.Ref.{now}
-use Rattle.question_listing.specs.First.{firstOf}
-use Rattle.question_listing.specs.Hits.{viewIn, edgeMask}
+use Rattle.questions.specs.First.{firstOf}
+use Rattle.questions.specs.Hits.{viewIn, edgeMask}
 use Rattle.survey_first.specs.FirstLook.{side-asked}
 use Rattle.survey_edges.specs.Table.{entryHits}
 use borrow.Author.Needs.{needs}

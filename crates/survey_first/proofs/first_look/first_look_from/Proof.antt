@@ -8,8 +8,8 @@ use lib.Bits.{and-le-r}
 use lib.Count.{trailing-le}
 use Rattle.scene.specs.Arrays.{rowIn, faceIn}
 use Rattle.survey_sides.specs.Slopes.{Sloped}
-use Rattle.question_listing.specs.Hits.{viewIn}
-use Rattle.question_listing.specs.First.{firstOf}
+use Rattle.questions.specs.Hits.{viewIn}
+use Rattle.questions.specs.First.{firstOf}
 use Rattle.survey_edges.specs.Table.{Entry}
 use Rattle.survey_first.specs.First.{hitsOf, Left, left-own, left-found, left-more}
 use borrow.Author.Needs.{needs}
