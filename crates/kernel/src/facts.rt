@@ -14,9 +14,9 @@ use survey::answers::count_inside;
 use survey_edges::ENDS;
 use survey_edges::Ends;
 use survey_edges::Masks;
-use survey_scene::write_read;
 use survey_scene::survey_of;
 use survey_scene::verdict_read;
+use survey_scene::write_read;
 
 // Of an accepted scene.
 fn gather(engine: Engine, s: &[u8], out: &mut [u16]) -> Facts

@@ -12,8 +12,8 @@ use scene::Refusal;
 use survey_edges::ENDS;
 use survey_edges::Ends;
 use survey_edges::Masks;
-use survey_scene::write_read;
 use survey_scene::survey_of;
+use survey_scene::write_read;
 
 // Of an accepted scene.
 fn write_pairs(engine: Engine, s: &[u8], from: usize, all: bool, out: &mut [u16]) -> usize

@@ -73,7 +73,7 @@ module _ (s out : List ℕ) where
   room-lacks h =
       refuses s out refl
       (sym (ap (λ (b : Bool). cond b (Scene (length s)) (Refused (OfScene (BufferTooShort (length s)))))
-          (lt-leb (length s) (length out) h)))
+      (lt-leb (length s) (length out) h)))
 
   pub room-serves : {out′ : List ℕ} → length s ≤ length out → out′ ≡ s ++ drop (length s) out →
       Makes (placed s (length out)) s out out′ (Scene (length s))
@@ -82,7 +82,7 @@ module _ (s out : List ℕ) where
       record {
         answer =
             sym (ap (λ (b : Bool). cond b (Scene (length s)) (Refused (OfScene (BufferTooShort (length s)))))
-                (le-leb (length s) (length out) h));
+            (le-leb (length s) (length out) h));
         left = e;
       }
 

@@ -8,8 +8,8 @@ ghost use Rattle.off_solids.specs.Solid.{past, toldOf, pointOf, weightFr
 ghost use Rattle.off_solids.specs.Fitted.{nearest, fittedRow, fittedFace};
 use off_items::next;
 use off_items::numbers::Number;
-use off_items::numbers::size;
 use off_items::numbers::signed_number;
+use off_items::numbers::size;
 use scene::Face;
 
 // A point's four numbers, the weight last.

@@ -134,7 +134,7 @@ module _ (X Y Z W : ℕ) where
   meet-within : {l m : Line} → LineSize X Y Z W l → LineSize X Y Z W m → detOfLinesSize l m ≤ products
   meet-within p q =
       add-le-add (alternating-size (p .xy) (q .zw) (p .xz) (q .yw) (p .xw) (q .yz))
-          (alternating-size (p .yz) (q .xw) (p .yw) (q .xz) (p .zw) (q .xy))
+      (alternating-size (p .yz) (q .xw) (p .yw) (q .xz) (p .zw) (q .xy))
 
   module _ {a b c d : Row} (p : RowSize X Y Z W a) (q : RowSize X Y Z W b) (r : RowSize X Y Z W c) (s : RowSize X Y Z W d) where
     pub det-within : Some X Y Z W → DetWithin detSize a b c d

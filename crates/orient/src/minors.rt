@@ -52,7 +52,8 @@ fn det_of_lines(l: Line, m: Line) -> i64
     requires { ⌜ detOfLinesSize l m ≤ mostFormed ⌝ }
     ensures { λ r. ⌜ r ≡ detOfLines l m ⌝ }
 {
-    alternating(l.xy, m.zw, l.xz, m.yw, l.xw, m.yz) + alternating(l.yz, m.xw, l.yw, m.xz, l.zw, m.xy)
+    alternating(l.xy, m.zw, l.xz, m.yw, l.xw, m.yz)
+        + alternating(l.yz, m.xw, l.yw, m.xz, l.zw, m.xy)
 }
 
 // The determinant of three rows, their weights left out.

@@ -53,7 +53,11 @@ fn part(a: Point, b: Point, c: Point, d: Point, sa: bool, sb: bool, sc: bool) ->
     requires { ⌜ AreWithin limits a b c d ⌝ }
     ensures { λ r. ⌜ r ≡ directionsPart a b c d sa sb sc ⌝ }
 {
-    triple_product(direction(a, d, sa), direction(b, d, sb), direction(c, d, sc))
+    triple_product(
+        direction(a, d, sa),
+        direction(b, d, sb),
+        direction(c, d, sc),
+    )
 }
 
 // From d to p, a direction; where it is marked, from shift to shift.

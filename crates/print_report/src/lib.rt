@@ -20,8 +20,8 @@ use survey::answers::count_inside;
 use survey::answers::count_pairs;
 use survey_edges::Ends;
 use survey_edges::Masks;
-use survey_scene::write_read;
 use survey_scene::verdict_read;
+use survey_scene::write_read;
 
 // All but the listing.
 pub fn head_read(

@@ -8,10 +8,10 @@ use crate::places::place;
 use crate::records::solid_in;
 use crate::records::start;
 use print::word;
+use scene::edges::is_corner;
 use scene::is_within;
 use scene::read;
 use scene::read::byte;
-use scene::edges::is_corner;
 
 // Corner m is the number at byte b.
 fn cornered(s: &[u8], k: usize, b: usize, m: usize, out: &mut [u8], at: usize) -> usize

@@ -60,7 +60,7 @@ module _ (l : Limits) (s : List ℕ) where
     by-records a b =
         then-next _ _ r 1 3 header-gives (omega arith) (header-iff l s)
         (Iff·trans (then-here _ _ r 10 (gives-wider (suc (checkOrder r)) 10 (omega arith) (omega arith) after-records))
-            (first-refused _ r _ _))
+        (first-refused _ r _ _))
 
     pub by-unused : checkOrder r ≡ 9 → (judgedAt l s ≡ Refused r) ↔
         (HeaderOk l s × (RecordsOk l s × First (unusedFault s) 1 (verts s + 1) r))
@@ -69,7 +69,7 @@ module _ (l : Limits) (s : List ℕ) where
         then-next _ _ r 1 3 header-gives (omega arith) (header-iff l s)
         (then-next _ _ r 4 8 records-give (omega arith) (records-iff l s)
         (Iff·trans (then-here _ _ r 10 (gives-wider (suc (checkOrder r)) 10 (omega arith) (omega arith) edges-give))
-            (first-refused _ r _ _)))
+        (first-refused _ r _ _)))
 
     pub by-edges : checkOrder r ≡ 10 →
         (judgedAt l s ≡ Refused r) ↔ (HeaderOk l s × (RecordsOk l s × (AllUsed s × First (edgeFault s) 0 (faces s) r)))

@@ -32,7 +32,7 @@ abbrev pub inOrder : (k : ℕ) (mark coordinates weight somewhere corners : Bool
 inOrder k mark coordinates weight somewhere corners =
     refuseUnless mark (Mark k)
     (refuseUnless coordinates (Coordinate k)
-        (refuseUnless weight (Weight k) (refuseUnless somewhere (FarAllZero k) (refuseUnless corners (Corner k) Accepted))))
+    (refuseUnless weight (Weight k) (refuseUnless somewhere (FarAllZero k) (refuseUnless corners (Corner k) Accepted))))
 
 pub record Tested (l : Limits) (s : List ℕ) (k : ℕ) : Type 0 where
   pub mark : Bool

@@ -41,7 +41,7 @@ module _ (s : PierceView) (k : Solid) {w : ℕ} (e : w ≡ insideWord s k) where
   inside-ones =
       ap ones e ∙ mask-ones (enclosedVertex s k) (λ u. u) (k .vert0 + 1) (k .verts)
       ∙ sym (count-run (λ u. u) (enclosedVertex s k) (enclosedVertex s k) (k .vert0 + 1) (k .vert0 + 1 + k .verts) (k .verts) (omega arith)
-          (λ u. refl))
+      (λ u. refl))
 
   pub inside-lowest : k .verts ≤ 64 → lowestOfWord w (k .vert0) (k .verts) ≡ lowestEnclosed s k
   unfolding insideWord lowestEnclosed lowestOf over
@@ -69,5 +69,5 @@ module _ (s : PierceView) (k : Solid) {w : ℕ} (e : w ≡ insideWord s k) where
           let f = mask-first (λ m. enclosedVertex s k (k .vert0 + 1 + m)) 64 (k .verts) few e (omega arith) in
           ap (λ (b : Bool). cond b high (k .vert0 + 1 + trailingZeros 64 w)) (ne-eqb w 0 d)
           ∙ sym (lowest-at (enclosedVertex s k) high (k .vert0 + 1) (high - (k .vert0 + 1)) (trailingZeros 64 w) (omega (arith, f .below))
-              (f .passes)
+          (f .passes)
           (λ j a b. sym (ap (enclosedVertex s k) (place j a)) ∙ f .none (j - (k .vert0 + 1)) (omega arith) (omega arith)))

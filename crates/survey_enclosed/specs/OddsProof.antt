@@ -142,7 +142,7 @@ module _ (s : PierceView) (k : Solid) where
       by (no l) (yes d) =
           none-of u v (λ x y b. same-none u v x y d b)
           ∙ sym (ap (λ (w : ℕ). enclosedVertex s k u ⊕ enclosedVertex s k w) (sym d) ∙ law (all λ a. a ⊕ a ≐ false) tt
-              (enclosedVertex s k u))
+          (enclosedVertex s k u))
       by (no l) (no d) =
           ap (λ (p : Entry → Bool). anyIn p (solidEdges s k)) (marks-back u v)
           ∙ edge-odd v u hv hu (omega arith) (sym (joined-back u v) ∙ e)

@@ -8,11 +8,11 @@ ghost use Rattle.survey_enclosed.specs.Odds.{EndsIn, MarksEntry, Marked}
 use pierce_masks::is_odd;
 use survey_edges::Ends;
 use survey_edges::Masks;
-use survey_edges::mask_at;
 use survey_edges::links::VertexSets;
 use survey_edges::links::bit;
 use survey_edges::links::clear;
 use survey_edges::links::join;
+use survey_edges::mask_at;
 
 fn wide(x: u16) -> usize
     ensures { λ r. ⌜ r ≡ x ⌝ }
@@ -37,7 +37,14 @@ fn mark_entry(ends: &Ends, masks: &Masks, j: usize, low: usize, verts: usize, od
 }
 
 // The words of the vertices above low by the first n edges of the table.
-pub fn fill_odds(ends: &Ends, masks: &Masks, n: usize, low: usize, verts: usize, odds: &mut VertexSets)
+pub fn fill_odds(
+    ends: &Ends,
+    masks: &Masks,
+    n: usize,
+    low: usize,
+    verts: usize,
+    odds: &mut VertexSets,
+)
     requires room { ⌜ (n ≤ mostEdges) × (verts ≤ 64) × (low + verts < words) × (length (now odds) ≡ words) ⌝ }
     requires ends { ⌜ ((j : ℕ) → j < n → EndsIn low verts (entryIn (now ends) (now masks) j)) ⌝ }
     ensures { λ _. ⌜ Marked low verts (entriesIn (now (ends .entry)) (now (masks .entry)) n) (now (odds .exit)) ⌝ }

@@ -29,18 +29,18 @@ pub none-first : (l : List Hit) {o : Found} → o ≡ firstOf l → o ≡ Nothin
 none-first l p q = empty-next {l = []} l refl p q
 
 module _ (s : PierceView) (a b : Solid) {r : FirstOrEnclosed} {x : Found} {u v f : ℕ} (pair : x ≡ Pair u v f) (is-r : r ≡ crossedBy u v f)
-    where
-  sought-pair : Pair u v f ≡ firstOf (solidHits s a ++ solidHits s b) → IsFirstOrEnclosed s a b r
-  sought-pair e = rw is-r (record { first = e; a-inside = refl; b-inside = refl })
+  where
+    sought-pair : Pair u v f ≡ firstOf (solidHits s a ++ solidHits s b) → IsFirstOrEnclosed s a b r
+    sought-pair e = rw is-r (record { first = e; a-inside = refl; b-inside = refl })
 
-  pub sought-in-a : x ≡ firstOf (solidHits s a) → IsFirstOrEnclosed s a b r
-  sought-in-a e = sought-pair (first-left (solidHits s a) (solidHits s b) e pair)
+    pub sought-in-a : x ≡ firstOf (solidHits s a) → IsFirstOrEnclosed s a b r
+    sought-in-a e = sought-pair (first-left (solidHits s a) (solidHits s b) e pair)
 
-  pub sought-early : FirstIfFound (solidHits s a) x → IsFirstOrEnclosed s a b r
-  sought-early g = sought-in-a (glimpsed-pair (solidHits s a) x pair g)
+    pub sought-early : FirstIfFound (solidHits s a) x → IsFirstOrEnclosed s a b r
+    sought-early g = sought-in-a (glimpsed-pair (solidHits s a) x pair g)
 
-  pub sought-in-b : {y : Found} → y ≡ firstOf (solidHits s a) → y ≡ Nothing → x ≡ firstOf (solidHits s b) → IsFirstOrEnclosed s a b r
-  sought-in-b of-a none-a e = sought-pair (first-right (solidHits s a) (solidHits s b) of-a none-a (sym pair ∙ e))
+    pub sought-in-b : {y : Found} → y ≡ firstOf (solidHits s a) → y ≡ Nothing → x ≡ firstOf (solidHits s b) → IsFirstOrEnclosed s a b r
+    sought-in-b of-a none-a e = sought-pair (first-right (solidHits s a) (solidHits s b) of-a none-a (sym pair ∙ e))
 
 pub sought-none : (s : PierceView) (a b : Solid) {x y : Found} {p q : ℕ} → x ≡ firstOf (solidHits s a) → x ≡ Nothing →
     y ≡ firstOf (solidHits s b) → y ≡ Nothing → p ≡ insideWord s a → q ≡ insideWord s b →

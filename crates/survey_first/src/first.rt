@@ -95,7 +95,18 @@ pub fn first_of(
     while i < verts {
         let u = low + 1 + i;
         let higher = links[u] >> (i + 1);
-        let found = first_of_vertex(engine, rows, corners, n, k, words, own, separating, u, higher);
+        let found = first_of_vertex(
+            engine,
+            rows,
+            corners,
+            n,
+            k,
+            words,
+            own,
+            separating,
+            u,
+            higher,
+        );
         if let Found::Pair(a, b, f) = found {
             return Found::Pair(a, b, f);
         }

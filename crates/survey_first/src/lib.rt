@@ -19,14 +19,14 @@ use scene::Corners;
 use scene::Rows;
 use scene::Scene;
 use scene::Solid;
-use survey_enclosed::enclosed_word;
-use survey_edges::links::WORDS;
 use survey_edges::links::VertexSets;
+use survey_edges::links::WORDS;
 use survey_edges::links::fill_links;
+use survey_enclosed::enclosed_word;
 use survey_narrow::separating_faces::SeparatingFaces;
-use survey_narrow::setup::make_planes;
-use survey_narrow::setup::fill_sides_lent;
 use survey_narrow::setup::fill_narrowing;
+use survey_narrow::setup::fill_sides_lent;
+use survey_narrow::setup::make_planes;
 use survey_sides::planes::Planes;
 use survey_sides::slopes::Slopes;
 
@@ -99,7 +99,17 @@ fn find_first_by_sides(
     }
     fill_links(corners, b, &mut blinks);
     fill_narrowing(corners, b, a, words, &mut own, &mut separating);
-    let of_b = first_of(engine, rows, corners, n, b, &blinks, &others, &own, &separating);
+    let of_b = first_of(
+        engine,
+        rows,
+        corners,
+        n,
+        b,
+        &blinks,
+        &others,
+        &own,
+        &separating,
+    );
     if let Found::Pair(u, v, f) = of_b {
         return crossed(u, v, f);
     }
@@ -111,7 +121,14 @@ fn find_first_by_sides(
 }
 
 // The first pair of both solids; where there is none, what is enclosed. A few edges are looked at before anything is told of the vertices.
-pub fn find_first(engine: Engine, rows: &Rows, corners: &Corners, n: usize, a: Solid, b: Solid) -> FirstOrEnclosed
+pub fn find_first(
+    engine: Engine,
+    rows: &Rows,
+    corners: &Corners,
+    n: usize,
+    a: Solid,
+    b: Solid,
+) -> FirstOrEnclosed
     requires { ⌜ Ready (viewIn n (now rows) (now corners)) a × Ready (viewIn n (now rows) (now corners)) b ⌝ }
     ensures { λ r. ⌜ IsFirstOrEnclosed (viewIn n (now (rows .entry)) (now (corners .entry))) a b r ⌝ }
 {

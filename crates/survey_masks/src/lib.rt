@@ -18,8 +18,8 @@ use scene::Solid;
 use survey_edges::Ends;
 use survey_edges::Masks;
 use survey_edges::links::VertexSets;
-use survey_narrow::separating_faces::SeparatingFaces;
 use survey_narrow::mask;
+use survey_narrow::separating_faces::SeparatingFaces;
 
 // The mask of the edge u, v of the solid against the other one, in a scene of n points.
 pub fn edge_mask(

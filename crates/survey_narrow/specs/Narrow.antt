@@ -62,7 +62,7 @@ module _ (n : ℕ) (row : ℕ → Row) (face : ℕ → Face) (own cut : ℕ → 
   pub all-parted : AllParted n row face cut at u v first count
   all-parted k l e =
       kept-by n row face (h .low) (h .high) (h .owned) (h .owns) u v (face (first + 1 + k)) w six (d k l) (h .across k l)
-          (h .separating k l)
+      (h .separating k l)
       (s ∙ both-is face (h .owned) (h .owns) u v (h .u-own) (h .v-own)) e
 
   -- so where one of them parts no face at all, none is pierced

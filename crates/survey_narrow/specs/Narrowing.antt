@@ -207,7 +207,7 @@ module _ (s : PierceView) (k o : Solid) (r : Ready s k) (q : Ready s o) {words o
     where
       by : (b : Bool) → mirrors k o ≡ b → own′ ≡ cond b (ownMarked (s .face) (k .face0) (k .faces) own) own →
           cuts′ ≡ cond b (cutsFrom (λ j. cutIn words (s .face (k .other0 + j))) (k .others) separating) separating → Promised s k o own
-              separating own′ cuts′
+          separating own′ cuts′
       by true h x y = (parted-by s k o r q h t x y, blank-kept s k o r q h t x y)
       by false h x y = (λ z. rw (x, y) (parted-none s k (z .at) (z .cut h)), λ z. rw (x, y) z)
 

@@ -69,7 +69,7 @@ module _ (s : PierceView) (k : Solid) (r : Ready s k) where
       let at : s .points ≡ s .points - 1 + 1 + i = omega (arith, p) in
       subst (λ (t : ℕ). ReadyAll (s .row) (s .face) (planeIn planes (k .other0)) t (k .other0) (k .others)) at
       (ready (s .row) (s .face) (planeIn planes (k .other0)) (k .other0) (k .others) (r .within .sound .weighted) (e .has)
-          (r .closed .inside)
+      (r .closed .inside)
       (omega (arith, p), omega arith) (r .far) faces)
 
   -- what storing the words asks for

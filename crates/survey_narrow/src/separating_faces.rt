@@ -18,7 +18,13 @@ use survey_sides::point_masks::mask_at;
 pub type SeparatingFaces = [u64; 2 * (Scene::MOST_FACES + 1)];
 
 // Those of the `count` faces of a solid, numbered from first + 1 on, by the words of their corners.
-pub fn fill(corners: &Corners, words: &PointMasks, first: usize, count: usize, separating: &mut SeparatingFaces)
+pub fn fill(
+    corners: &Corners,
+    words: &PointMasks,
+    first: usize,
+    count: usize,
+    separating: &mut SeparatingFaces,
+)
     requires corners { ⌜ FacesWithin limits (faceIn (now corners)) ⌝ }
     requires faces { ⌜ (first + count ≤ 2 * limits .mostFaces) × (count ≤ limits .mostFaces) ⌝ }
     ensures { λ r. ⌜ now (separating .exit)

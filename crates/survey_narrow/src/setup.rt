@@ -11,14 +11,14 @@ ghost use Prim.Native.Nat.{_+_, _*_, _≤_};
 ghost use lib.ListN.{length};
 ghost use Rattle.scene.specs.Limits.{limits, mostPoints};
 ghost use Rattle.scene.specs.Arrays.{rowIn, faceIn, AllWithin, FacesWithin};
+use crate::separating_faces::SeparatingFaces;
 use scene::Corners;
 use scene::Rows;
 use scene::Solid;
-use crate::separating_faces::SeparatingFaces;
 use survey_sides::planes::Planes;
-use survey_sides::slopes::Slopes;
 use survey_sides::point_masks::PointMasks;
 use survey_sides::point_masks::fill_points;
+use survey_sides::slopes::Slopes;
 
 // The far point as a solid of one vertex.
 fn far(n: usize, k: Solid) -> Solid
@@ -98,7 +98,8 @@ pub fn fill_sides_lent(
 fn mirrors(k: Solid, o: Solid) -> bool
     ensures { λ r. ⌜ r ≡ mirrors k o ⌝ }
 {
-    (o.other0 == k.face0) & ((o.others == k.faces) & ((o.face0 == k.other0) & (o.faces == k.others)))
+    (o.other0 == k.face0)
+        & ((o.others == k.faces) & ((o.face0 == k.other0) & (o.faces == k.others)))
 }
 
 // What narrows the questions about the solid k beside the other one, o, whose words are `others`; told where each has the other's faces

@@ -53,7 +53,7 @@ module _ (s : List ℕ) (ok : judged s ≡ Accepted) {ends-a masks-a ends-b mask
   unfolding listingIn
   listed-so =
       surveyed-pairs (pierceView v) (solid v 1) (solid v 2) t ends-a masks-a ends-b masks-b (sound s ok 1) (sound s ok 2) (x .of-a)
-          (x .of-b)
+      (x .of-b)
 
   pairs-are : {n : ℕ} → Pairs n → n ≡ length (listingIn v)
   pairs-are h = h _ _ _ _ ∙ ap length listed-so

@@ -8,8 +8,8 @@ ghost use Rattle.questions.specs.Answers.{verdictIn, listingIn};
 ghost use Rattle.questions.specs.Listings.{lacksRoom, PouredIf};
 ghost use Rattle.survey_scene.specs.Surveys.{SurveyIs, FirstOrEnclosedIs, EnoughForVerdict};
 use pierce_engine::Engine;
-use questions::find::Found;
 use questions::Verdict;
+use questions::find::Found;
 use scene::Corners;
 use scene::Rows;
 use scene::Scene;
@@ -159,5 +159,15 @@ pub fn write_read(
     }
     let a = solid(s, 1);
     let b = solid(s, 2);
-    write_all_pairs(t, a.other0, b.other0, aends, amasks, bends, bmasks, from, out)
+    write_all_pairs(
+        t,
+        a.other0,
+        b.other0,
+        aends,
+        amasks,
+        bends,
+        bmasks,
+        from,
+        out,
+    )
 }

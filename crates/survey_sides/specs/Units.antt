@@ -54,7 +54,7 @@ unitPlane a b c = planeFromDirections (rowMinus a c) (rowMinus b c) c
 abbrev pub unitSlope : (a b c s t o : Row) → Row
 unitSlope a b c s t o =
     sumOf (planeFromDirections (rowMinus s o) (rowMinus b c) c) (planeFromDirections (rowMinus a c) (rowMinus t o) c)
-        (level (tripleProduct o (rowMinus a c) (rowMinus b c)))
+    (level (tripleProduct o (rowMinus a c) (rowMinus b c)))
 
 -- ---- rows of variables, three each, with the weight written as 1 or as 0
 

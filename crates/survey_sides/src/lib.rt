@@ -30,12 +30,12 @@ use scene::decode::face_in;
 use scene::decode::row_in;
 
 mod crossing;
-pub mod planes;
-pub mod slopes;
 mod digits;
+pub mod planes;
+pub mod point_masks;
+pub mod slopes;
 pub mod ties;
 mod units;
-pub mod point_masks;
 
 // The mask of u, v against the `count` faces of a solid, numbered from first + 1 on, in a scene of n points, where the table of words holds
 // the sides of u and v.

@@ -7,11 +7,11 @@ ghost use Rattle.scene.specs.Arrays.{rowIn, faceIn, AllWithin, FacesWithin};
 ghost use Rattle.survey_sides.specs.Sides.{sidesOf, planeIn, ReadyAll};
 ghost use Rattle.survey_sides.specs.Slopes.{Sloped};
 ghost use Rattle.survey_sides.specs.Tables.{maskIn, wordSet, masksFrom, wordsFor, ReadyFor};
+use crate::digits::above_of;
+use crate::digits::digits_of_point;
+use crate::digits::has_ties;
 use crate::planes::Planes;
 use crate::slopes::Slopes;
-use crate::digits::above_of;
-use crate::digits::has_ties;
-use crate::digits::digits_of_point;
 use crate::ties::sides;
 use pierce_masks::Mask;
 use scene::Corners;
@@ -44,7 +44,13 @@ pub fn fill(rows: &Rows, corners: &Corners, planes: &Planes, k: Solid, words: &m
 }
 
 // Of the vertices up to the first that lies in the plane of a face; how many those are.
-fn fill_clear(rows: &Rows, corners: &Corners, planes: &Planes, k: Solid, words: &mut PointMasks) -> usize
+fn fill_clear(
+    rows: &Rows,
+    corners: &Corners,
+    planes: &Planes,
+    k: Solid,
+    words: &mut PointMasks,
+) -> usize
     requires rows { ⌜ AllWithin limits (rowIn (now rows)) × FacesWithin limits (faceIn (now corners)) ⌝ }
     requires solid { ⌜ (k .vert0 + k .verts ≤ mostPoints limits) × (k .other0 + k .others ≤ 2 * limits .mostFaces)
         × (k .others ≤ limits .mostFaces) ⌝ }

@@ -39,9 +39,9 @@ placed-row least p n m =
   where
     go : (a b c d : Bool) →
         placedIn n (refuseUnless a (Coordinate p)
-            (refuseUnless b (Coordinate p) (refuseUnless c (Coordinate p) (refuseUnless d (Weight p) judge.Accepted))))
+        (refuseUnless b (Coordinate p) (refuseUnless c (Coordinate p) (refuseUnless d (Weight p) judge.Accepted))))
         ≡ refuseUnless a (Coordinate n)
-            (refuseUnless b (Coordinate n) (refuseUnless c (Coordinate n) (refuseUnless d (Weight n) judge.Accepted)))
+        (refuseUnless b (Coordinate n) (refuseUnless c (Coordinate n) (refuseUnless d (Weight n) judge.Accepted)))
     go false b c d = refl
     go true false c d = refl
     go true true false d = refl

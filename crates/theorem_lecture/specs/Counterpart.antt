@@ -89,7 +89,7 @@ module _ (o o′ : PierceView) (to faceTo : ℕ → ℕ) (g : Renumbered o o′ 
   unfolding lowestEnclosed
   lowest-same =
       let e = lowest-shifted (enclosedVertex o′ k′) (enclosedVertex o k) (k′ .vert0 + 1) (k .vert0 + 1) (k′ .verts) (k .verts) (x .vertices)
-          inside-same in
+      inside-same in
       omega arith
 
   -- ---- edges

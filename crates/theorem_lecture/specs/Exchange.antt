@@ -82,8 +82,12 @@ pub record SameExchanged (s t : List ℕ) : Type 0 where
       maskB t (to s u) (to s v) ≡ maskA s u v
   pub listing : listed t ≡ listedExchanged s
   pub counted : countedOf t ≡
-      Counts (record { pairs = length (listed s); «a_in_b» = enclosedCount (pierceViewOf s) (inB s); «b_in_a» = enclosedCount
-          (pierceViewOf s) (inA s) })
+      Counts (record {
+        pairs = length (listed s);
+        «a_in_b» = enclosedCount (pierceViewOf s) (inB s);
+        «b_in_a» = enclosedCount
+            (pierceViewOf s) (inA s);
+      })
   pub verdict : verdictOf t ≡ verdictExchanged s
   -- so both cut each other, or neither do; and both are apart, or neither are
   pub cross : (verdictNumber (verdictOf t) ≡ 0) ↔ (verdictNumber (verdictOf s) ≡ 0)

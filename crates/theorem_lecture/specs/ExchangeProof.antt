@@ -187,14 +187,22 @@ module _ (s t : List ℕ) (ok : judged s ≡ Accepted) (ok′ : judged t ≡ Acc
   -- ---- the kernel's answers
 
   counts-are : countsIn (viewOf t)
-      ≡ record { pairs = length (listed s); «a_in_b» = enclosedCount (pierceViewOf s) (inB s); «b_in_a» = enclosedCount (pierceViewOf s)
-          (inA s) }
+      ≡ record {
+        pairs = length (listed s);
+        «a_in_b» = enclosedCount (pierceViewOf s) (inB s);
+        «b_in_a» = enclosedCount (pierceViewOf s)
+            (inA s);
+      }
   unfolding countsIn insideIn listingIn solid
   counts-are = λ i. record { pairs = (ap length listing ∙ as-many) i; «a_in_b» = inside-a i; «b_in_a» = inside-b i }
 
   counted : countedOf t ≡
-      Counts (record { pairs = length (listed s); «a_in_b» = enclosedCount (pierceViewOf s) (inB s); «b_in_a» = enclosedCount
-          (pierceViewOf s) (inA s) })
+      Counts (record {
+        pairs = length (listed s);
+        «a_in_b» = enclosedCount (pierceViewOf s) (inB s);
+        «b_in_a» = enclosedCount
+            (pierceViewOf s) (inA s);
+      })
   unfolding countedOf orRefuse
   counted = rw ok′ (ap Counts counts-are)
 
@@ -207,14 +215,14 @@ module _ (s t : List ℕ) (ok : judged s ≡ Accepted) (ok′ : judged t ≡ Acc
   cross =
       rw (word-by-counts t ok′ ∙ ap wordBy counts-are, word-by-counts s ok)
       (cross-alike (ltb 0 (length (listed s))) (ltb 0 (enclosedCount (pierceViewOf s) (inB s)))
-          (ltb 0 (enclosedCount (pierceViewOf s) (inA s))))
+      (ltb 0 (enclosedCount (pierceViewOf s) (inA s))))
 
   apart-same : (verdictNumber (verdictOf t) ≡ 3) ↔ (verdictNumber (verdictOf s) ≡ 3)
   unfolding countsIn insideIn listingIn solid
   apart-same =
       rw (word-by-counts t ok′ ∙ ap wordBy counts-are, word-by-counts s ok)
       (apart-alike (ltb 0 (length (listed s))) (ltb 0 (enclosedCount (pierceViewOf s) (inB s)))
-          (ltb 0 (enclosedCount (pierceViewOf s) (inA s))))
+      (ltb 0 (enclosedCount (pierceViewOf s) (inA s))))
 
 same : (s t : List ℕ) → judged s ≡ Accepted → judged t ≡ Accepted → Exchanged s t → NoTies s → SameExchanged s t
 same s t ok ok′ h ties =

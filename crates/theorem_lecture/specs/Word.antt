@@ -57,6 +57,6 @@ word-by-counts s ok =
     let y = found (enclosedVertex (pierceViewOf s) (inB s)) (vertsA s + 1) (vertsB s) (verts s) (omega arith) in
     rw ok
     (word-is (listingIn (viewOf s)) (leb (lowestEnclosed (pierceViewOf s) (inA s)) (vertsA s))
-        (leb (lowestEnclosed (pierceViewOf s) (inB s)) (verts s))
+    (leb (lowestEnclosed (pierceViewOf s) (inB s)) (verts s))
     (lowestEnclosed (pierceViewOf s) (inA s)) (lowestEnclosed (pierceViewOf s) (inB s))
     ∙ (λ i. word (ltb 0 (length (listingIn (viewOf s)))) (x i) (y i)))

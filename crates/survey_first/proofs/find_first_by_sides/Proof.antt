@@ -129,6 +129,6 @@ pub find-first-by-sides-spec : {M : Type 1} → statement M
 find-first-by-sides-spec =
     tie.close
     (tie.spec make-planes-requires fill-sides-lent-requires fill-narrowing-requires first-of-requires (λ c. search needs)
-        (λ c κs. search needs)
+    (λ c κs. search needs)
     (λ c. search sought-in-a) (λ c. search needs) fill-links-requires fill-narrowing-requires-2 first-of-requires-2 (λ c. search needs)
     (λ c κs. search needs) (λ c. search sought-in-b) (λ c. search needs) inside-still-requires inside-still-requires-2 returns-3)

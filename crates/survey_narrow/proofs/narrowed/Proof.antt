@@ -58,8 +58,12 @@ add-word : tie.Need-add-word Inv-loop μ-loop
 add-word c =
     let s = let t = c .before .before .before in t .before .before in
     let a = s .args in
-    omega (arith, rest c, kept-le (λ k. covers (maskIn (now (a .separating)) (a .from + 1 + k)) (a .at)) (a .candidates),
-        s .fits .candidates)
+    omega (
+      arith,
+      rest c,
+      kept-le (λ k. covers (maskIn (now (a .separating)) (a .from + 1 + k)) (a .at)) (a .candidates),
+      s .fits .candidates,
+    )
 
 loop-less : tie.Need-loop-less Inv-loop μ-loop
 loop-less c = walk-less _ (omega arith)

@@ -156,7 +156,7 @@ module _ (s : List ℕ) where
                 (gives-wider (suc (checkOrder r)) 11 (omega (arith, scene-turn r l)) (omega arith) fits-gives)) (table.refused limits s r));
             room = λ n.
                 Iff·trans (at (ListTooShort n))
-                    (then-next (judged s) fits (ListTooShort n) 1 10 (judge-gives limits s) (omega arith) (accepted limits s)
+                (then-next (judged s) fits (ListTooShort n) 1 10 (judge-gives limits s) (omega arith) (accepted limits s)
                 (room-iff n));
             buffer = λ n. never-by (BufferTooShort n) (omega arith);
             lacking = (λ e. absurd (never-by NoSuchNumber (omega arith) e), λ h. absurd (h .1 tt));

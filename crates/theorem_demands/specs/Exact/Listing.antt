@@ -53,7 +53,7 @@ module _ (v : PierceView) (k : Solid) where
   unfolding pairHits
   pair-each u m =
       each-only (Of u (k .vert0 + 1 + m)) (ltb u (k .vert0 + 1 + m) && joined (v .face) k u (k .vert0 + 1 + m)) _
-          (edge-each u (k .vert0 + 1 + m))
+      (edge-each u (k .vert0 + 1 + m))
 
   pair-rises : (u m : ℕ) → Rising Lower (pairsAt v k u m)
   unfolding pairHits

@@ -222,7 +222,7 @@ module _ (s : List ℕ) where
       let e = isEnclosed (viewOf s) in
       let a : ℕ = k .vert0 + 1 in
       number-iff (Enclosed s) e (λ i. Iff·rfl) (numbered a (k .verts))
-          (countOf (enclosedVertex (pierceView (viewOf s)) k) a (a + k .verts)) .0
+      (countOf (enclosedVertex (pierceView (viewOf s)) k) a (a + k .verts)) .0
       (sym (count-same (enclosedVertex (pierceView (viewOf s)) k) e a (a + k .verts)
       (λ i l m. w .inside i (w .vertices i .0 (omega arith, omega arith)))
       ∙ count-run (λ i. i) e e a (a + k .verts) (k .verts) (omega arith) (λ i. refl)))

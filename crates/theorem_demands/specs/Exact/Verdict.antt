@@ -116,8 +116,11 @@ module _ (s : List ℕ) where
     in-neither : NoneEnclosed s (VertexOfB s) → enclosureIn (viewOf s) ≡ verdict.Apart
     unfolding enclosureIn solid
     in-neither n =
-        rw (not-a, lt-leb (lowestEnclosed (pierceView (viewOf s)) (solidB (viewOf s))) (verts s)
-            (omega (arith, lowest-none (b-worded s) n)))
+        rw (
+          not-a,
+          lt-leb (lowestEnclosed (pierceView (viewOf s)) (solidB (viewOf s))) (verts s)
+              (omega (arith, lowest-none (b-worded s) n)),
+        )
 
   -- ---- the verdict
 

@@ -42,7 +42,7 @@ module _ (s : List ℕ) where
   abbrev pub edgeFaultBefore : ℕ → Judged
   edgeFaultBefore i =
       refuseUnless (cond (ltb i (facesA s)) (sidesInTwo 0 (facesA s) i) (sidesInTwo (facesA s) (faces s) i)) (Edge (faceRecord s i))
-          Accepted
+      Accepted
 
   -- 1, 2, 3; 4 to 7 record by record; 8; 9
   abbrev pub judgedBefore : Judged

@@ -44,7 +44,7 @@ refusalOf n p =
     getD (
     refuse.Opening ∷ refuse.Counts ∷ refuse.Length ∷ refuse.Mark p ∷ refuse.Coordinate p ∷ refuse.Weight p ∷ refuse.Corner p ∷
     refuse.Unused p ∷ refuse.Edge p ∷ refuse.ListTooShort p ∷ refuse.NoSuchNumber ∷ refuse.NotDistinct ∷ refuse.BufferTooShort p ∷
-        refuse.FarAllZero p ∷ []
+    refuse.FarAllZero p ∷ []
     ) (n - 1) refuse.Opening
 
 refusal-found : (r : Refusal) → refusalOf (numberOf r) (placeOf r) ≡ r

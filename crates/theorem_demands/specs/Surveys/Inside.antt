@@ -22,7 +22,7 @@ word-in s {k} w =
       small = mask-lt g (k .verts);
       bits = λ j b.
           let e = mask-test g (k .verts) j b ∙ w .inside (k .vert0 + 1 + j) (w .vertices (k .vert0 + 1 + j) .0 (omega arith, omega arith))
-              in
+          in
           (λ t. sym e ∙ t, λ t. e ∙ t);
     }
 

@@ -38,7 +38,7 @@ tables-are s ends-a masks-a ends-b masks-b {t} x ok =
       of-b = rw (x .of-b .edges) (edges-of-b s ok);
       pairs =
           surveyed-pairs (pierceView v) (solid v 1) (solid v 2) t ends-a masks-a ends-b masks-b (sound s ok 1) (sound s ok 2) (x .of-a)
-              (x .of-b);
+          (x .of-b);
     }
 
 first-or-words : (s : List ℕ) {t : FirstOrEnclosed} → FirstOrEnclosedIs (viewOf s) t → FirstOrWords s t

@@ -54,7 +54,7 @@ alternating-requires c κs =
     subst (λ (n : ℕ). n ≤ mostFormed)
     (sym
     (triple-product-read (p-fits s) (q-fits s) (r-fits s) alternatingSize (c1 .minor .ok) (c1 .minor .ensures) (c2 .minor2 .ok)
-        (c2 .minor2 .ensures)
+    (c2 .minor2 .ensures)
     (c3 .minor3 .ok) (c3 .minor3 .ensures)))
     (s .pre .whole)
 
@@ -67,7 +67,7 @@ returns c =
     called (c .alternating .ok)
     (c .alternating .ensures
     ∙ triple-product-read (p-fits s) (q-fits s) (r-fits s) alternatingOf (c1 .minor .ok) (c1 .minor .ensures) (c2 .minor2 .ok)
-        (c2 .minor2 .ensures)
+    (c2 .minor2 .ensures)
     (c3 .minor3 .ok) (c3 .minor3 .ensures))
 
 pub triple-product-spec : {M : Type 1} → statement M

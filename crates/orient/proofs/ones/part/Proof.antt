@@ -21,7 +21,7 @@ returns c =
     let d2 = d3 .before in
     called (c .triple-product .ok)
     (c .triple-product .ensures
-        ∙ (λ i. tripleProduct (d2 .before .direction .ensures i) (d2 .direction2 .ensures i) (d3 .direction3 .ensures i)))
+    ∙ (λ i. tripleProduct (d2 .before .direction .ensures i) (d2 .direction2 .ensures i) (d3 .direction3 .ensures i)))
 
 pub part-spec : {M : Type 1} → statement M
 part-spec = tie.close (tie.spec (λ c κs. search needs) (λ c κs. search needs) (λ c κs. search needs) triple-product-requires returns)

@@ -52,5 +52,5 @@ pub reverse-spec : {M : Type 1} → statement M
 reverse-spec =
     tie.close
     (tie.spec (λ c κs. search needs) (λ c. search needs) (λ c. search needs) sub-face-start face-start-requires sub-reversed-face
-        reversed-face-requires
+    reversed-face-requires
     put-corners-requires (λ c. search needs) returns (λ c. search needs) returns-2)

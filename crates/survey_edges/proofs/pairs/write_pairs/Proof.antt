@@ -30,9 +30,11 @@ write-pairs-of-entry-requires c κs =
 
 loop-again : tie.Need-loop-again Inv-loop μ-loop
 loop-again c =
-    let after-pour-entry = c .before .before in
-    (omega arith, writes-next _ _ (after-pour-entry .before .before .before .loop .inv .1)
-        (after-pour-entry .write-pairs-of-entry .ensures))
+    let after-pour-entry = c .before .before in (
+      omega arith,
+      writes-next _ _ (after-pour-entry .before .before .before .loop .inv .1)
+          (after-pour-entry .write-pairs-of-entry .ensures),
+    )
 
 same-length : tie.Need-same-length Inv-loop μ-loop
 same-length c = c .before .loop .inv .1 .long
@@ -44,4 +46,4 @@ pub write-pairs-spec : {M : Type 1} → statement M
 write-pairs-spec =
     tie.close
     (tie.spec Inv-loop μ-loop loop-holds write-pairs-of-entry-requires (λ c. search needs) (λ c. search needs) loop-again same-length
-        returns)
+    returns)

@@ -30,9 +30,10 @@ first-look-from-requires c κs =
 returns-2 : tie.Need-returns-2
 returns-2 c =
     let s = let asked-sides = c .before .before .before .before in asked-sides .before .before .before .before in
-    let v = viewIn (s .args .n) (now (s .args .rows)) (now (s .args .corners)) in
-    (glimpsed-first v (s .args .k) (s .pre .0 .0) (omega arith) (c .first-look-from .result) (c .first-look-from .ensures .0),
-        c .first-look-from .ensures .1)
+    let v = viewIn (s .args .n) (now (s .args .rows)) (now (s .args .corners)) in (
+      glimpsed-first v (s .args .k) (s .pre .0 .0) (omega arith) (c .first-look-from .result) (c .first-look-from .ensures .0),
+      c .first-look-from .ensures .1,
+    )
 
 pub first-look-spec : {M : Type 1} → statement M
 first-look-spec =

@@ -55,4 +55,4 @@ pub digits-of-point-spec : {M : Type 1} → statement M
 digits-of-point-spec =
     tie.close
     (tie.spec digits-of-word-requires returns digits-of-word-requires-2 (λ c. search needs) (λ c. search needs) digits-of-word-requires-3
-        returns-2)
+    returns-2)

@@ -54,5 +54,5 @@ pub fill-clear-spec : {M : Type 1} → statement M
 fill-clear-spec =
     tie.close
     (tie.spec Inv-loop μ-loop loop-holds (λ c. search needs) (λ c. search needs) digits-of-point-requires (λ c κs. search needs)
-        (λ c. search needs)
+    (λ c. search needs)
     (λ c κs. search needs) (λ c κs. search needs) (λ c. search needs) (λ c. search needs) loop-again returns-2)

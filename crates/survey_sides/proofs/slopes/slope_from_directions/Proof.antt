@@ -166,7 +166,7 @@ pub slope-from-directions-spec : {M : Type 1} → statement M
 slope-from-directions-spec =
     tie.close
     (tie.spec (λ c κs. search needs) (λ c κs. search needs) (λ c κs. search needs) row-minus-requires (λ c κs. search needs)
-        row-minus-requires-2
+    row-minus-requires-2
     (λ c κs. search needs) row-minus-requires-3 plane-from-directions-requires shift-at-requires-3 row-minus-requires-4
-        plane-from-directions-requires-2 triple-product-requires added-requires
+    plane-from-directions-requires-2 triple-product-requires added-requires
     returns)

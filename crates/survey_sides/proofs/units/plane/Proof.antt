@@ -23,7 +23,7 @@ returns c =
     let d1 = d2 .before in
     let s = d1 .before in
     c .plane-from-directions .ensures ∙ (λ i. planeFromDirections (d1 .row-minus .ensures i) (d2 .row-minus2 .ensures i) (s .args .c))
-        ∙ unit-plane (s .pre .3)
+    ∙ unit-plane (s .pre .3)
 
 pub plane-spec : {M : Type 1} → statement M
 plane-spec = tie.close (tie.spec row-minus-requires row-minus-requires-2 plane-from-directions-requires returns)
