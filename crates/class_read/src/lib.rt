@@ -2,7 +2,8 @@
 ghost use mathlib.Core.Path.{_≡_};
 ghost use mathlib.Core.Bool.{true, cond};
 ghost use Prim.Native.Nat.{_-_};
-ghost use Rattle.class_read.specs.Totals.{reports, isLetter, numberOf, wholeOf, ends, plus, paired, countedOf, begins, startOf, nextOf};
+ghost use Rattle.class_read.specs.Totals.{reports, isLetter, numberOf, wholeOf, ends, plus};
+ghost use Rattle.class_read.specs.Totals.{paired, countedOf, begins, startOf, nextOf};
 ghost use Rattle.class_read.specs.Totals.{finished, readOf, endOf};
 use held::product;
 use held::sum;

@@ -1,5 +1,6 @@
 -- Reports end to end, read back: what is merged is the sum of their tallies, whatever their order and in whatever pieces the text comes; of
--- blocks that end with a whole scene it is the tally of the blocks end to end. So many sheets are read as so many reports. The proofs stand in `SheetsProof`. Assumes nothing.
+-- blocks that end with a whole scene it is the tally of the blocks end to end. So many sheets are read as so
+-- many reports. The proofs stand in `SheetsProof`. Assumes nothing.
 use mathlib.Core.Path.{_≡_}
 use mathlib.Core.Bool.{cond}
 use mathlib.Core.List.{List, [], _∷_, _++_}

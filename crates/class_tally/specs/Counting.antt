@@ -30,7 +30,8 @@ use Rattle.class_block.specs.Scenes.{scenes-end, scenes-next, scenes-few, byte-
 use Rattle.class_tally.specs.Most.{mostPairs, pairs-most}
 use Rattle.class_tally.specs.Merge.{made-same}
 use Rattle.class_tally.specs.Sums.{largest, acceptedIn}
-use Rattle.class_tally.specs.Tally.{refusedLine, lineOf, pairsIn, markOf, counts, inLine, pairsOf, madeBy, made, tallyOf, marksOf, reportOf}
+use Rattle.class_tally.specs.Tally.{refusedLine, lineOf, pairsIn, markOf, counts, inLine, pairsOf}
+use Rattle.class_tally.specs.Tally.{madeBy, made, tallyOf, marksOf, reportOf}
 use Rattle.class_tally.specs.declared.Mark.{Mark}
 use Rattle.class_tally.specs.declared.Tally.{Tally}
 use Rattle.class_tally.specs.declared.Report.the-variants.{Longer, Tallied}

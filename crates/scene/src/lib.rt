@@ -127,8 +127,8 @@ pub struct Face {
     pub r: usize,
 }
 
-// A solid: its vertices are the `verts` points behind point vert0, its faces the `faces` faces behind face face0, and the other solid's faces
-// the `others` faces behind face other0.
+// A solid: its vertices are the `verts` points behind point vert0, its faces the `faces` faces behind face face0, and the other solid's
+// faces the `others` faces behind face other0.
 pub struct Solid {
     pub vert0: usize,
     pub verts: usize,

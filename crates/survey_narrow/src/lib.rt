@@ -30,8 +30,8 @@ pub mod faces_at_point;
 pub mod separating_faces;
 pub mod setup;
 
-// The mask of u, v against the `count` faces of a solid, numbered from first + 1 on, in a scene of n points: as `survey_sides::mask`, with the
-// table of the faces at each point and that of the faces that part each face. Where a face at the edge parts none, nothing is asked.
+// The mask of u, v against the `count` faces of a solid, numbered from first + 1 on, in a scene of n points: as `survey_sides::mask`, with
+// the table of the faces at each point and that of the faces that part each face. Where a face at the edge parts none, nothing is asked.
 pub fn mask(
     engine: Engine,
     rows: &Rows,

@@ -26,7 +26,8 @@ use Rattle.bench_moves.specs.declared.Answer.the-variants.{Refused}
 use Rattle.theorem_bench.specs.Effect.{Follows, follows-same, empty-solids, empty-follows, full-follows}
 use Rattle.theorem_bench.specs.Effect.{done-never, own-effect, fixture-effect}
 use Rattle.theorem_bench.specs.Lecturer.{lecturerFault, lecturer-told}
-use Rattle.theorem_bench.specs.Kept.{Sharing, State, Holds, holds-of, Operation, group, lecturer, step, after, step-holds, opened-bench}
+use Rattle.theorem_bench.specs.Kept.{Sharing, State, Holds, holds-of, Operation, group, lecturer}
+use Rattle.theorem_bench.specs.Kept.{step, after, step-holds, opened-bench}
 use Rattle.theorem_bench.specs.Kept.{empty-told, told-alike}
 
 abbrev pub other : Group → Group

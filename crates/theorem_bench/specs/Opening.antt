@@ -22,7 +22,8 @@ use Rattle.rules.specs.Held.{Held, byte-of, length-all}
 use Rattle.rules.specs.ReadBack.{far-stands, b-rows, b-faces}
 use Rattle.rules.specs.Write.{pointBytes, faceBytes, bytesOf}
 use Rattle.rules.specs.Written.{Bytes, accepted-written}
-use Rattle.bench_moves.specs.Bench.{unless, thenScene, differAt, sameBytes, sameCounts, sameFar, sameVertices, sameFaces, isShared, openFault}
+use Rattle.bench_moves.specs.Bench.{unless, thenScene, differAt, sameBytes, sameCounts, sameFar}
+use Rattle.bench_moves.specs.Bench.{sameVertices, sameFaces, isShared, openFault}
 use Rattle.bench_moves.specs.declared.Fault.the-variants.{Differing}
 use Rattle.bench_moves.specs.declared.Answer.{Answer}
 use Rattle.bench_moves.specs.declared.Answer.the-variants.{Done, Refused}

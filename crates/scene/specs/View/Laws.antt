@@ -25,14 +25,14 @@ module _ (s : List ℕ) (k : ℕ) {c : Scene} (e : c ≡ file.countsOf s) where
   Read o = o ≡ solid (viewOf s) k
 
   pub counted-a : k ≡ 1 →
-      Read (record { low = 0; verts = c .«vertices_a»; first = 0; count = c .«faces_a»; other = c .«faces_a»; others = c .«faces_b» })
+      Read (record { vert0 = 0; verts = c .«vertices_a»; face0 = 0; faces = c .«faces_a»; other0 = c .«faces_a»; others = c .«faces_b» })
   counted-a h =
       (λ i. record {
-        low = 0;
+        vert0 = 0;
         verts = e i .«vertices_a»;
-        first = 0;
-        count = e i .«faces_a»;
-        other = e i .«faces_a»;
+        face0 = 0;
+        faces = e i .«faces_a»;
+        other0 = e i .«faces_a»;
         others = e i .«faces_b»;
       })
       ∙ sym (solid-a (viewOf s) h)
@@ -40,20 +40,20 @@ module _ (s : List ℕ) (k : ℕ) {c : Scene} (e : c ≡ file.countsOf s) where
   pub counted-b : (k ≡ 1 → ⊥) →
       Read
       (record {
-        low = c .«vertices_a»;
+        vert0 = c .«vertices_a»;
         verts = c .«vertices_b»;
-        first = c .«faces_a»;
-        count = c .«faces_b»;
-        other = 0;
+        face0 = c .«faces_a»;
+        faces = c .«faces_b»;
+        other0 = 0;
         others = c .«faces_a»;
       })
   counted-b h =
       (λ i. record {
-        low = e i .«vertices_a»;
+        vert0 = e i .«vertices_a»;
         verts = e i .«vertices_b»;
-        first = e i .«faces_a»;
-        count = e i .«faces_b»;
-        other = 0;
+        face0 = e i .«faces_a»;
+        faces = e i .«faces_b»;
+        other0 = 0;
         others = e i .«faces_a»;
       })
       ∙ sym (solid-b (viewOf s) h)
