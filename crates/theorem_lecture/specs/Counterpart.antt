@@ -10,7 +10,7 @@ use native.Mathlib.Decide.{ℕ-discrete}
 use native.Mathlib.Omega.{arith}
 use lib.Dec.{eqb}
 use borrow.Author.Tests.{eq-eqb, ne-eqb}
-use Rattle.scene.specs.Faces.{FaceOf, isCorner, hasBoth}
+use Rattle.scene.specs.Faces.{Vertex, FaceOf, isCorner, hasBoth}
 use Rattle.scene.specs.declared.Face.{Face}
 use Rattle.scene.specs.declared.Solid.{Solid}
 use Rattle.orient.specs.Signs.{Upto}
@@ -21,10 +21,14 @@ use Rattle.pierce_masks.specs.Faces.{isOdd}
 use Rattle.pierce.specs.Against.{maskAgainst}
 use Rattle.pierce.specs.Formula.{pierced}
 use Rattle.questions.specs.Hits.{PierceView, Hit, solidHits, enclosedVertex, enclosedCount, lowestEnclosed}
-use Rattle.theorem_lecture.specs.Alike.{Clear}
 use Rattle.theorem_lecture.specs.Renumbered.{Renumbering, Untied, renamed, pierced-renamed, mask-renamed}
 use Rattle.theorem_lecture.specs.Shifted.{any-shifted, count-shifted, lowest-shifted}
 use Rattle.theorem_lecture.specs.Carried.{hits-carried}
+
+-- a point of n that is no vertex of the solid whose vertices are the points above low, up to high
+pub record Clear (n low high i : ℕ) : Type 0 where
+  pub point : Upto n i
+  pub out : Vertex low high i → ⊥
 
 -- low and high: the other solid's vertices are the points above low, up to high
 pub record Counterpart (o o′ : PierceView) (to faceTo : ℕ → ℕ) (k k′ : Solid) (low high : ℕ) : Type 0 where

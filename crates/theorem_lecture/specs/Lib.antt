@@ -10,6 +10,7 @@ pub mod Scenes
 pub mod Somewhere
 pub mod Rerowed
 pub mod Imaged
+pub mod FourteenProof
 pub mod LectureProof
 pub mod Renumbered
 pub mod Numbers
@@ -17,7 +18,10 @@ pub mod Written
 pub mod Shifted
 pub mod Carried
 pub mod Counterpart
+pub mod Asked
 pub mod Word
+pub mod ExchangeSolids
+pub mod ExchangeAsked
 pub mod ExchangeProof
 pub mod Fewer
 pub mod Pairs

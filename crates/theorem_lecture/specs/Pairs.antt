@@ -1,7 +1,7 @@
 -- The pairs of a scene, where its points are numbered in another way and its edges still pierce what they pierced: each is a pair of the
 -- other scene, with the ends' other numbers, and there are no more of them than there. Assumes nothing.
 use mathlib.Core.Path.{_≡_, refl, sym, ap, ap₂, subst, _∙_}
-use mathlib.Core.Logic.{_≢_, inl, inr}
+use mathlib.Core.Logic.{_≢_, _↔_, inl, inr}
 use mathlib.Core.Bool.{Bool, true, false, cond}
 use mathlib.Core.List.{List, [], _∷_}
 use Prim.Native.Nat.{ℕ, _≤_, _<_}
@@ -30,7 +30,11 @@ use Rattle.theorem_demands.specs.Exact.Proof.{exact}
 use Rattle.theorem_demands.specs.Symmetry.Proof.{symmetry}
 use Rattle.theorem_lecture.specs.Lecture.{pointsOf}
 use Rattle.theorem_lecture.specs.Fewer.{In, no-more}
-use Rattle.theorem_lecture.specs.Numbered.{NumberedBy, carried}
+use Rattle.theorem_lecture.specs.Numbered.{NumberedBy, InListing, carried}
+
+-- the listing has the pairs, and no other
+pub pair-iff : (s : List ℕ) → judged s ≡ Accepted → (x : Hit) → InListing s x ↔ PiercedPair s x
+pair-iff s ok = exact s .listing (exact s .accepted .0 ok) .members
 
 -- a corner of a solid's face is one of the solid's vertices
 corner-vertex : {low high i : ℕ} (f : Face) → FaceOf low high f → Corner i f → Vertex low high i

@@ -16,20 +16,13 @@ use Rattle.orient.specs.Alternating.{nonzero-mul}
 use Rattle.orient.specs.Laws.{factor-weight}
 use Rattle.orient.specs.Terms.{Powers, Numbered, powers, factor, numbered, terms, orientation, isPlus, pointAt, positiveAt}
 use Rattle.orient.specs.Variables.{P, Q, S, U, points, t-of}
-
-abbrev pub times : ℕ → Row → Row
-times k r = record { x = pos k *ℤ r .x; y = pos k *ℤ r .y; z = pos k *ℤ r .z; w = pos k *ℤ r .w }
+use Rattle.theorem_lecture.specs.Lecture.{Factor, ScaledRow}
 
 -- ---- a point with its shift
 
 abbrev multiple : {R : Type 0} → (R → R → R) → R → Numbered R → Numbered R
 multiple product k p =
     record { x = product k (p .x); y = product k (p .y); z = product k (p .z); w = product k (p .w); k = product k (p .k); i = p .i }
-
--- a row may be multiplied by k: k is positive, and 1 where the weight is 0
-pub record Factor (k : ℕ) (w : ℤ) : Type 0 where
-  pub positive : 1 ≤ k
-  pub weightless : w ≡ pos 0 → k ≡ 1
 
 factor-times : (k : ℕ) (w : ℤ) → Factor k w → factor (pos k *ℤ w) ≡ pos k *ℤ factor w
 factor-times k w h = by (ℤ-discrete w (pos 0))
@@ -100,10 +93,6 @@ sign-times (suc k) (negsuc n) h = rw (product k n)
   where
     product : (a b : ℕ) → suc a * suc b ≡ suc (a * suc b + b)
     product a b = omega arith
-
--- row′ has at number i the row of that number times k i
-abbrev pub ScaledRow : (k : ℕ) (r r′ : Row) → Type 0
-ScaledRow k r r′ = Factor k (r .w) × (r′ ≡ times k r)
 
 module _ (row row′ : ℕ → Row) (a b c d i j k l : ℕ)
     (ha : ScaledRow i (row a) (row′ a)) (hb : ScaledRow j (row b) (row′ b)) (hc : ScaledRow k (row c) (row′ c))

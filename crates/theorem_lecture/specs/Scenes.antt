@@ -1,167 +1,181 @@
--- Two accepted scenes of one shape, whose rows differ, but with which the same edges pierce the same faces: they have the same answers.
--- Assumes nothing.
-use mathlib.Core.Path.{_≡_, sym, ap, ap₂, _∙_}
-use mathlib.Core.Logic.{_≢_}
+-- Two accepted scenes of one shape, whose rows differ, but with which the same edges pierce the same faces: every question about them has
+-- the same answer, or the same refusal. Assumes nothing.
+use mathlib.Core.Path.{_≡_, refl, sym, ap, ap₂, _∙_}
+use mathlib.Core.Logic.{_↔_}
 use mathlib.Core.Bool.{cond}
 use mathlib.Core.List.{List, _++_}
-use Prim.Native.Nat.{ℕ, _+_, _≤_, _<_}
-use native.Mathlib.Omega.{arith}
+use Prim.Native.Nat.{ℕ}
+use lib.Count.{ones}
 use lib.Dec.{leb}
 use lib.ListN.{length}
-use Rattle.scene.specs.Faces.{FaceOf}
-use Rattle.scene.specs.Limits.{limits}
-use Rattle.scene.specs.Records.{vertsA, facesA, facesB, verts}
-use Rattle.scene.specs.Tables.{tablesOf, face}
+use Rattle.scene.specs.View.{View, viewOf, verts, points, solid}
+use Rattle.scene.specs.declared.Refusal.{Refusal}
 use Rattle.judge.specs.Judge.{judged}
-use Rattle.judge.specs.declared.Judged.the-variants.{Accepted}
-use Rattle.rules.specs.Given.{counts, face-of-a, face-of-b}
-use Rattle.pierce.specs.Against.{maskAgainst}
-use Rattle.questions.specs.Hits.{Hit, solidHits, enclosedCount, lowestEnclosed}
+use Rattle.judge.specs.declared.Judged.{Judged}
+use Rattle.judge.specs.declared.Judged.the-variants.{Accepted, Refused}
+use Rattle.pierce_masks.specs.Faces.{isOdd}
+use Rattle.questions.specs.Hits.{Hit, solidHits, lowestEnclosed}
 use Rattle.questions.specs.First.{firstOf}
-use Rattle.scene.specs.View.{solid}
-use Rattle.questions.specs.Answers.{orRefuse, countsIn, countedOf, crossOr, enclosureIn, verdictIn, verdictOf, listingIn, insideIn}
-use Rattle.questions.specs.declared.Counted.the-variants as answers
+use Rattle.questions.specs.WritePairs.{partIn}
+use Rattle.questions.specs.Answers.{orRefuse, pierceView, isPoint, isVertex, isFace, isVertexOf, yesNo, edgeAndFace, piercesFault}
+use Rattle.questions.specs.Answers.{piercesIn}
+use Rattle.questions.specs.Answers.{piercesOf, edgeAndSolid, endsOffSolid, maskFault, maskIn, refused, faces-are, maskedIn, maskedOf}
+use Rattle.questions.specs.Answers.{otherSolid, isEnclosed, enclosedFault, enclosedIn, enclosedOf, listingIn, insideIn, countsIn}
+use Rattle.questions.specs.Answers.{insideFault, enclosingIn, insideOf, countedOf, crossOr, enclosureIn, verdictIn, verdictOf}
+use Rattle.questions.specs.Answers.{listFault, listedIn, heldIn, IsListed, IsPart}
+use Rattle.questions.specs.Asked.{Outside, mask-outside, enclosed-vertex, far-outside}
+use Rattle.questions.specs.declared.Answer.the-variants as answer
+use Rattle.questions.specs.declared.Counted.the-variants as counted
+use Rattle.questions.specs.declared.Enclosing.the-variants as enclosing
+use Rattle.questions.specs.declared.Listed.{Listed}
+use Rattle.questions.specs.declared.Listed.the-variants as listed
 use Rattle.questions.specs.declared.Verdict.{Verdict}
-use Rattle.questions.specs.declared.Verdict.the-variants.{AInB, BInA, Apart}
-use Rattle.theorem_lecture.specs.Alike.{Clear, SamePierced, masks-same, hits-same, counts-same, lowests-same}
-use Rattle.theorem_lecture.specs.Lecture.{rowsOf, pointsOf, pierceViewOf, inA, inB, listed, maskA, maskB, SameShape, SameAnswers}
+use Rattle.questions.specs.declared.Verdict.the-variants as verdict
+use Rattle.survey_scene.specs.Ready.{outside-beside, pierces-fit, sound}
+use Rattle.theorem_lecture.specs.Alike.{SamePierced, masks-same, hits-same, counts-same, lowests-same}
+use Rattle.theorem_lecture.specs.Lecture.{rowsOf, pointsOf, SameShape, SameAnswers}
+
+-- the same is at fault, and where nothing is, the same is answered
+pub answered-same : {X : Type 0} (refuse : Refusal → X) {x y : X} {i j : Judged} → i ≡ j → (j ≡ Accepted → x ≡ y) →
+    orRefuse refuse i x ≡ orRefuse refuse j y
+unfolding orRefuse
+answered-same refuse {x} {y} {j} e h = ap (λ (k : Judged). orRefuse refuse k x) e ∙ by j h
+  where
+    by : (j : Judged) → (j ≡ Accepted → x ≡ y) → orRefuse refuse j x ≡ orRefuse refuse j y
+    by Accepted h = h refl
+    by (Refused r) h = refl
 
 module _ (s t : List ℕ) (ok : judged s ≡ Accepted) (ok′ : judged t ≡ Accepted) (shape : SameShape s t)
     (same : SamePierced (pointsOf s) (rowsOf s) (rowsOf t)) where
-  abbrev n : ℕ
-  n = pointsOf s
+  abbrev v : View
+  v = viewOf s
 
-  -- ---- t, said of the counts and the faces of s
+  -- what t denotes has the counts and the faces of s
+  abbrev w : View
+  w = record { vertsA = v .vertsA; facesA = v .facesA; vertsB = v .vertsB; facesB = v .facesB; row = rowsOf t; face = v .face }
 
-  pub points-are : pointsOf t ≡ n
-  points-are = omega (arith, shape .verts-a, shape .verts-b)
-
-  view-is : pierceViewOf t ≡ record { points = n; row = rowsOf t; face = face (tablesOf s) }
-  view-is = λ i. record { points = points-are i; row = rowsOf t; face = λ k. shape .faces k i }
-
-  a-is : inA t ≡ inA s
-  a-is =
-      λ i. record {
-        vert0 = 0;
-        verts = shape .verts-a i;
-        face0 = 0;
-        faces = shape .faces-a i;
-        other0 = shape .faces-a i;
-        others = shape .faces-b i;
-      }
-
-  b-is : inB t ≡ inB s
-  b-is =
+  view-is : viewOf t ≡ w
+  view-is =
       λ i.
       record {
-        vert0 = shape .verts-a i;
-        verts = shape .verts-b i;
-        face0 = shape .faces-a i;
-        faces = shape .faces-b i;
-        other0 = 0;
-        others = shape .faces-a i;
+        vertsA = shape .verts-a i;
+        facesA = shape .faces-a i;
+        vertsB = shape .verts-b i;
+        facesB = shape .faces-b i;
+        row = rowsOf t;
+        face = λ k. shape .faces k i;
       }
 
-  -- ---- the faces of A and of B, and the points that are none of their vertices
+  pub points-are : pointsOf t ≡ pointsOf s
+  points-are = ap points view-is
 
-  faces-of-a : (i : ℕ) → i < facesA s → FaceOf 0 (vertsA s) (face (tablesOf s) (0 + 1 + i))
-  faces-of-a i b = face-of-a limits s ok (0 + 1 + i) (omega arith) (omega arith)
+  -- asked of the bytes: both are accepted, so it is as it is of the views
+  of-bytes : {X : Type 0} (refuse : Refusal → X) (ask : View → X) → ask w ≡ ask v →
+      orRefuse refuse (judged t) (ask (viewOf t)) ≡ orRefuse refuse (judged s) (ask v)
+  of-bytes refuse ask e = answered-same refuse (ok′ ∙ sym ok) (λ _. ap ask view-is ∙ e)
 
-  faces-of-b : (i : ℕ) → i < facesB s → FaceOf (vertsA s) (verts s) (face (tablesOf s) (facesA s + 1 + i))
-  faces-of-b i b = face-of-b limits s ok (facesA s + 1 + i) (omega arith) (omega arith)
+  -- ---- an edge and a face
 
-  own-a : (i : ℕ) → 0 < i → i ≤ 0 + vertsA s → Clear n (vertsA s) (verts s) i
-  own-a i a b = record { point = omega arith; out = λ h. omega arith }
+  pierces-same : (u x f : ℕ) → piercesIn w u x f ≡ piercesIn v u x f
+  unfolding piercesIn piercesFault edgeAndFace isPoint isFace
+  pierces-same u x f =
+      answered-same answer.Refused refl (λ e. ap yesNo (sym (same u x (v .face f) (pierces-fit s ok f e refl refl refl .1 .1))))
 
-  own-b : (i : ℕ) → vertsA s < i → i ≤ verts s → Clear n 0 (vertsA s) i
-  own-b i a b = record { point = omega arith; out = λ h. omega arith }
+  -- ---- masks
 
-  far-a : Clear n 0 (vertsA s) n
-  far-a = let c = counts limits s ok in record { point = omega arith; out = λ h. omega (arith, c .vertices-b) }
+  mask-same : (u x k : ℕ) → Outside v u x k → maskIn w u x k ≡ maskIn v u x k
+  unfolding maskIn solid
+  mask-same u x k h =
+      sym (masks-same (points v) (v .row) (w .row) (v .face) same u x (solid v k .face0) (solid v k .faces)
+      (outside-beside s ok h refl refl refl))
 
-  far-b : Clear n (vertsA s) (verts s) n
-  far-b = record { point = omega arith; out = λ h. omega arith }
+  masked-same : (u x k : ℕ) → maskedIn w u x k ≡ maskedIn v u x k
+  unfolding maskedIn maskFault edgeAndSolid endsOffSolid isPoint isVertexOf solid
+  masked-same u x k =
+      answered-same refused refl (λ e. ap (λ (m : ℕ). faces-are m (ones m)) (mask-same u x k (mask-outside v u x k e)))
 
-  -- ---- what is answered of the solids
+  enclosed-same : (i : ℕ) → enclosedIn w i ≡ enclosedIn v i
+  unfolding enclosedIn enclosedFault isVertex isEnclosed otherSolid
+  enclosed-same i =
+      answered-same answer.Refused refl
+      (λ e. ap (λ (m : ℕ). yesNo (isOdd m)) (mask-same i (points v) (otherSolid v i) (far-outside v i (enclosed-vertex v i e) refl refl)))
 
-  module _ (u v : ℕ) (d : u ≢ v) where
-    mask-a : Clear n 0 (vertsA s) u → Clear n 0 (vertsA s) v → maskA t u v ≡ maskA s u v
-    mask-a cu cv =
-        (λ i. maskAgainst (points-are i) (rowsOf t) (λ k. shape .faces k i) u v 0 (shape .faces-a i))
-        ∙ sym (masks-same n (rowsOf s) (rowsOf t) (face (tablesOf s)) same 0 (vertsA s) (omega arith) 0 (facesA s) faces-of-a u v cu cv d)
+  -- ---- the solids: pairs, and enclosed vertices
 
-    mask-b : Clear n (vertsA s) (verts s) u → Clear n (vertsA s) (verts s) v → maskB t u v ≡ maskB s u v
-    mask-b cu cv =
-        (λ i. maskAgainst (points-are i) (rowsOf t) (λ k. shape .faces k i) u v (shape .faces-a i) (shape .faces-b i))
-        ∙ sym (masks-same n (rowsOf s) (rowsOf t) (face (tablesOf s)) same (vertsA s) (verts s) (omega arith) (facesA s)
-        (facesB s) faces-of-b u v cu cv d)
+  hits : (k : ℕ) → solidHits (pierceView w) (solid w k) ≡ solidHits (pierceView v) (solid v k)
+  unfolding solid
+  hits k = sym (hits-same (points v) (v .row) (w .row) (v .face) same (solid v k) (sound s ok k))
 
-  hits-a : solidHits (pierceViewOf t) (inA t) ≡ solidHits (pierceViewOf s) (inA s)
-  hits-a =
-      ap₂ solidHits view-is a-is
-      ∙ sym (hits-same n (rowsOf s) (rowsOf t) (face (tablesOf s)) same (vertsA s) (verts s) (omega arith)
-      (inA s) faces-of-b own-a far-b (omega arith))
+  inside : (k : ℕ) → insideIn w k ≡ insideIn v k
+  unfolding insideIn solid
+  inside k = sym (counts-same (points v) (v .row) (w .row) (v .face) same (solid v k) (sound s ok k))
 
-  hits-b : solidHits (pierceViewOf t) (inB t) ≡ solidHits (pierceViewOf s) (inB s)
-  hits-b =
-      ap₂ solidHits view-is b-is
-      ∙ sym (hits-same n (rowsOf s) (rowsOf t) (face (tablesOf s)) same 0 (vertsA s) (omega arith)
-      (inB s) faces-of-a own-b far-a (omega arith))
+  lowest : (k : ℕ) → lowestEnclosed (pierceView w) (solid w k) ≡ lowestEnclosed (pierceView v) (solid v k)
+  unfolding solid
+  lowest k = sym (lowests-same (points v) (v .row) (w .row) (v .face) same (solid v k) (sound s ok k))
 
-  inside-a : enclosedCount (pierceViewOf t) (inA t) ≡ enclosedCount (pierceViewOf s) (inA s)
-  inside-a =
-      ap₂ enclosedCount view-is a-is
-      ∙ sym (counts-same n (rowsOf s) (rowsOf t) (face (tablesOf s)) same (vertsA s) (verts s) (omega arith)
-      (inA s) faces-of-b own-a far-b (omega arith))
+  listing-same : listingIn w ≡ listingIn v
+  unfolding listingIn
+  listing-same = ap₂ _++_ (hits 1) (hits 2)
 
-  inside-b : enclosedCount (pierceViewOf t) (inB t) ≡ enclosedCount (pierceViewOf s) (inB s)
-  inside-b =
-      ap₂ enclosedCount view-is b-is
-      ∙ sym (counts-same n (rowsOf s) (rowsOf t) (face (tablesOf s)) same 0 (vertsA s) (omega arith)
-      (inB s) faces-of-a own-b far-a (omega arith))
+  enclosing-same : (k : ℕ) → enclosingIn w k ≡ enclosingIn v k
+  unfolding enclosingIn
+  enclosing-same k = ap (λ (n : ℕ). orRefuse enclosing.Refused (insideFault k) (enclosing.Count n)) (inside k)
 
-  lowest-a : lowestEnclosed (pierceViewOf t) (inA t) ≡ lowestEnclosed (pierceViewOf s) (inA s)
-  lowest-a =
-      ap₂ lowestEnclosed view-is a-is
-      ∙ sym (lowests-same n (rowsOf s) (rowsOf t) (face (tablesOf s)) same (vertsA s) (verts s) (omega arith)
-      (inA s) faces-of-b own-a far-b (omega arith))
+  counts-are : countsIn w ≡ countsIn v
+  unfolding countsIn
+  counts-are = λ i. record { pairs = length (listing-same i); «a_in_b» = inside 1 i; «b_in_a» = inside 2 i }
 
-  lowest-b : lowestEnclosed (pierceViewOf t) (inB t) ≡ lowestEnclosed (pierceViewOf s) (inB s)
-  lowest-b =
-      ap₂ lowestEnclosed view-is b-is
-      ∙ sym (lowests-same n (rowsOf s) (rowsOf t) (face (tablesOf s)) same 0 (vertsA s) (omega arith)
-      (inB s) faces-of-a own-b far-a (omega arith))
+  enclosure-same : enclosureIn w ≡ enclosureIn v
+  unfolding enclosureIn
+  enclosure-same =
+      ap₂ (λ (p q : ℕ). cond (leb p (v .vertsA)) (verdict.AInB p) (cond (leb q (verts v)) (verdict.BInA q) verdict.Apart)) (lowest 1)
+      (lowest 2)
 
-  listing : listed t ≡ listed s
-  listing = ap₂ _++_ hits-a hits-b
+  verdict-same : verdictIn w ≡ verdictIn v
+  unfolding verdictIn
+  verdict-same = ap₂ (λ (l : List Hit) (rest : Verdict). crossOr (firstOf l) rest) listing-same enclosure-same
 
-  -- ---- the kernel's answers
+  -- ---- the listing, into a lent list d
 
-  counted : countedOf t ≡ countedOf s
-  unfolding countedOf countsIn insideIn listingIn solid orRefuse
-  counted =
-      rw (ok, ok′)
-      (ap answers.Counts (λ i. record { pairs = length (listing i); «a_in_b» = inside-a i; «b_in_a» = inside-b i }))
+  list-same : (d : List ℕ) → listedIn w d ≡ listedIn v d
+  unfolding listedIn listFault
+  list-same d = rw listing-same
 
-  verdict : verdictOf t ≡ verdictOf s
-  unfolding verdictOf verdictIn enclosureIn solid listingIn orRefuse
-  verdict =
-      rw (ok, ok′)
-      (ap₂ (λ (l : List Hit) (rest : Verdict). crossOr (firstOf l) rest) listing
-      (λ i.
-      cond (leb (lowest-a i) (shape .verts-a i)) (AInB (lowest-a i))
-      (cond (leb (lowest-b i) (shape .verts-a i + shape .verts-b i)) (BInA (lowest-b i)) Apart)))
+  held-same : (d : List ℕ) → heldIn w d ≡ heldIn v d
+  unfolding heldIn listFault
+  held-same d = rw listing-same
+
+  listed-so : (d d′ : List ℕ) (r : Listed) → IsListed t d d′ r ↔ IsListed s d d′ r
+  listed-so d d′ r =
+      let a = of-bytes listed.Refused (λ z. listedIn z d) (list-same d) in
+      let h = of-bytes (λ _. d) (λ z. heldIn z d) (held-same d) in (
+        λ x. record { answer = x .answer ∙ a; held = x .held ∙ h },
+        λ x. record { answer = x .answer ∙ sym a; held = x .held ∙ sym h },
+      )
+
+  part-so : (from : ℕ) (d d′ : List ℕ) (r : Listed) → IsPart t from d d′ r ↔ IsPart s from d d′ r
+  part-so from d d′ r =
+      let a = of-bytes listed.Refused (λ z. listed.Count (length (listingIn z)))
+      (ap (λ (l : List Hit). listed.Count (length l)) listing-same) in
+      let h = of-bytes (λ _. d) (λ z. partIn (listingIn z) from d) (ap (λ (l : List Hit). partIn l from d) listing-same) in (
+        λ x. record { answer = x .answer ∙ a; held = x .held ∙ h },
+        λ x. record { answer = x .answer ∙ sym a; held = x .held ∙ sym h },
+      )
+
+  -- ---- all of them
 
   pub same-answers : SameAnswers s t
+  unfolding verdictOf maskedOf piercesOf enclosedOf insideOf countedOf
   same-answers =
       record {
-        mask-a = λ u v cu cv d. mask-a u v d cu cv;
-        mask-b = λ u v cu cv d. mask-b u v d cu cv;
-        listing = listing;
-        inside-a = inside-a;
-        inside-b = inside-b;
-        lowest-a = lowest-a;
-        lowest-b = lowest-b;
-        counted = counted;
-        verdict = verdict;
+        verdict = of-bytes verdict.Refused verdictIn verdict-same;
+        masks = λ u x k. of-bytes refused (λ z. maskedIn z u x k) (masked-same u x k);
+        listing = ap listingIn view-is ∙ listing-same;
+        listed = listed-so;
+        part = part-so;
+        pierces = λ u x f. of-bytes answer.Refused (λ z. piercesIn z u x f) (pierces-same u x f);
+        enclosed = λ i. of-bytes answer.Refused (λ z. enclosedIn z i) (enclosed-same i);
+        inside = λ k. of-bytes enclosing.Refused (λ z. enclosingIn z k) (enclosing-same k);
+        counted = of-bytes counted.Refused (λ z. counted.Counts (countsIn z)) (ap counted.Counts counts-are);
       }

@@ -92,7 +92,7 @@ module _ (s : List ℕ) (ok : judged s ≡ Accepted) where
     where
       by : Dec (vertsA s < i) → Dec (verts s < i) → rowsOf t (to s i) ≡ rowsOf s i
       by (no l) k =
-          let e : to s i ≡ vertsA t + 1 + (i - 1) = of-a (vertsA s) (vertsB s) i (omega arith) ∙ omega (arith, verts-a) in
+          let e : to s i ≡ vertsA t + 1 + (i - 1) = of-a (vertsA s) (vertsB s) i (u .0) (omega arith) ∙ omega (arith, verts-a) in
           ap (rowsOf t) e ∙ row-is t (vertsA t + 1 + (i - 1)) (omega arith) (omega (arith, verts-a, verts-b)) ∙ row-b (i - 1) (omega arith)
           ∙ ap (rowAt s) (omega arith) ∙ sym (row-is s i (u .0) (omega arith))
       by (yes l) (no k) =
@@ -105,13 +105,13 @@ module _ (s : List ℕ) (ok : judged s ≡ Accepted) where
 
   raised : (f : Face) → FaceOf 0 (vertsA s) f → raise (vertsA t) f ≡ renamed (to s) f
   raised f c =
-      let p = number (f .p) (c .p .1) in
-      let q = number (f .q) (c .q .1) in
-      let r = number (f .r) (c .r .1) in
+      let p = number (f .p) (c .p .0) (c .p .1) in
+      let q = number (f .q) (c .q .0) (c .q .1) in
+      let r = number (f .r) (c .r .0) (c .r .1) in
       λ i. record { p = p i; q = q i; r = r i }
     where
-      number : (i : ℕ) → i ≤ vertsA s → vertsA t + i ≡ to s i
-      number i l = omega (arith, verts-a, of-a (vertsA s) (vertsB s) i l)
+      number : (i : ℕ) → 1 ≤ i → i ≤ vertsA s → vertsA t + i ≡ to s i
+      number i a l = omega (arith, verts-a, of-a (vertsA s) (vertsB s) i a l)
 
   lowered : (f : Face) → FaceOf (vertsA s) (verts s) (raise (vertsA s) f) → f ≡ renamed (to s) (raise (vertsA s) f)
   lowered f c =
