@@ -59,14 +59,16 @@ pub record Points (a b c d : Vertex) : Type 0 where
 abbrev pub wholeC0 : Vertex → Vertex → Vertex → Vertex → ℤ
 wholeC0 a b c d = det4 (rowOf a) (rowOf b) (rowOf c) (rowOf d)
 
--- r is that number, and of the doubles that are it the number's own: a zero is never minus zero
+-- of four points r is that number, and of the doubles that are it the number's own: a zero is never minus zero. Of any other doubles it is
+-- the expression, with zero added last.
 pub record IsC0 (a b c d : Vertex) (r : Float) : Type 0 where
-  pub is : Is r (wholeC0 a b c d)
-  pub own : r ≡ ofInt binary64 (wholeC0 a b c d)
+  pub is : Points a b c d → Is r (wholeC0 a b c d)
+  pub own : Points a b c d → r ≡ ofInt binary64 (wholeC0 a b c d)
+  pub worked : r ≡ add binary64 (minorsOf a b c d) (fin false 0 (pos 0))
 
 -- no second answer
 pub one-c0 : (a b c d : Vertex) (r q : Float) → IsC0 a b c d r → IsC0 a b c d q → r ≡ q
-one-c0 a b c d r q x y = x .own ∙ sym (y .own)
+one-c0 a b c d r q x y = x .worked ∙ sym (y .worked)
 
 -- ---- the expression is the determinant
 
@@ -87,17 +89,17 @@ four v p l =
     ∷ l
 
 -- with zero added
-pub c0-worked : {a b c d : Vertex} {m : Float} → Points a b c d → m ≡ minorsOf a b c d →
-    IsC0 a b c d (add binary64 m (fin false 0 (pos 0)))
+pub c0-worked : {a b c d : Vertex} {m : Float} → m ≡ minorsOf a b c d → IsC0 a b c d (add binary64 m (fin false 0 (pos 0)))
 unfolding minorsOf
-c0-worked {a} {b} {c} {d} p q =
-    let numbers : List Entry = four a (p .first) (four b (p .second) (four c (p .third) (four d (p .fourth) []))) in
+c0-worked {a} {b} {c} {d} q =
+    let numbers : Points a b c d → List Entry = λ p. four a (p .first) (four b (p .second) (four c (p .third) (four d (p .fourth) []))) in
     let e = minors-are (rowOf a) (rowOf b) (rowOf c) (rowOf d) in
     let done : Float = add binary64 (minorsOf a b c d) (fin false 0 (pos 0)) in
     let worked = ap (λ (x : Float). add binary64 x (fin false 0 (pos 0))) q in
     record {
-      is = subst (λ (x : Float). Is x (wholeC0 a b c d)) (sym worked) (subst (Is done) e (settled-is numbers minors tt tt));
-      own = worked ∙ settled numbers minors tt ∙ ap (ofInt binary64) e;
+      is = λ p. subst (λ (x : Float). Is x (wholeC0 a b c d)) (sym worked) (subst (Is done) e (settled-is (numbers p) minors tt tt));
+      own = λ p. worked ∙ settled (numbers p) minors tt ∙ ap (ofInt binary64) e;
+      worked = worked;
     }
 
 -- ---- any four points of an accepted scene, by their numbers i, j, k, l, each in doubles
@@ -118,13 +120,12 @@ module _ (s : List ℕ) (ok : judged s ≡ Accepted) where
         let e4 = row-of d (r l) v in
         (λ x. det4 (e1 x) (e2 x) (e3 x) (e4 x)) ∙ sym (c0-parts (pointAt r i) (pointAt r j) (pointAt r k) (pointAt r l))
 
-    -- c0 may be asked of them
     pub scene-points : Points a b c d
     scene-points = record { first = point-of i a p; second = point-of j b q; third = point-of k c u; fourth = point-of l d v }
 
-    -- and what is answered is the scene's c0: the whole number, and its own double
+    -- what is answered of them is the scene's c0: the whole number, and its own double
     pub c0-is : (r : Float) → IsC0 a b c d r → Is r (termsAt (row (tablesOf s)) i j k l .c0)
-    c0-is r h = subst (Is r) is-term (h .is)
+    c0-is r h = subst (Is r) is-term (h .is scene-points)
 
     pub c0-exact : (r : Float) → IsC0 a b c d r → r ≡ ofInt binary64 (termsAt (row (tablesOf s)) i j k l .c0)
-    c0-exact r h = h .own ∙ ap (ofInt binary64) is-term
+    c0-exact r h = h .own scene-points ∙ ap (ofInt binary64) is-term

@@ -1,6 +1,6 @@
 // c0 of four vertices, worked out in doubles.
 ghost use mathlib.Core.Path.{_≡_};
-ghost use Rattle.doubles.specs.Determinant.{Points, IsC0, minorsOf};
+ghost use Rattle.doubles.specs.Determinant.{IsC0, minorsOf};
 use crate::Vertex;
 
 // By the minors of the first two rows and of the last two.
@@ -18,7 +18,6 @@ fn by_minors(a: Vertex, b: Vertex, c: Vertex, d: Vertex) -> f64
 // The determinant c0 of four points of a scene: every product and sum on the way is a whole number below 2^53. Zero is added last, so that
 // a zero is never minus zero.
 pub fn c0(a: Vertex, b: Vertex, c: Vertex, d: Vertex) -> f64
-    requires { ⌜ Points a b c d ⌝ }
     ensures { λ r. ⌜ IsC0 a b c d r ⌝ }
 {
     by_minors(a, b, c, d) + 0.0

@@ -14,9 +14,17 @@ pub record Limits : Type 0 where
 abbrev pub limits : Limits
 limits = record { leastVertices = 3; mostVertices = 48; leastFaces = 2; mostFaces = 96; mostCoordinate = 4095; mostWeight = 16 }
 
--- those before larger models
+-- those before larger models: fewer vertices and faces, and else the same
 abbrev pub limitsBefore : Limits
-limitsBefore = record { leastVertices = 3; mostVertices = 32; leastFaces = 2; mostFaces = 64; mostCoordinate = 4095; mostWeight = 16 }
+limitsBefore =
+    record {
+      leastVertices = limits .leastVertices;
+      mostVertices = 32;
+      leastFaces = limits .leastFaces;
+      mostFaces = 64;
+      mostCoordinate = limits .mostCoordinate;
+      mostWeight = limits .mostWeight;
+    }
 
 -- the highest point number, the far point's, and the longest scene
 abbrev pub mostPoints : Limits → ℕ

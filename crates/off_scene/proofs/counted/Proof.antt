@@ -2,6 +2,7 @@
 use Prim.Native.Nat.{ℕ}
 use lib.ListN.{length-replicate}
 use native.Mathlib.Omega.{arith}
+use Rattle.scene.specs.Limits.{limits, longest}
 use Rattle.off_scene.specs.Counts.{fits-small}
 use Rattle.off_scene.specs.Laws.{first-unfit, second-unfit, both-fit, own-count}
 use borrow.Author.Needs.{needs}
@@ -14,7 +15,7 @@ put-scene-requires c κs =
     let h = g .before .before in (
       fits-small _ _ (h .before .before .head-of .ensures) (h .counts-fit .ensures) (g .before .if1 .left),
       fits-small _ _ (h .before .head-of2 .ensures) (g .counts-fit2 .ensures) (c .before .if2 .left),
-      omega (arith, length-replicate {A = ℕ} 1841 0),
+      omega (arith, length-replicate {A = ℕ} (longest limits) 0),
     )
 
 pub counted-spec : {M : Type 1} → statement M

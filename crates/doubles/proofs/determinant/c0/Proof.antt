@@ -1,4 +1,4 @@
--- The expression is c0, of four points.
+-- The expression, with zero added, is c0 of four points.
 use lib.Ieee.{ofBits}
 use Rattle.doubles.specs.Determinant.{c0-worked}
 use borrow.Author.Needs.{needs}
