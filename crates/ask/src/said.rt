@@ -2,14 +2,10 @@
 use crate::words::Number;
 use crate::words::number_in;
 use check::same;
-use libc::STDERR_FILENO;
+use cli::to_error;
 use print::newline;
 use print::word;
 use scene::Refusal;
-
-fn say(text: &[u8]) {
-    io::write_all(STDERR_FILENO, text);
-}
 
 // Whether the first word asked for help or for the version.
 pub fn help() -> bool {
@@ -87,7 +83,7 @@ pub fn scene(s: &[u8], r: Refusal) {
     let p = word(&mut out, 0, b"why: ");
     let q = print_why::sentence(s, r, &mut out, p);
     let n = newline(&mut out, q);
-    say(&out[0..n]);
+    to_error(&out[0..n]);
 }
 
 // The number of the refusal that is answered of an accepted scene: 10, 11 or 12.
@@ -106,6 +102,6 @@ pub fn rule(answer: &[u8]) {
     if let Number::Is(n) = refusal_in(answer) {
         let mut out = [0u8; 256];
         let end = print_refusals::line(&mut out, 0, n);
-        say(&out[0..end]);
+        to_error(&out[0..end]);
     }
 }

@@ -9,7 +9,6 @@ use cli::is_option;
 use cli::is_word;
 use cli_words::Word;
 use cli_words::number_at;
-use libc::STDERR_FILENO;
 use print_lines::rows::least;
 use scene::Row;
 use scene::Scene;
@@ -172,7 +171,7 @@ fn play(first: Bench, count: usize) -> bool
 fn say_usage(k: usize) {
     let mut out = [0u8; 160];
     let n = said::usage(&mut out, k);
-    io::write_all(STDERR_FILENO, &out[0..n]);
+    cli::to_error(&out[0..n]);
 }
 
 // The bench of two scenes, and the moves.

@@ -1,13 +1,9 @@
 // What is said on standard error: the help, and why the bench or a move is refused.
 use bench_moves::Answer;
+use cli::to_error;
 use judge::Judged;
-use libc::STDERR_FILENO;
 use print::newline;
 use scene::Refusal;
-
-fn say(text: &[u8]) {
-    io::write_all(STDERR_FILENO, text);
-}
 
 // Whether the first word asked for help or for the version.
 pub fn help() -> bool {
@@ -36,7 +32,7 @@ is refused is said on standard error. A refused move changes nothing.
 fn rule(number: usize) {
     let mut out = [0u8; 256];
     let n = print_refusals::line(&mut out, 0, number);
-    say(&out[0..n]);
+    to_error(&out[0..n]);
 }
 
 pub fn moved(a: Answer) {
@@ -47,13 +43,13 @@ pub fn moved(a: Answer) {
 
 // The scene s, of word i, is refused.
 fn scene_refused(i: usize, s: &[u8], r: Refusal) {
-    say(b"why: ");
+    to_error(b"why: ");
     cli::say_name(i);
     let mut out = [0u8; 512];
     let p = print::word(&mut out, 0, b": ");
     let q = print_why::sentence(s, r, &mut out, p);
     let n = newline(&mut out, q);
-    say(&out[0..n]);
+    to_error(&out[0..n]);
 }
 
 // The first scene's own refusal, then the second's, then that they differ.

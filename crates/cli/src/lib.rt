@@ -33,6 +33,11 @@ pub fn is_option(i: usize) -> bool {
     word[0] == b'-'
 }
 
+// A text on standard error, as it is.
+pub fn to_error(text: &[u8]) {
+    io::write_all(STDERR_FILENO, text);
+}
+
 // A line on standard error.
 pub fn say(program: &[u8], what: &[u8]) {
     io::write_all(STDERR_FILENO, program);

@@ -1,15 +1,11 @@
 // What is said on standard error: a line for the opening and for each operation, and why it is refused.
 use crate::steps;
+use cli::to_error;
 use judge::Judged;
-use libc::STDERR_FILENO;
 use print::newline;
 use print::word;
 use scene::Refusal;
 use session::Changed;
-
-fn say(text: &[u8]) {
-    io::write_all(STDERR_FILENO, text);
-}
 
 // Whether the first word asked for help or for the version.
 pub fn help() -> bool {
@@ -38,7 +34,7 @@ fn answer(c: Changed) {
     // `counts` and three numbers, each of no more than 20 digits.
     let mut out = [0u8; 70];
     let n = steps::line_of(&mut out, c);
-    say(&out[0..n]);
+    to_error(&out[0..n]);
 }
 
 // The refusal of the scene s.
@@ -47,7 +43,7 @@ fn why(s: &[u8], r: Refusal) {
     let p = word(&mut out, 0, b"why: ");
     let q = print_why::sentence(s, r, &mut out, p);
     let n = newline(&mut out, q);
-    say(&out[0..n]);
+    to_error(&out[0..n]);
 }
 
 pub fn opening(s: &[u8], c: Changed) {
@@ -57,15 +53,15 @@ pub fn opening(s: &[u8], c: Changed) {
         why(s, r);
     }
     if s.len() == 0 {
-        say(b"note: a shell empties FILE before `edit ... FILE > FILE` reads it; ");
-        say(b"`bodhranhaze -o FILE edit ... FILE` changes a file in place\n");
+        to_error(b"note: a shell empties FILE before `edit ... FILE > FILE` reads it; ");
+        to_error(b"`bodhranhaze -o FILE edit ... FILE` changes a file in place\n");
     }
 }
 
 fn rule(r: Refusal) {
     let mut out = [0u8; 256];
     let n = print_refusals::line(&mut out, 0, scene::number(r));
-    say(&out[0..n]);
+    to_error(&out[0..n]);
 }
 
 pub fn operation(c: Changed) {
@@ -77,7 +73,7 @@ pub fn operation(c: Changed) {
 }
 
 pub fn nothing_written() {
-    say(b"why: no scene is written\n");
+    to_error(b"why: no scene is written\n");
 }
 
 // Word k is wrong.
@@ -85,5 +81,5 @@ pub fn usage(k: usize) {
     // A hundred bytes, and a number of no more than 20 digits.
     let mut out = [0u8; 120];
     let n = steps::usage_of(&mut out, k);
-    say(&out[0..n]);
+    to_error(&out[0..n]);
 }

@@ -1,15 +1,11 @@
 // What is said on standard error, and the help.
 use crate::line;
+use cli::to_error;
 use judge::Judged;
-use libc::STDERR_FILENO;
 use map_image::Fault;
 use print::newline;
 use print::word;
 use scene::Refusal;
-
-fn say(text: &[u8]) {
-    io::write_all(STDERR_FILENO, text);
-}
 
 // Whether the first word asked for help or for the version.
 pub fn help() -> bool {
@@ -59,7 +55,7 @@ fn scene(s: &[u8], r: Refusal) {
     let p = word(&mut out, 0, b"why: ");
     let q = print_why::sentence(s, r, &mut out, p);
     let n = newline(&mut out, q);
-    say(&out[0..n]);
+    to_error(&out[0..n]);
 }
 
 fn rule(before: &[u8], number: usize) {
@@ -67,7 +63,7 @@ fn rule(before: &[u8], number: usize) {
     let p = word(&mut out, 0, before);
     let q = print_refusals::rule(&mut out, p, number);
     let n = newline(&mut out, q);
-    say(&out[0..n]);
+    to_error(&out[0..n]);
 }
 
 // Of an accepted scene: 17 and 18 are the map's, and the others the image's.
@@ -91,6 +87,6 @@ pub fn refused(s: &[u8], f: Fault) {
     // Two numbers of no more than 20 digits.
     let mut out = [0u8; 64];
     let n = line::refused(f, &mut out);
-    say(&out[0..n]);
+    to_error(&out[0..n]);
     explain(s, f);
 }

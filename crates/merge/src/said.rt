@@ -1,4 +1,5 @@
 // What is said: help, and on standard error what is wrong with the words, with an input or with the number of reports.
+use cli::to_error;
 use libc::STDERR_FILENO;
 
 // Whether the first word asked for help or for the version.
@@ -17,10 +18,6 @@ report is told on standard error, and so is a number of reports that is not N. N
 --version         the version
 ",
     )
-}
-
-fn say(text: &[u8]) {
-    io::write_all(STDERR_FILENO, text);
 }
 
 fn usage() {
@@ -42,10 +39,10 @@ pub fn twice(i: usize) {
 }
 
 fn wrong(name: &[u8], why: &[u8]) {
-    say(b"merge: ");
-    say(name);
-    say(b": ");
-    say(why);
+    to_error(b"merge: ");
+    to_error(name);
+    to_error(b": ");
+    to_error(why);
 }
 
 pub fn empty(name: &[u8]) {
@@ -55,16 +52,16 @@ pub fn empty(name: &[u8]) {
 // What is wrong with the input of this name, and at which byte, counted from 1.
 pub fn wrong_at(name: &[u8], why: &[u8], byte: usize) {
     wrong(name, why);
-    say(b"; byte ");
+    to_error(b"; byte ");
     io::print_decimal(STDERR_FILENO, byte as u64);
-    say(b" of the text\n");
+    to_error(b" of the text\n");
 }
 
 // So many reports were read, and so many are asked for.
 pub fn number(read: usize, asked: usize) {
-    say(b"merge: ");
+    to_error(b"merge: ");
     io::print_decimal(STDERR_FILENO, read as u64);
-    say(b" reports, and ");
+    to_error(b" reports, and ");
     io::print_decimal(STDERR_FILENO, asked as u64);
-    say(b" are asked for\n");
+    to_error(b" are asked for\n");
 }

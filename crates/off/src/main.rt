@@ -2,7 +2,7 @@
 // object text. What is refused is told on standard error.
 use cli::is_option;
 use cli::is_word;
-use libc::STDERR_FILENO;
+use cli::to_error;
 use off_items::numbers::Number;
 use off_items::numbers::is_whole;
 use off_items::numbers::signed_number;
@@ -13,10 +13,6 @@ mod writing;
 
 // The longest word that the system passes on.
 const WORD: usize = 131072;
-
-pub fn say(text: &[u8]) {
-    io::write_all(STDERR_FILENO, text);
-}
 
 pub fn write(text: &[u8]) {
     cli::answer(b"off", text);
@@ -81,9 +77,9 @@ fn wrong_number() -> usize {
 fn say_wrong(i: usize) {
     let mut word = [0u8; WORD];
     let n = os::arg(i, &mut word);
-    say(b"off: ");
-    say(&word[..n]);
-    say(b": this number of the far point is no whole number\n");
+    to_error(b"off: ");
+    to_error(&word[..n]);
+    to_error(b": this number of the far point is no whole number\n");
 }
 
 // The solid whose text is asked for, or 0 where the words are wrong.

@@ -1,6 +1,6 @@
 // The scene of two files and a far point, on standard output; or on standard error why there is none.
-use crate::say;
 use crate::write;
+use cli::to_error;
 use off_scene::Fault;
 use off_scene::Made;
 use off_solids::points::Point;
@@ -15,7 +15,7 @@ const MOST: usize = ROOM - 1;
 fn say_fault(a: &[u8], b: &[u8], f: Fault) {
     let mut out = [0u8; 512];
     let p = off_words::fault(&mut out, 0, a, b, f);
-    say(&out[0..p]);
+    to_error(&out[0..p]);
 }
 
 fn write_scene(a: &[u8], b: &[u8], far: Point) {
@@ -28,9 +28,9 @@ fn write_scene(a: &[u8], b: &[u8], far: Point) {
 
 // The file that word i names is longer than any that is read.
 fn say_long(i: usize) {
-    say(b"off: ");
+    to_error(b"off: ");
     cli::say_name(i);
-    say(b": longer than 262143 bytes\n");
+    to_error(b": longer than 262143 bytes\n");
 }
 
 fn write_fitting(a: &[u8], b: &[u8], far: Point) {

@@ -1,6 +1,6 @@
 // A solid of a scene as an object text, on standard output; or on standard error why the scene is refused.
-use crate::say;
 use crate::write;
+use cli::to_error;
 use judge::Judged;
 use off_scene::Fault;
 use print::newline;
@@ -14,7 +14,7 @@ fn say_refused(s: &[u8], r: Refusal) {
     let q = word(&mut out, p, b"why: ");
     let e = print_why::sentence(s, r, &mut out, q);
     let n = newline(&mut out, e);
-    say(&out[0..n]);
+    to_error(&out[0..n]);
 }
 
 // The longest text has 48 lines of 22 bytes, 96 of 11, and two short ones.

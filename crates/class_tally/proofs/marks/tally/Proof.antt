@@ -79,8 +79,9 @@ tally-of-requires c κs = search needs
 
 returns : tie.Need-returns Inv-loop μ-loop
 returns c =
-    let l = c .before .before .before .loop in
-    let a = c .before .before .before .before .before in
+    let turns = c .before .before .before in
+    let l = turns .loop in
+    let a = turns .before .before in
     c .tally-of .ensures ∙ sofar-end (now (a .args .block)) (l .at) (l .lines) (l .pairs) (l .inv) (omega arith) (a .pre)
 
 pub tally-spec : {M : Type 1} → statement M

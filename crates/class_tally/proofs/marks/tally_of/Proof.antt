@@ -7,8 +7,10 @@ use Rattle.class_tally.proofs.marks.tally_of.Tie as tie
 
 returns : tie.Need-returns
 returns c =
-    let s = c .before .before .before .before .before .before .before .before in
-    let a = s .before .before .before .before .before .before .before .before .args in
+    let line-11 = c .before .before .before .before in
+    let line-7 = line-11 .before .before .before .before in
+    let line-3 = line-7 .before .before .before .before in
+    let a = line-3 .before .before .before .before .args in
     told-by (now (a .lines)) (a .pairs) (c .accepted .ensures)
 
 pub tally-of-spec : {M : Type 1} → statement M
