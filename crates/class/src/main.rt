@@ -1,5 +1,6 @@
 // Prints the class report of files: each is one scene, judged whole, so that `scenes` is the number of files. Where a file can't be read
 // there is no report: an answer that misses files must not look like one.
+use class_print::ROOM;
 use class_tally::Report;
 use class_tally::files;
 use class_tally::files::Files;
@@ -62,8 +63,7 @@ fn all_marked(
 }
 
 fn report(program: &[u8], f: Files) {
-    // The longest report has 16 lines of no more than 71 bytes.
-    let mut out = [0u8; 1136];
+    let mut out = [0u8; ROOM];
     let p = class_print::sheet(&mut out, 0, Report::Tallied(files::tally(f)));
     cli::answer(program, &out[0..p]);
 }

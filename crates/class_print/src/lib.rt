@@ -1,7 +1,9 @@
 // The class report as text, rendered into a lent buffer at a place; the answer is the place behind.
+ghost use mathlib.Core.Path.{_≡_};
 ghost use mathlib.Core.List.{[], _∷_};
 ghost use Rattle.print.specs.Put.{Put};
 ghost use Rattle.print.specs.Text.{decimal, line};
+ghost use Rattle.class_print.specs.Fits.{room};
 ghost use Rattle.class_print.specs.Sheet.{verdicts, refusedLow, refusedHigh, meanLine, tallied, refused, sheetOf};
 use class_tally::Mean;
 use class_tally::Report;
@@ -9,6 +11,14 @@ use class_tally::Tally;
 use print::newline;
 use print::next_number;
 use print::word;
+
+// Room for the longest report.
+pub const ROOM: usize = 1136;
+
+// The room of the definitions is that of the code: changing either alone is refused.
+pub fn room_agrees()
+    ensures { λ r. do ⌜ (← ⟦ROOM⟧ .entry) ≡ room ⌝ }
+{}
 
 // A line's words, and its number.
 fn counted(out: &mut [u8], at: usize, w: &[u8], n: usize) -> usize

@@ -156,7 +156,7 @@ marks-next : (s : List ℕ) → 0 < length s → marksOf s ≡ markOf (sceneOf s
 unfolding marksOf
 marks-next s h = rw (scenes-next s h)
 
-marks-few : (s : List ℕ) → length (marksOf s) ≤ length s
+pub marks-few : (s : List ℕ) → length (marksOf s) ≤ length s
 unfolding marksOf
 marks-few s = omega (arith, length-map (scenesOf s) markOf, scenes-few s)
 

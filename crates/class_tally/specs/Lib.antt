@@ -3,6 +3,8 @@ pub mod Most
 pub mod Merge
 pub mod Sums
 pub mod Counting
+pub mod Refusals
+pub mod Words
 pub mod Files
 pub mod Merging
 pub mod MergingProof

@@ -78,7 +78,7 @@ pairs-most s = go (judged s) refl
     go (Refused r) e = omega arith
 
 -- a scene has no pairs, or its verdict is one of the four words
-within-words : (s : List ℕ) → lineOf (verdictIn (viewOf s)) ≤ 4
+pub within-words : (s : List ℕ) → lineOf (verdictIn (viewOf s)) ≤ 4
 unfolding verdictIn enclosureIn solid
 within-words s = go (firstOf (listingIn (viewOf s))) (leb p (vertsA s)) (leb q (verts s)) p q
   where

@@ -20,7 +20,7 @@ use Rattle.class_tally.specs.declared.Report.the-variants.{Longer, Talli
 
 -- ---- the lines, in the order of the report: 0 `scenes`; 1 to 4 the verdict's words; 5 to 13 `refused 1` to `refused 9`; 14 `refused 14`
 
--- no scene is refused with another number
+-- (`Refusals.refused`: no scene is refused with another number)
 abbrev pub refusedLine : ℕ → ℕ
 refusedLine n = cond (leb n 9) (n + 4) 14
 

@@ -1,4 +1,5 @@
 // Prints the class report of the block in a file, or on standard input.
+use class_print::ROOM;
 use class_tally::Report;
 use class_tally::Tally;
 
@@ -47,8 +48,7 @@ fn are_wrong() -> bool {
 }
 
 fn print(r: Report) {
-    // The longest report has 16 lines of no more than 71 bytes.
-    let mut out = [0u8; 1136];
+    let mut out = [0u8; ROOM];
     let p = class_print::sheet(&mut out, 0, r);
     cli::answer(b"marks", &out[0..p]);
 }

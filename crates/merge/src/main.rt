@@ -3,6 +3,7 @@
 ghost use Prim.Native.Nat.{_≤_};
 ghost use lib.ListN.{length};
 use check::same;
+use class_print::ROOM;
 use class_read::Reading;
 use class_sum::Merged;
 use class_tally::Report;
@@ -198,8 +199,7 @@ fn is_asked(a: Asked, read: usize) -> bool {
 }
 
 fn print(r: Report) {
-    // The longest report has 16 lines of no more than 71 bytes.
-    let mut out = [0u8; 1136];
+    let mut out = [0u8; ROOM];
     let p = class_print::sheet(&mut out, 0, r);
     cli::answer(b"merge", &out[0..p]);
 }
