@@ -34,7 +34,7 @@ module _ (s : List ℕ) where
 
   -- each edge of a solid lies in an even number of its faces
   abbrev IsClosed : numbers.Solid → Type 0
-  IsClosed o = Solid (points v) (o .low) (o .low + o .verts) (run (v .face) (o .first + 1) (o .count))
+  IsClosed o = Solid (points v) (o .vert0) (o .vert0 + o .verts) (run (v .face) (o .face0 + 1) (o .faces))
 
   module _ (l : Limits) (ok : judgedAt l s ≡ Accepted) where
     closed : (k : ℕ) → IsClosed (solid v k)
@@ -67,7 +67,7 @@ module _ (l : Limits) where
   unfolding maskIn
   parity s ok k n a b c h =
       let o = solid (viewOf s) k in
-      scene-parity _ _ (all-weighted s l ok) (viewOf s .face) (o .first) (o .count) (closed s l ok k) a b c (triangle s n h)
+      scene-parity _ _ (all-weighted s l ok) (viewOf s .face) (o .face0) (o .faces) (closed s l ok k) a b c (triangle s n h)
 
   count-parity : CountParity l
   unfolding maskIn
@@ -76,16 +76,16 @@ module _ (l : Limits) where
       omega (
         arith,
         parity s ok k n a b c h,
-        number-once p (mask-is s a b (o .first) (o .count) .count),
-        number-once q (mask-is s b c (o .first) (o .count) .count),
-        number-once r (mask-is s c a (o .first) (o .count) .count),
+        number-once p (mask-is s a b (o .face0) (o .faces) .count),
+        number-once q (mask-is s b c (o .face0) (o .faces) .count),
+        number-once r (mask-is s c a (o .face0) (o .faces) .count),
       )
 
   route : Route l
   unfolding maskIn
   route s ok k n a b c h =
       let o = solid (viewOf s) k in
-      scene-route _ _ (all-weighted s l ok) (viewOf s .face) (o .first) (o .count) (closed s l ok k) a b c (triangle s n h)
+      scene-route _ _ (all-weighted s l ok) (viewOf s .face) (o .face0) (o .faces) (closed s l ok k) a b c (triangle s n h)
 
   pub parity-at : ParityAt l
   parity-at = record { parity = parity; count-parity = count-parity; route = route }
