@@ -2,7 +2,7 @@
 -- does. Assumes nothing.
 use Rattle.std.specs.Prelude.{◌≡◌, refl, ◌⊎◌, ◌↔◌, Bool, true, ℕ, zero, suc, ◌+◌, ◌-◌, ◌≤◌, ◌<◌}
 use Rattle.std.proofs.Common.{sym, ap, ◌∙◌, subst, inl, inr, ⊎_elim, arith}
-use Rattle.std.proofs.Math.Logic.{Iff·rfl}
+use mathlib.Core.Logic.Iff
 use Rattle.std.proofs.Math.Decide.{ℕ_discrete}
 use Rattle.laws.specs.Decides.{decides}
 use Rattle.laws.specs.Range.{fold, first_of, over}
@@ -15,7 +15,7 @@ use Rattle.judge.specs.declared.Judged.TheVariants.{Accepted, Refused}
 
 pub within_iff : (l h n : ℕ) → (within l h n ≡ true) ↔ ((l ≤ n) × (n ≤ h))
 unfolding within
-within_iff l h n = simp decides Iff·rfl
+within_iff l h n = simp decides Iff.rfl
 
 -- accepted is not refused
 pub never : {r : Refusal} → Accepted ≡ Refused r → ⊥

@@ -1,6 +1,6 @@
 -- A scene is accepted exactly when its file keeps the written rules. Assumes nothing.
 use Rattle.std.specs.Prelude.{◌≡◌, refl, ◌↔◌, true, List, ℕ, ◌+◌, ◌≤◌, ◌<◌}
-use Rattle.std.proofs.Math.Logic.{Iff·trans}
+use mathlib.Core.Logic.Iff
 use Rattle.std.proofs.Common.{arith}
 use Rattle.scene.specs.Limits.{Limits}
 use Rattle.scene.specs.Records.{verts, faces, last_record}
@@ -19,24 +19,24 @@ module _ (s : List ℕ) where
 
   pub vertex_iff : (p : ℕ) → 1 ≤ p → p ≤ verts s → (unused_fault s p ≡ Accepted) ↔ Used s p
   unfolding unused_fault
-  vertex_iff p a b = Iff·trans (rule_iff _ _ _) (λ h. (used_iff s p a b).0 h.0, λ u. ((used_iff s p a b).1 u, refl))
+  vertex_iff p a b = Iff.trans (rule_iff _ _ _) (λ h. (used_iff s p a b).0 h.0, λ u. ((used_iff s p a b).1 u, refl))
 
   pub unused_iff : (unuseds_fault s ≡ Accepted) ↔ AllUsed s
   unfolding unuseds_fault
   unused_iff =
-      Iff·trans (first_iff (unused_fault s) 1 (verts s + 1)) (
+      Iff.trans (first_iff (unused_fault s) 1 (verts s + 1)) (
         λ h p a b. (vertex_iff p a b).0 (h p a (omega arith)),
         λ h p a b. (vertex_iff p a (omega arith)).1 (h p a (omega arith)),
       )
 
   pub face_iff : (i : ℕ) → (edge_fault s i ≡ Accepted) ↔ SidesOk s i
   unfolding edge_fault
-  face_iff i = Iff·trans (rule_iff _ _ _) (λ h. (closed_iff s i).0 h.0, λ o. ((closed_iff s i).1 o, refl))
+  face_iff i = Iff.trans (rule_iff _ _ _) (λ h. (closed_iff s i).0 h.0, λ o. ((closed_iff s i).1 o, refl))
 
   edges_iff : (edges_fault s ≡ Accepted) ↔ ((i : ℕ) → i < faces s → SidesOk s i)
   unfolding edges_fault
   edges_iff =
-      Iff·trans (first_iff (edge_fault s) 0 (faces s)) (λ h i b. (face_iff i).0 (h i (omega arith) b), λ h i a b. (face_iff i).1 (h i b))
+      Iff.trans (first_iff (edge_fault s) 0 (faces s)) (λ h i b. (face_iff i).0 (h i (omega arith) b), λ h i a b. (face_iff i).1 (h i b))
 
 module _ (l : Limits) (s : List ℕ) where
   pub counts_iff : (counts_ok l s ≡ true) ↔ CountsOk l s
@@ -68,7 +68,7 @@ module _ (l : Limits) (s : List ℕ) where
   pub records_iff : (records_fault l s ≡ Accepted) ↔ RecordsOk l s
   unfolding records_fault
   records_iff =
-      Iff·trans (first_iff (record_fault l s) 1 (last_record s + 1)) (
+      Iff.trans (first_iff (record_fault l s) 1 (last_record s + 1)) (
         λ h k a b. (record_iff k a b).0 (h k a (omega arith)),
         λ h k a b. (record_iff k a (omega arith)).1 (h k a (omega arith)),
       )

@@ -1,7 +1,7 @@
 -- The judge's tests of a vertex and of a face's sides decide the rules of that vertex and of those sides. Assumes nothing.
 use Rattle.std.specs.Prelude.{◌≡◌, refl, ◌↔◌, true, List, ℕ, ◌-◌, ◌%◌, ◌≤◌, ◌<◌}
 use Rattle.std.proofs.Common.{subst, arith}
-use Rattle.std.proofs.Math.Logic.{Iff·trans}
+use mathlib.Core.Logic.Iff
 use Rattle.std.proofs.Math.Decide.{dec_lt}
 use Rattle.laws.specs.Decides.{and_iff, eqb_iff}
 use Rattle.laws.specs.Range.{any_of, count_of}
@@ -28,7 +28,7 @@ module _ (s : List ℕ) where
     edge_iff : (v w : ℕ) → (edge_ok s a e v w ≡ true) ↔ EdgeOk fs v w
     unfolding edge_ok is_edge
     edge_iff v w =
-        Iff·trans (eqb_iff (count_of (is_edge s v w) a e % 2) 0)
+        Iff.trans (eqb_iff (count_of (is_edge s v w) a e % 2) 0)
         (rw (count_run (face_at s) (has_both v w) (is_edge s v w) a e n long (λ i. refl))
         (even_iff (Both v w) (has_both v w) (both_iff v w) fs))
 
@@ -47,13 +47,13 @@ module _ (s : List ℕ) where
       go : Dec (verts_a s < p) → (is_used s p ≡ true) ↔ Used s p
       go (no c) =
           rw (used_of_a s p (omega arith))
-          (Iff·trans (some_iff 0 (faces_in_a s) (faces_in_a s) (omega arith) p) (
+          (Iff.trans (some_iff 0 (faces_in_a s) (faces_in_a s) (omega arith) p) (
             λ x. record { of_a = λ d. x; of_b = λ v d e. absurd (omega arith) },
             λ u. u.of_a (omega arith),
           ))
       go (yes c) =
           rw (used_of_b s p c)
-          (Iff·trans (some_iff (faces_in_a s) (faces s) (faces_in_b s) (omega arith) (p - verts_a s)) (
+          (Iff.trans (some_iff (faces_in_a s) (faces s) (faces_in_b s) (omega arith) (p - verts_a s)) (
             λ x. record {
               of_a = λ d. absurd (omega arith);
               of_b = λ v d e. subst (λ (v : ℕ). Some (Corner v) (tables_of s).b.faces) (omega arith) x;
@@ -69,13 +69,13 @@ module _ (s : List ℕ) where
       go : Dec (i < faces_in_a s) → (closed_at s i ≡ true) ↔ SidesOk s i
       go (yes c) =
           rw (closed_of_a s i c)
-          (Iff·trans (sides_iff 0 (faces_in_a s) (faces_in_a s) (omega arith) i) (
+          (Iff.trans (sides_iff 0 (faces_in_a s) (faces_in_a s) (omega arith) i) (
             λ h. record { of_a = λ d. h; of_b = λ d. absurd (omega arith) },
             λ o. o.of_a c,
           ))
       go (no c) =
           rw (closed_of_b s i (omega arith))
-          (Iff·trans (sides_iff (faces_in_a s) (faces s) (faces_in_b s) (omega arith) i) (
+          (Iff.trans (sides_iff (faces_in_a s) (faces s) (faces_in_b s) (omega arith) i) (
             λ h. record { of_a = λ d. absurd (omega arith); of_b = λ d. h },
             λ o. o.of_b (omega arith),
           ))

@@ -1,6 +1,6 @@
 -- The refusal of one record, of one vertex and of one face, by the rules. Assumes nothing.
 use Rattle.std.specs.Prelude.{◌≡◌, refl, ◌↔◌, Bool, true, List, ℕ, ◌≤◌, ◌<◌}
-use Rattle.std.proofs.Math.Logic.{Iff·trans}
+use mathlib.Core.Logic.Iff
 use Rattle.std.proofs.Common.{arith}
 use Rattle.scene.specs.Limits.{Limits}
 use Rattle.scene.specs.Records.{verts, face_record, last_record}
@@ -19,7 +19,7 @@ use Rattle.rules.specs.Numbers.{check_order, Gives, gives, gives_none, rule_next
 -- a test that passes, before what is at fault at a place (X)
 passed : {P Q X : Type 0} {b : Bool} → (b ≡ true) ↔ P → (r : Refusal) {q : Refusal} (k : Judged) → check_order r < check_order q →
     (k ≡ Refused q) ↔ (X × Q) → (refuse_unless b r k ≡ Refused q) ↔ (X × (P × Q))
-passed e r k l f = Iff·trans (rule_next e r k l f) (λ h. (h.1.0, (h.0, h.1.1)), λ h. (h.1.0, (h.0, h.1.1)))
+passed e r k l f = Iff.trans (rule_next e r k l f) (λ h. (h.1.0, (h.0, h.1.1)), λ h. (h.1.0, (h.0, h.1.1)))
 
 module _ (l : Limits) (s : List ℕ) (k : ℕ) (from : 1 ≤ k) (to : k ≤ last_record s) where
   abbrev t : Tested l s k

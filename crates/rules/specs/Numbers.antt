@@ -2,7 +2,7 @@
 use Rattle.std.specs.Prelude.{◌≡◌, ◌↔◌, Bool, ℕ, suc, ◌≤◌, ◌<◌}
 use Rattle.std.proofs.Math.Path.{refl, ap, subst}
 use Rattle.std.proofs.Common.{sym, ◌∙◌, ⊎_elim, inr, inl, arith, lit≤}
-use Rattle.std.proofs.Math.Logic.{Iff·trans, Iff·and}
+use mathlib.Core.Logic.Iff
 use Rattle.std.proofs.Math.Bool.{true, false, false≢true}
 use Rattle.scene.specs.Refusal.{place_of}
 use Rattle.scene.specs.declared.Refusal.{Refusal}
@@ -84,19 +84,19 @@ module _ {P : Type 0} {b : Bool} (e : (b ≡ true) ↔ P) (r : Refusal) {q : Ref
 -- the one refusal r of a rule
 pub rule_alone : {P : Type 0} {b : Bool} → (b ≡ true) ↔ P → (r : Refusal) (k : Judged) (high : ℕ) → Gives (suc (check_order r)) high k →
     (refuse_unless b r k ≡ Refused r) ↔ ¬ P
-rule_alone e r k high g = Iff·trans (rule_here e r k high g) (λ h. h.1, λ n. (refl, n))
+rule_alone e r k high g = Iff.trans (rule_here e r k high g) (λ h. h.1, λ n. (refl, n))
 
 -- the refusal K of a rule, at the place i
 pub rule_at : {P : Type 0} {b : Bool} → (b ≡ true) ↔ P → (K : ℕ → Refusal) → ((i : ℕ) → place_of (K i) ≡ i) →
     (i p : ℕ) (k : Judged) (high : ℕ) → Gives (suc (check_order (K p))) high k → (refuse_unless b (K i) k ≡ Refused (K p)) ↔ ((i ≡ p) × ¬ P)
 rule_at e K place i p k high g =
-    Iff·trans (rule_here e (K i) k high g) (λ h. (sym (place i) ∙ ap place_of h.0 ∙ place p, h.1), λ h. (ap K h.0, h.1))
+    Iff.trans (rule_here e (K i) k high g) (λ h. (sym (place i) ∙ ap place_of h.0 ∙ place p, h.1), λ h. (ap K h.0, h.1))
 
 module _ (x y : Judged) (r : Refusal) where
   pub then_here : (high : ℕ) → Gives (suc (check_order r)) high y → (and_then x y ≡ Refused r) ↔ (x ≡ Refused r)
-  then_here high g = Iff·trans (then_refused x y r) (⊎_elim (λ p. p) (λ h. absurd (omega (arith, (g.turn r h.1).0))), inl)
+  then_here high g = Iff.trans (then_refused x y r) (⊎_elim (λ p. p) (λ h. absurd (omega (arith, (g.turn r h.1).0))), inl)
 
   pub then_next : {P Q : Type 0} (low high : ℕ) → Gives low high x → high < check_order r → (x ≡ Accepted) ↔ P → (y ≡ Refused r) ↔ Q →
       (and_then x y ≡ Refused r) ↔ (P × Q)
   then_next low high g l p q =
-      Iff·trans (then_refused x y r) (Iff·trans (⊎_elim (λ p. absurd (omega (arith, (g.turn r p).1))) (λ h. h), inr) (Iff·and p q))
+      Iff.trans (then_refused x y r) (Iff.trans (⊎_elim (λ p. absurd (omega (arith, (g.turn r p).1))) (λ h. h), inr) (Iff.and p q))

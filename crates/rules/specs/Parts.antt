@@ -1,6 +1,6 @@
 -- Which part of the judge gave a refusal, by the refusal's turn: those before it keep their rules. Assumes nothing.
 use Rattle.std.specs.Prelude.{◌≡◌, ◌↔◌, List, ℕ, suc, ◌+◌, ◌≤◌}
-use Rattle.std.proofs.Math.Logic.{Iff·trans}
+use mathlib.Core.Logic.Iff
 use Rattle.std.proofs.Common.{arith}
 use Rattle.scene.specs.Limits.{Limits}
 use Rattle.scene.specs.Records.{verts, faces, last_record}
@@ -57,7 +57,7 @@ module _ (l : Limits) (s : List ℕ) where
     unfolding judged_at records_fault
     by_records a b =
         then_next _ _ r 1 3 header_gives (omega arith) (header_iff l s)
-        (Iff·trans (then_here _ _ r 10 (gives_wider (suc (check_order r)) 10 (omega arith) (omega arith) after_records))
+        (Iff.trans (then_here _ _ r 10 (gives_wider (suc (check_order r)) 10 (omega arith) (omega arith) after_records))
         (first_refused _ r _ _))
 
     pub by_unused : check_order r ≡ 9 → (judged_at l s ≡ Refused r) ↔
@@ -66,7 +66,7 @@ module _ (l : Limits) (s : List ℕ) where
     by_unused h =
         then_next _ _ r 1 3 header_gives (omega arith) (header_iff l s)
         (then_next _ _ r 4 8 records_give (omega arith) (records_iff l s)
-        (Iff·trans (then_here _ _ r 10 (gives_wider (suc (check_order r)) 10 (omega arith) (omega arith) edges_give))
+        (Iff.trans (then_here _ _ r 10 (gives_wider (suc (check_order r)) 10 (omega arith) (omega arith) edges_give))
         (first_refused _ r _ _)))
 
     pub by_edges : check_order r ≡ 10 →

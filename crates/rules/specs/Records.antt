@@ -3,7 +3,7 @@
 use Rattle.std.specs.Prelude.{◌≡◌, ◌↔◌, Bool, true, false, ◌&&◌, List, eqb, ℤ, pos, negsuc}
 use Rattle.std.proofs.Math.Path.{refl, ap}
 use Rattle.std.proofs.Common.{sym, ◌∙◌, subst, arith}
-use Rattle.std.proofs.Math.Logic.{Iff·trans}
+use mathlib.Core.Logic.Iff
 use Prim.Native.Nat.{ℕ, zero, suc, ◌+◌, ◌-◌, ◌≤◌, ◌<◌}
 use Rattle.std.proofs.Math.Decide.{dec_lt}
 use Rattle.std.proofs.Math.IntN.{nat_abs}
@@ -133,9 +133,9 @@ module _ (l : Limits) (s : List ℕ) where
         weight = weight_ok l s j;
         somewhere = somewhere_ok s j;
         corners = true;
-        mark_iff = Iff·trans (eqb_iff _ _) (point_mark_law j b);
-        coordinates_iff = Iff·trans (coordinates_in j) (of_point (λ i. CoordinatesIn l (row_at s i)) j b);
-        weight_iff = Iff·trans (weight_in j) (of_point (λ i. WeightIn (least_weight i) l (row_at s i)) j b);
+        mark_iff = Iff.trans (eqb_iff _ _) (point_mark_law j b);
+        coordinates_iff = Iff.trans (coordinates_in j) (of_point (λ i. CoordinatesIn l (row_at s i)) j b);
+        weight_iff = Iff.trans (weight_in j) (of_point (λ i. WeightIn (least_weight i) l (row_at s i)) j b);
         somewhere_iff = point_somewhere j;
         corners_iff = always (record { of_a = λ i a e. absurd (omega arith); of_b = λ i a c e. absurd (omega arith) });
         fault = record_point s l (j + 1) (omega arith) ∙ ap (point_fault l s) (omega arith) ∙ point_order j;
@@ -169,7 +169,7 @@ module _ (l : Limits) (s : List ℕ) where
 
   face_corners : (i : ℕ) → i < faces s → Dec (i < faces_in_a s) → (corners_ok s i ≡ true) ↔ CornersOk s (face_record s i)
   face_corners i b (yes a) =
-      Iff·trans (face_of_law i (verts_a s) (verts_of_a s i a)) (
+      Iff.trans (face_of_law i (verts_a s) (verts_of_a s i a)) (
         λ h.
             record {
               of_a = λ j c e. subst (λ (n : ℕ). FaceOf 0 (verts_a s) (face_at s n)) (omega arith) h;
@@ -178,7 +178,7 @@ module _ (l : Limits) (s : List ℕ) where
         λ h. h.of_a i a refl,
       )
   face_corners i b (no a) =
-      Iff·trans (face_of_law i (verts_b s) (verts_of_b s i (omega arith))) (
+      Iff.trans (face_of_law i (verts_b s) (verts_of_b s i (omega arith))) (
         λ h.
             record {
               of_a = λ j c e. absurd (omega arith);
@@ -195,7 +195,7 @@ module _ (l : Limits) (s : List ℕ) where
         weight = true;
         somewhere = true;
         corners = corners_ok s i;
-        mark_iff = Iff·trans (eqb_iff _ _) (face_mark i b, λ m. m.face i b refl);
+        mark_iff = Iff.trans (eqb_iff _ _) (face_mark i b, λ m. m.face i b refl);
         coordinates_iff = always (λ j a e. absurd (omega arith));
         weight_iff = always (λ j a e. absurd (omega arith));
         somewhere_iff = always (λ e. absurd (omega arith));
@@ -226,7 +226,7 @@ module _ (l : Limits) (s : List ℕ) where
         weight = true;
         somewhere = true;
         corners = true;
-        mark_iff = Iff·trans (eqb_iff _ _) (end_mark, λ m. m.end refl);
+        mark_iff = Iff.trans (eqb_iff _ _) (end_mark, λ m. m.end refl);
         coordinates_iff = always (λ j a e. absurd (omega arith));
         weight_iff = always (λ j a e. absurd (omega arith));
         somewhere_iff = always (λ e. absurd (omega arith));

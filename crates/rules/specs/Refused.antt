@@ -1,7 +1,7 @@
 -- Each refusal is given exactly when its grounds hold, at exactly that place. Assumes nothing.
 use Rattle.std.specs.Prelude.{◌≡◌, refl, ◌↔◌, List, ℕ, ◌≤◌, ◌<◌}
 use Rattle.std.proofs.Common.{sym, subst, arith}
-use Rattle.std.proofs.Math.Logic.{Iff·trans}
+use mathlib.Core.Logic.Iff
 use Rattle.laws.specs.Decides.{eqb_iff}
 use Rattle.scene.specs.Limits.{Limits}
 use Rattle.scene.specs.Records.{verts, last_record}
@@ -22,18 +22,18 @@ module _ (l : Limits) (s : List ℕ) where
 
   refused_1_law : (judged_at l s ≡ Refused Opening) ↔ Grounds l s Opening
   unfolding header_fault
-  refused_1_law = Iff·trans (by_header l s Opening (omega arith)) (rule_alone (opens_iff s) Opening _ 3 (search gives))
+  refused_1_law = Iff.trans (by_header l s Opening (omega arith)) (rule_alone (opens_iff s) Opening _ 3 (search gives))
 
   refused_2_law : (judged_at l s ≡ Refused Counts) ↔ Grounds l s Counts
   unfolding header_fault
   refused_2_law =
-      Iff·trans (by_header l s Counts (omega arith))
+      Iff.trans (by_header l s Counts (omega arith))
       (rule_next (opens_iff s) Opening _ (omega arith) (rule_alone (counts_iff l s) Counts _ 3 (search gives)))
 
   refused_3_law : (judged_at l s ≡ Refused Length) ↔ Grounds l s Length
   unfolding header_fault
   refused_3_law =
-      Iff·trans (by_header l s Length (omega arith))
+      Iff.trans (by_header l s Length (omega arith))
       (rule_next (opens_iff s) Opening _ (omega arith)
       (rule_next (counts_iff l s) Counts _ (omega arith) (rule_alone (eqb_iff _ _) Length Accepted 4 (gives_none 4 4))))
 
@@ -43,7 +43,7 @@ module _ (l : Limits) (s : List ℕ) where
       ((k : ℕ) → 1 ≤ k → k ≤ last_record s → (p : ℕ) → (record_fault l s k ≡ Refused (K p)) ↔ ((k ≡ p) × X k)) →
       (p : ℕ) → (judged_at l s ≡ Refused (K p)) ↔ (AtRecord l s p × X p)
   at_record K X numbers here p =
-      Iff·trans (by_records l s (K p) (numbers p).0 (numbers p).1) (
+      Iff.trans (by_records l s (K p) (numbers p).0 (numbers p).1) (
         λ h.
             let f = h.1 in
             let to : f.at ≤ last_record s = omega (arith, f.to) in
@@ -71,7 +71,7 @@ module _ (l : Limits) (s : List ℕ) where
 
   refused_8_law : (p : ℕ) → (judged_at l s ≡ Refused (Unused p)) ↔ Grounds l s (Unused p)
   refused_8_law p =
-      Iff·trans (by_unused l s (Unused p) refl) (
+      Iff.trans (by_unused l s (Unused p) refl) (
         λ h.
             let f = h.1.1 in
             let to : f.at ≤ verts s = omega (arith, f.to) in
@@ -91,7 +91,7 @@ module _ (l : Limits) (s : List ℕ) where
 
   refused_9_law : (k : ℕ) → (judged_at l s ≡ Refused (Edge k)) ↔ Grounds l s (Edge k)
   refused_9_law k =
-      Iff·trans (by_edges l s (Edge k) refl) (
+      Iff.trans (by_edges l s (Edge k) refl) (
         λ h.
             let f = h.1.1.1 in
             let g = (edge_here s k f.at).0 f.here in

@@ -1,6 +1,6 @@
 -- Faces and their edges: corners, sides, and the rule that an edge lies in an even number of its solid's faces. Assumes nothing.
 use Rattle.std.specs.Prelude.{◌≡◌, ◌≢◌, ◌⊎◌, ◌↔◌, Bool, true, ◌&&◌, ◌||◌, List, ℕ, ◌≤◌, ◌<◌, eqb}
-use Rattle.std.proofs.Math.Logic.{Iff·trans, Iff·and}
+use mathlib.Core.Logic.Iff
 use Rattle.laws.specs.Decides.{and_iff, or_iff, eqb_iff}
 use Rattle.laws.specs.Lists.{Each, Even}
 use Rattle.scene.specs.declared.Face.{Face}
@@ -25,7 +25,7 @@ corner_iff i f = or_iff _ _ (eqb_iff _ i) (or_iff _ _ (eqb_iff _ i) (eqb_iff _ i
 
 pub both_iff : (i j : ℕ) (f : Face) → (has_both i j f ≡ true) ↔ Both i j f
 unfolding has_both
-both_iff i j f = Iff·trans (and_iff _ _) (Iff·and (corner_iff i f) (corner_iff j f))
+both_iff i j f = Iff.trans (and_iff _ _) (Iff.and (corner_iff i f) (corner_iff j f))
 
 -- the face's three corners differ
 pub record Proper (f : Face) : Type 0 where

@@ -1,4 +1,6 @@
 // The scene file of two solids and a far point: its limits, its refusals, and what its bytes denote.
+#![tactic(auto)]
+
 ghost use Rattle.std.specs.Prelude.{◌≡◌};
 ghost use Rattle.scene.specs.Limits.{limits, within, most_points, longest};
 ghost use Rattle.scene.specs.Refusal.{number_of, place_of};
@@ -150,10 +152,10 @@ pub type Corners = [u8; Scene::CORNERS];
 
 // The limits of the definitions are those of the scene: changing either alone is refused.
 pub fn limits_agree()
-    ensures* vertices { do ⌜ ((← (⟦Scene::LEAST_VERTICES⟧).entry) ≡ limits.least_vertices) × ((← (⟦Scene::MOST_VERTICES⟧).entry) ≡ limits.most_vertices) ⌝ }
-    ensures* faces { do ⌜ ((← (⟦Scene::LEAST_FACES⟧).entry) ≡ limits.least_faces) × ((← (⟦Scene::MOST_FACES⟧).entry) ≡ limits.most_faces) ⌝ }
-    ensures* numbers { do ⌜ ((← (⟦Scene::MOST_COORDINATE⟧).entry) ≡ limits.most_coordinate) × ((← (⟦Scene::MOST_WEIGHT⟧).entry) ≡ limits.most_weight) ⌝ }
-    ensures* sizes { do ⌜ ((← (⟦Scene::MOST_POINTS⟧).entry) ≡ most_points limits) × ((← (⟦Scene::LONGEST⟧).entry) ≡ longest limits) ⌝ }
+    ensures vertices { (Scene.LEAST_VERTICES ≡ limits.least_vertices) × (Scene.MOST_VERTICES ≡ limits.most_vertices) }
+    ensures faces { (Scene.LEAST_FACES ≡ limits.least_faces) × (Scene.MOST_FACES ≡ limits.most_faces) }
+    ensures numbers { (Scene.MOST_COORDINATE ≡ limits.most_coordinate) × (Scene.MOST_WEIGHT ≡ limits.most_weight) }
+    ensures sizes { (Scene.MOST_POINTS ≡ most_points limits) × (Scene.LONGEST ≡ longest limits) }
 {}
 
 // A number within limits: of a count, a weight, a corner, or a number that a scene has.

@@ -2,7 +2,7 @@
 use Rattle.std.specs.Prelude.{ℕ, zero, suc, ◌≤◌, ◌<◌, ◌≡◌, refl, ◌↔◌, length}
 use Rattle.std.proofs.Math.Path.{sym, ap₂}
 use Rattle.std.proofs.Common.{ap, ◌∙◌, subst, arith}
-use Rattle.std.proofs.Math.Logic.{Iff·trans}
+use mathlib.Core.Logic.Iff
 use mathlib.Core.List.{List, ◌++◌, map}
 use Rattle.std.proofs.Math.ListN.{get_or}
 use Rattle.std.proofs.lemmas.List.{length-map}
@@ -374,7 +374,7 @@ module _ (t : Tables) (c : CountsIn limits t) where
   grounds_same (refusal.BufferTooShort p) = (absurd, absurd)
 
   pub judged_refused : (q : Refusal) → (judged (file_of t) ≡ Refused q) ↔ GroundsIn limits t q
-  judged_refused q = Iff·trans (refused limits (file_of t) q) (grounds_same q)
+  judged_refused q = Iff.trans (refused limits (file_of t) q) (grounds_same q)
 
 -- ---- accepted exactly where the tables keep the rules
 

@@ -1,7 +1,7 @@
 -- Demand 1, proved: question by question. Assumes nothing.
 use Rattle.std.specs.Prelude.{◌≡◌, ◌↔◌, Bool, false, cond, ℕ, suc, ◌+◌, ◌*◌, ◌≤◌, ◌<◌, leb, length}
 use Rattle.std.proofs.Common.{sym, ap, ◌∙◌, ⊎_elim, true≢false, arith}
-use Rattle.std.proofs.Math.Logic.{Iff·trans}
+use mathlib.Core.Logic.Iff
 use Rattle.std.proofs.Math.Bool.{true}
 use mathlib.Core.List.{List, []}
 use Rattle.laws.specs.Decides.{leb_iff}
@@ -131,7 +131,7 @@ module _ (s : List ℕ) where
 
     room_iff : (n : ℕ) → (fits ≡ Refused (ListTooShort n)) ↔ TooShort s d n
     room_iff n =
-        Iff·trans (rule_here (leb_iff _ _) (ListTooShort count) Accepted 12 (gives_none 12 12)) (
+        Iff.trans (rule_here (leb_iff _ _) (ListTooShort count) Accepted 12 (gives_none 12 12)) (
           λ h. let e : n ≡ count = cc in let l : ¬ (3 * count ≤ length d) = h.1 in (e, omega arith),
           λ h. let e = h.0 in let l = h.1 in (ap ListTooShort (sym e), λ k. omega arith),
         )
@@ -149,10 +149,10 @@ module _ (s : List ℕ) where
       of_listing : Refusals s (λ r. x ≡ listed.Refused r) (TooShort s d) Always Never
       of_listing =
           record {
-            scene = λ r l. Iff·trans (at r) (Iff·trans (then_here (judged s) fits r 11
+            scene = λ r l. Iff.trans (at r) (Iff.trans (then_here (judged s) fits r 11
                 (gives_wider (suc (check_order r)) 11 (omega (arith, scene_turn r l)) (omega arith) fits_gives)) (table.refused limits s r));
             room = λ n.
-                Iff·trans (at (ListTooShort n))
+                Iff.trans (at (ListTooShort n))
                 (then_next (judged s) fits (ListTooShort n) 1 10 (judge_gives limits s) (omega arith) (accepted limits s)
                 (room_iff n));
             buffer = λ n. never_by (BufferTooShort n) (omega arith);

@@ -2,7 +2,7 @@
 -- question decide. Assumes nothing.
 use Rattle.std.specs.Prelude.{◌≡◌, refl, ◌↔◌, Bool, true, false, List, ℕ, suc, ◌≤◌, ◌<◌, eqb}
 use Rattle.std.proofs.Common.{sym, ap, ⊎_elim, arith}
-use Rattle.std.proofs.Math.Logic.{Iff·rfl, Iff·symm, Iff·trans, Iff·and}
+use mathlib.Core.Logic.Iff
 use Rattle.laws.specs.Decides.{eqb_iff, and_iff, fails_iff, passes_iff, either_fails, not_fails}
 use Rattle.scene.specs.Limits.{limits}
 use Rattle.scene.specs.View.{view_of}
@@ -72,7 +72,7 @@ module _ (s : List ℕ) where
     pub asked : Refusals s (λ r. and_then (judged s) own ≡ Refused r) NoList Has Alike
     asked =
         record {
-          scene = λ r h. Iff·trans (then_here (judged s) own r 13
+          scene = λ r h. Iff.trans (then_here (judged s) own r 13
               (gives_wider (suc (check_order r)) 13 (omega (arith, scene_turn r h)) (omega arith) own_gives)) (table.refused limits s r);
           room = λ n. (λ e. absurd (neither (ListTooShort n) (omega arith) (λ h. omega arith) e), λ h. absurd h.1);
           buffer = λ n. neither (BufferTooShort n) (omega arith) (λ h. omega arith);
@@ -80,17 +80,17 @@ module _ (s : List ℕ) where
               then_next (judged s) own NoSuchNumber 1 10 (judge_gives limits s) (omega arith) (accepted limits s)
               (rule_alone has NoSuchNumber alone 13 (search gives));
           same =
-              Iff·trans (then_next (judged s) own NotDistinct 1 10 (judge_gives limits s) (omega arith) (accepted limits s)
+              Iff.trans (then_next (judged s) own NotDistinct 1 10 (judge_gives limits s) (omega arith) (accepted limits s)
               (rule_next has NoSuchNumber alone (omega arith)
-              (Iff·trans (rule_alone Iff·rfl NotDistinct Accepted 14 (gives_none 14 14)) (Iff·symm (fails_iff q Iff·rfl)))))
+              (Iff.trans (rule_alone Iff.rfl NotDistinct Accepted 14 (gives_none 14 14)) (Iff.symm (fails_iff q Iff.rfl)))))
               (λ h. (h.0, h.1.0, (alike h.1.0).0 h.1.1), λ h. (h.0, (h.1, (alike h.1).1 h.2)));
         }
 
     -- none of them is at fault
     pub asked_ok : (and_then (judged s) own ≡ Accepted) ↔ (FileOk limits s × Has × ¬ Alike)
     asked_ok =
-        Iff·trans (then_iff (judged s) own)
-        (Iff·trans (Iff·and (accepted limits s) (Iff·trans (rule_iff p NoSuchNumber alone) (Iff·and has (rule_iff q NotDistinct Accepted)))) (
+        Iff.trans (then_iff (judged s) own)
+        (Iff.trans (Iff.and (accepted limits s) (Iff.trans (rule_iff p NoSuchNumber alone) (Iff.and has (rule_iff q NotDistinct Accepted)))) (
           λ h. (h.0, h.1.0, (passes_iff q (alike h.1.0)).0 h.1.1.0),
           λ h. (h.0, (h.1, ((passes_iff q (alike h.1)).1 h.2, refl))),
         ))
@@ -111,11 +111,11 @@ module _ (s : List ℕ) where
       Refusals s R Short Has Alike → Refusals s S Short Has Alike
   told e t =
       record {
-        scene = λ r h. Iff·trans (e r) (t.scene r h);
-        room = λ n. Iff·trans (e (ListTooShort n)) (t.room n);
+        scene = λ r h. Iff.trans (e r) (t.scene r h);
+        room = λ n. Iff.trans (e (ListTooShort n)) (t.room n);
         buffer = λ n x. t.buffer n ((e (BufferTooShort n)).0 x);
-        lacking = Iff·trans (e NoSuchNumber) t.lacking;
-        same = Iff·trans (e NotDistinct) t.same;
+        lacking = Iff.trans (e NoSuchNumber) t.lacking;
+        same = Iff.trans (e NotDistinct) t.same;
       }
 
 -- an answer is a refusal exactly when something is at fault
@@ -166,7 +166,7 @@ module _ (s : List ℕ) where
   vertex_iff : (k i : ℕ) → SolidNumber k → (is_vertex_of (view_of s) k i ≡ true) ↔ VertexOf s k i
   unfolding is_vertex_of
   vertex_iff k i h =
-      Iff·trans (within_iff _ _ i) (λ x. (vertex_of s k h i).0 (omega arith), λ x. let y = (vertex_of s k h i).1 x in omega arith)
+      Iff.trans (within_iff _ _ i) (λ x. (vertex_of s k h i).0 (omega arith), λ x. let y = (vertex_of s k h i).1 x in omega arith)
 
   pub alike_points : (a b c d : ℕ) → (differ a b c d ≡ false) ↔ TwoAlike a b c d
   unfolding differ

@@ -2,7 +2,7 @@
 use Rattle.std.specs.Prelude.{◌≡◌, ◌↔◌, Bool, true, List, ℕ, ◌+◌, ◌-◌, ◌%◌, ◌<◌}
 use Rattle.std.proofs.Common.{sym, ◌∙◌, arith}
 use Rattle.std.proofs.Math.Path.{ap}
-use Rattle.std.proofs.Math.Logic.{Iff·rfl, Iff·symm, Iff·trans}
+use mathlib.Core.Logic.Iff
 use Rattle.std.specs.Int.Count.{ones}
 use Rattle.laws.specs.Decides.{eqb_iff, same_test}
 use Rattle.laws.specs.Mask.{test_bit, mask_lt, mask_ones, mask_test}
@@ -30,7 +30,7 @@ module _ (s : List ℕ) (u v : ℕ) where
   module _ (behind n : ℕ) where
     ones_are : Number (Pierces s u v) (numbered (behind + 1) n) (ones (mask behind n))
     ones_are =
-        (number_iff (Pierces s u v) test (λ f. Iff·rfl) (numbered (behind + 1) n) (ones (mask behind n))).0
+        (number_iff (Pierces s u v) test (λ f. Iff.rfl) (numbered (behind + 1) n) (ones (mask behind n))).0
         (sym (mask_ones test (λ f. f) (behind + 1) n))
 
     bit_is : (k : ℕ) → k < n → test_bit (mask behind n) k ≡ test (behind + (k + 1))
@@ -57,13 +57,13 @@ module _ (s : List ℕ) (u v : ℕ) where
             let e : k + 1 - 1 ≡ k = omega arith in
             let p = h.bit (k + 1) (omega arith) (omega arith) in
             let q = mask_is.bit (k + 1) (omega arith) (omega arith) in
-            rw e at (same_test (test_bit m (k + 1 - 1)) (test_bit (mask behind n) (k + 1 - 1)) (Iff·trans p (Iff·symm q)))
+            rw e at (same_test (test_bit m (k + 1 - 1)) (test_bit (mask behind n) (k + 1 - 1)) (Iff.trans p (Iff.symm q)))
 
     -- odd in number
     odd_iff : (is_odd (mask behind n) ≡ true) ↔ Odd (Pierces s u v) (numbered (behind + 1) n)
     unfolding is_odd
     odd_iff =
-        Iff·trans (eqb_iff (ones (mask behind n) % 2) 1)
+        Iff.trans (eqb_iff (ones (mask behind n) % 2) 1)
         (λ e. (ones (mask behind n), ones_are, e), λ h. ap (λ (o : ℕ). o % 2) (number_once ones_are h.1) ∙ h.2)
 
 -- ---- enclosed
@@ -73,4 +73,4 @@ pub enclosed_in_law : (s : List ℕ) {k : Solid} {n : ℕ} {Of Own Other : ℕ �
 unfolding enclosed_vertex
 enclosed_in_law s {k} w i h =
     let e = w.inside i h in
-    Iff·trans (λ t. e ∙ t, λ t. sym e ∙ t) (odd_iff s i (far_point s) k.other0 k.others)
+    Iff.trans (λ t. e ∙ t, λ t. sym e ∙ t) (odd_iff s i (far_point s) k.other0 k.others)

@@ -2,7 +2,8 @@
 use Rattle.std.specs.Prelude.{◌≡◌, ◌↔◌, true, ◌&&◌, List, [], ◌∷◌, ltb}
 use Rattle.std.proofs.Common.{sym, ◌∙◌}
 use Rattle.std.proofs.Math.Path.{subst}
-use Rattle.std.proofs.Math.Logic.{inl, inr, ⊎_elim, Iff·trans}
+use Rattle.std.proofs.Math.Logic.{inl, inr, ⊎_elim}
+use mathlib.Core.Logic.Iff
 use Prim.Native.Nat.{ℕ, ◌+◌, ◌-◌, ◌≤◌, ◌<◌}
 use native.Mathlib.Omega.{arith}
 use borrow.Author.Tests.{ltb-true, lt-ltb}
@@ -45,7 +46,7 @@ module _ (v : PierceView) (k : Solid) where
   pub joined_iff : (u w : ℕ) → (joined v.face k u w ≡ true) ↔ Joined u w
   unfolding joined
   joined_iff u w =
-      Iff·trans (any_iff (λ f. Both u w (v.face f)) (λ f. f) _ (k.face0 + 1) (k.face0 + 1 + k.faces) k.faces (omega arith)
+      Iff.trans (any_iff (λ f. Both u w (v.face f)) (λ f. f) _ (k.face0 + 1) (k.face0 + 1 + k.faces) k.faces (omega arith)
       (λ f. both_iff u w (v.face f)))
       (some_run (λ f. Both u w (v.face f)) (λ f. f) (k.face0 + 1) k.faces)
 
@@ -146,7 +147,7 @@ module _ (s : List ℕ) where
     )
 
     members_in : Corners (face (tables_of s)) k → (h : Hit) → Some (λ x. x ≡ h) (hits_of k) ↔ Crossing s Faces Other h
-    members_in own h = Iff·trans (hit_iff (pierce_view (view_of s)) k h own) (crossing_iff h)
+    members_in own h = Iff.trans (hit_iff (pierce_view (view_of s)) k h own) (crossing_iff h)
 
     numbers_in : Each (λ x. solid_of s x.low ≡ n) (hits_of k)
     numbers_in = each_map (λ x p. w.number x.low ((w.vertices x.low).0 p)) (hits_of k) (solid_each (pierce_view (view_of s)) k)
@@ -163,7 +164,7 @@ module _ (s : List ℕ) where
     members h =
         let a = members_in (a_worded s) (sound_a s ok).corners h in
         let b = members_in (b_worded s) (sound_b s ok).corners h in
-        Iff·trans (some_append (λ x. x ≡ h) (hits_of (solid_a (view_of s))) (hits_of (solid_b (view_of s))))
+        Iff.trans (some_append (λ x. x ≡ h) (hits_of (solid_a (view_of s))) (hits_of (solid_b (view_of s))))
         (⊎_elim (λ p. inl (a.0 p)) (λ p. inr (b.0 p)), ⊎_elim (λ p. inl (a.1 p)) (λ p. inr (b.1 p)))
 
   pub rises : Rising (Before s) (listing_in (view_of s))

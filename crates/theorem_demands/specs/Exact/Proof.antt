@@ -2,7 +2,7 @@
 use Rattle.std.specs.Prelude.{◌≡◌, ◌↔◌, true, false}
 use Rattle.std.proofs.Math.Path.{refl, sym, ap, subst}
 use Rattle.std.proofs.Common.{◌∙◌}
-use Rattle.std.proofs.Math.Logic.{Iff·rfl, Iff·trans, Iff·and}
+use mathlib.Core.Logic.Iff
 use Rattle.std.proofs.Math.Bool.{Bool}
 use Rattle.std.proofs.lemmas.Bool.{false≢true}
 use mathlib.Core.List.{List}
@@ -68,7 +68,7 @@ module _ (s : List ℕ) where
   said : (v : Verdict) → ((r : Refusal) → ¬ (verdict.Refused r ≡ v)) → (verdict_of s ≡ v) ↔ (FileOk limits s × Says s v)
   unfolding verdict_of
   said v n =
-      Iff·trans (answered_ok verdict.Refused v n (judged s) (verdict_in (view_of s))) (
+      Iff.trans (answered_ok verdict.Refused v n (judged s) (verdict_in (view_of s))) (
         λ h. (accepted.0 h.0, (verdict_iff s h.0 v).0 h.1),
         λ h. let ok = accepted.1 h.0 in (ok, (verdict_iff s ok v).1 h.1),
       )
@@ -77,10 +77,10 @@ module _ (s : List ℕ) where
   verdict_is =
       record {
         cross = λ u v f. said (verdict.Cross u v f) (λ r e. nonsense (cc));
-        a_in_b_law = λ p. Iff·trans (said (verdict.AInB p) (λ r e. nonsense (cc))) (λ h. (h.0, h.1.0, h.1.1), λ h. (h.0, (h.1, h.2)));
-        b_in_a_law = λ p. Iff·trans (said (verdict.BInA p) (λ r e. nonsense (cc)))
+        a_in_b_law = λ p. Iff.trans (said (verdict.AInB p) (λ r e. nonsense (cc))) (λ h. (h.0, h.1.0, h.1.1), λ h. (h.0, (h.1, h.2)));
+        b_in_a_law = λ p. Iff.trans (said (verdict.BInA p) (λ r e. nonsense (cc)))
             (λ h. (h.0, h.1.0, h.1.1, h.1.2), λ h. (h.0, (h.1, h.2, h.3)));
-        apart = Iff·trans (said verdict.Apart (λ r e. nonsense (cc)))
+        apart = Iff.trans (said verdict.Apart (λ r e. nonsense (cc)))
             (λ h. (h.0, h.1.0, h.1.1, h.1.2), λ h. (h.0, (h.1, h.2, h.3)));
       }
 
@@ -100,13 +100,13 @@ module _ (s : List ℕ) where
     fault_none : (fault ≡ Accepted) ↔ (FileOk limits s × (3 * length (listing_in (view_of s)) ≤ length d))
     unfolding list_fault
     fault_none =
-        Iff·trans (then_iff _ _) (Iff·and accepted (Iff·trans (rule_iff _ _ _) (λ k. (leb_iff _ _).0 k.0, λ k. ((leb_iff _ _).1 k, refl))))
+        Iff.trans (then_iff _ _) (Iff.and accepted (Iff.trans (rule_iff _ _ _) (λ k. (leb_iff _ _).0 k.0, λ k. ((leb_iff _ _).1 k, refl))))
 
     listed_is : ListedIs s d d' x
     unfolding all_in or_refuse held_in
     listed_is =
         record {
-          count = λ n. Iff·trans (fits n) (
+          count = λ n. Iff.trans (fits n) (
             λ k. let e : n ≡ length (listing_in (view_of s)) = same k.1 in let f = fault_none.0 k.0 in (f.0, e, rw e f.1),
             λ k. let e = k.1 in (fault_none.1 (k.0, rw e at k.2), ap listed.Count (sym e)),
           );
@@ -127,7 +127,7 @@ module _ (s : List ℕ) where
     unfolding or_refuse
     part_is =
         record {
-          count = λ n. Iff·trans (part_told n) (Iff·and accepted (λ e. cc, λ e. ap listed.Count (sym e)));
+          count = λ n. Iff.trans (part_told n) (Iff.and accepted (λ e. cc, λ e. ap listed.Count (sym e)));
           held = λ n e. let k = ((part_told n).0 e).0 in h.held ∙ rw k;
         }
 
@@ -137,9 +137,9 @@ module _ (s : List ℕ) where
       (masked_of s u v k ≡ faces_are m o) ↔ (FileOk limits s × EdgeAndSolid s u v k × ¬ AlikeOrVertex s u v k × MaskIs s u v behind n m o)
   unfolding masked_of masked_in mask_fault
   masked u v k behind n e m o =
-      Iff·trans (twice_ok refused (faces_are m o) (λ r e. nonsense (cc)) (judged s) (mask_fault (view_of s) u v k)
+      Iff.trans (twice_ok refused (faces_are m o) (λ r e. nonsense (cc)) (judged s) (mask_fault (view_of s) u v k)
       (faces_are (mask_in (view_of s) u v k) (ones (mask_in (view_of s) u v k))))
-      (Iff·trans (Iff·and (asked_ok s _ _ (mask_iff s u v k) (alike_vertex s u v k)) same)
+      (Iff.trans (Iff.and (asked_ok s _ _ (mask_iff s u v k) (alike_vertex s u v k)) same)
       (λ h. (h.0.0, h.0.1, h.0.2, h.1), λ h. ((h.0, h.1, h.2), h.3)))
     where
       same : (faces_are (mask_in (view_of s) u v k) (ones (mask_in (view_of s) u v k)) ≡ faces_are m o) ↔ MaskIs s u v behind n m o
@@ -165,9 +165,9 @@ module _ (s : List ℕ) where
   sign_is : (a b c d : ℕ) (t : Terms) (p : Bool) → (sign_of s a b c d ≡ sign.Sign t p) ↔ (FileOk limits s × SignIs s a b c d t p)
   unfolding sign_of sign_in sign_fault
   sign_is a b c d t p =
-      Iff·trans (twice_ok sign.Refused (sign.Sign t p) (λ r e. nonsense (cc)) (judged s) (sign_fault (view_of s) a b c d)
+      Iff.trans (twice_ok sign.Refused (sign.Sign t p) (λ r e. nonsense (cc)) (judged s) (sign_fault (view_of s) a b c d)
       (sign.Sign (terms_at (row (tables_of s)) a b c d) (positive_at (row (tables_of s)) a b c d)))
-      (Iff·trans (Iff·and (asked_ok s _ _ (points_iff s a b c d) (λ h. alike_points s a b c d)) Iff·rfl) (
+      (Iff.trans (Iff.and (asked_ok s _ _ (points_iff s a b c d) (λ h. alike_points s a b c d)) Iff.rfl) (
         λ h. let e = h.1 in (h.0.0, record { points = h.0.1; different = h.0.2; terms = cc; sign = cc }),
         λ h. let r = h.1 in (
           (h.0, r.points, r.different),
@@ -194,8 +194,8 @@ module _ (s : List ℕ) where
       by : {X : Type 0} (x : Answer) → ((r : Refusal) → ¬ (answer.Refused r ≡ x)) → (yes_no test ≡ x) ↔ X →
           (pierces_of s u v f ≡ x) ↔ (FileOk limits s × EdgeAndFace s u v f × ¬ AlikeOrCorner s u v f × X)
       by x n e =
-          Iff·trans (twice_ok answer.Refused x n (judged s) (pierces_fault (view_of s) u v f) (yes_no test))
-          (Iff·trans (Iff·and (asked_ok s _ _ (edge_iff s u v f) (λ h. alike_corner s u v f)) e)
+          Iff.trans (twice_ok answer.Refused x n (judged s) (pierces_fault (view_of s) u v f) (yes_no test))
+          (Iff.trans (Iff.and (asked_ok s _ _ (edge_iff s u v f) (λ h. alike_corner s u v f)) e)
           (λ h. (h.0.0, h.0.1, h.0.2, h.1), λ h. ((h.0, h.1, h.2), h.3)))
 
   enclosed_is : EnclosedIs s
@@ -211,9 +211,9 @@ module _ (s : List ℕ) where
       by : {X : Type 0} (i : ℕ) (x : Answer) → ((r : Refusal) → ¬ (answer.Refused r ≡ x)) → (yes_no (is_enclosed (view_of s) i) ≡ x) ↔ X →
           (enclosed_of s i ≡ x) ↔ (FileOk limits s × Vertex s i × X)
       by i x n e =
-          Iff·trans (twice_ok answer.Refused x n (judged s) (enclosed_fault (view_of s) i) (yes_no (is_enclosed (view_of s) i)))
-          (Iff·trans (Iff·and (Iff·trans (then_iff _ _) (Iff·and accepted
-          (Iff·trans (rule_iff _ _ _) (λ h. (within_iff 1 (verts s) i).0 h.0, λ h. ((within_iff 1 (verts s) i).1 h, refl))))) e)
+          Iff.trans (twice_ok answer.Refused x n (judged s) (enclosed_fault (view_of s) i) (yes_no (is_enclosed (view_of s) i)))
+          (Iff.trans (Iff.and (Iff.trans (then_iff _ _) (Iff.and accepted
+          (Iff.trans (rule_iff _ _ _) (λ h. (within_iff 1 (verts s) i).0 h.0, λ h. ((within_iff 1 (verts s) i).1 h, refl))))) e)
           (λ h. (h.0.0, h.0.1, h.1), λ h. ((h.0, h.1), h.2)))
 
   -- ---- counts
@@ -224,7 +224,7 @@ module _ (s : List ℕ) where
   number_in {k} w =
       let e = is_enclosed (view_of s) in
       let a : ℕ = k.vert0 + 1 in
-      (number_iff (Enclosed s) e (λ i. Iff·rfl) (numbered a k.verts)
+      (number_iff (Enclosed s) e (λ i. Iff.rfl) (numbered a k.verts)
       (count_of (enclosed_vertex (pierce_view (view_of s)) k) a (a + k.verts))).0
       (sym (count_same (enclosed_vertex (pierce_view (view_of s)) k) e a (a + k.verts)
       (λ i l m. w.inside i ((w.vertices i).0 (omega arith, omega arith)))
@@ -233,8 +233,8 @@ module _ (s : List ℕ) where
   counts_are : (c : Counts) → (counted_of s ≡ counted.Counts c) ↔ (FileOk limits s × CountsAre s c)
   unfolding counted_of counts_in inside_in solid
   counts_are c =
-      Iff·trans (answered_ok counted.Refused (counted.Counts c) (λ r e. nonsense (cc)) (judged s) (counted.Counts (counts_in (view_of s))))
-      (Iff·and accepted (
+      Iff.trans (answered_ok counted.Refused (counted.Counts c) (λ r e. nonsense (cc)) (judged s) (counted.Counts (counts_in (view_of s))))
+      (Iff.and accepted (
         λ e. let d : counts_in (view_of s) ≡ c = cc in
             subst (CountsAre s) d (record { pairs = refl; a_in_b_law = number_in (a_worded s); b_in_a_law = number_in (b_worded s) }),
         λ h.
@@ -252,8 +252,8 @@ module _ (s : List ℕ) where
       by : {l : List ℕ} {m : ℕ} → Number (Enclosed s) l m →
           (or_refuse enclosing.Refused (judged s) (enclosing.Count m) ≡ enclosing.Count n) ↔ (FileOk limits s × Number (Enclosed s) l n)
       by {l} h =
-          Iff·trans (answered_ok enclosing.Refused (enclosing.Count n) (λ r e. nonsense (cc)) (judged s) _)
-          (Iff·and accepted (λ e. subst (Number (Enclosed s) l) (cc) h, λ k. ap enclosing.Count (number_once h k)))
+          Iff.trans (answered_ok enclosing.Refused (enclosing.Count n) (λ r e. nonsense (cc)) (judged s) _)
+          (Iff.and accepted (λ e. subst (Number (Enclosed s) l) (cc) h, λ k. ap enclosing.Count (number_once h k)))
 
 -- ---- the demand
 

@@ -1,7 +1,7 @@
 -- The sign is that of the first term that is not zero, and the last never is. Assumes nothing.
 use Rattle.std.specs.Prelude.{◌≡◌, refl, ◌≢◌, ◌⊎◌, ◌↔◌, true, false, zero, suc, ℤ, pos, negsuc}
 use Rattle.std.proofs.Common.{sym, ◌∙◌, inl, inr, ⊎_elim, true≢false}
-use Rattle.std.proofs.Math.Logic.{Iff·trans}
+use mathlib.Core.Logic.Iff
 use Rattle.laws.specs.Decides.{eqb_iff}
 use Rattle.laws.specs.Never.{nonsense}
 use Rattle.laws.specs.Sign.{Sign, sign, ◌or◌}
@@ -70,5 +70,5 @@ signs s ok a b c d f n =
       product = λ wa wb wc wd. c3_psi p q r u wa wb wc wd;
       slide =
           let h = slide_tells row a b c d (record { points = points (view_of s); weighted = w; four = four }) in
-          Iff·trans (Iff·trans (λ x. (positive_iff t.e3).1 x, λ x. (positive_iff t.e3).0 x) (λ e. h ∙ e, λ e. sym h ∙ e)) (eqb_iff _ 1);
+          Iff.trans (Iff.trans (λ x. (positive_iff t.e3).1 x, λ x. (positive_iff t.e3).0 x) (λ e. h ∙ e, λ e. sym h ∙ e)) (eqb_iff _ 1);
     }

@@ -2,7 +2,8 @@
 use Rattle.std.specs.Prelude.{◌≡◌, ◌↔◌, Bool, ◌&&◌, List, [], ◌∷◌, ltb}
 use Rattle.std.proofs.Math.Path.{refl, subst}
 use Rattle.std.proofs.Common.{sym, ◌∙◌, arith}
-use Rattle.std.proofs.Math.Logic.{inl, inr, ⊎_elim, Iff·trans}
+use Rattle.std.proofs.Math.Logic.{inl, inr, ⊎_elim}
+use mathlib.Core.Logic.Iff
 use Prim.Native.Nat.{ℕ, ◌+◌, ◌-◌, ◌<◌}
 use borrow.Author.Tests.{ltb-true, lt-ltb}
 use Rattle.laws.specs.Decides.{and_iff}
@@ -123,7 +124,7 @@ module _ (s : List ℕ) where
     )
 
     edges_are : EdgesAre s Own m (solid_edges v k)
-    edges_are = record { rising = edges_rise v k; members = λ e. Iff·trans (to_entry v k e, from_entry v k e corners) (entered e) }
+    edges_are = record { rising = edges_rise v k; members = λ e. Iff.trans (to_entry v k e, from_entry v k e corners) (entered e) }
 
   module _ (ok : judged s ≡ Accepted) where
     pub edges_of_a : EdgesAre s (FaceOfA s) 2 (solid_edges v (solid (view_of s) 1))
