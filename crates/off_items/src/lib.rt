@@ -1,4 +1,6 @@
 // The items of a text, and the whole numbers that they tell.
+#![tactic(auto)]
+
 ghost use Rattle.std.specs.Prelude.{◌≡◌, ◌≤◌, length};
 ghost use Rattle.off_items.specs.Items.{separates, start_of, word_end, end_of};
 ghost use Rattle.off_items.specs.Lines.{line_end};
