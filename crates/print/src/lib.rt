@@ -1,5 +1,7 @@
 // Renderings into a lent buffer. Each writes at a place, as far as there is room, and answers the place behind: so one goes after
 // another, and what is written is the texts end to end.
+#![tactic(auto)]
+
 ghost use Rattle.std.specs.Prelude.{[], ◌∷◌, ◌≡◌, ◌+◌, ◌≤◌, ◌<◌, min, nat_abs, length, set};
 ghost use Rattle.print.specs.Put.{put, Put};
 ghost use Rattle.print.specs.Text.{decimal, signed_decimal, digit as Text·digit};
