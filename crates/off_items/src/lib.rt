@@ -7,7 +7,7 @@ ghost use Rattle.off_items.specs.Lines.{line_end};
 
 pub mod numbers;
 
-#[derive(Drop)]
+#[derive(Clone, Copy)]
 pub struct Item {
     pub start: usize,
     pub end: usize,
