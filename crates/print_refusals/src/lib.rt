@@ -1,5 +1,7 @@
 // The rule that a refusal says was broken, in words, put into a lent buffer at a place; the answer is the place behind. (Why a scene is
 // refused, with the byte at fault, is said by `why`.)
+#![tactic(auto)]
+
 ghost use Rattle.print.specs.Put.{Put};
 ghost use Rattle.print_refusals.specs.Rules.{beyond as Rules·beyond, weight_rule, other_rule, question_rule, rule_of, why_of};
 
