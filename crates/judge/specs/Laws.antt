@@ -1,7 +1,7 @@
 -- The laws of the judge's searches and of its rules, in the form in which a loop's turn, a call's answer and a branch arrive.
 -- Assumes nothing.
 use Rattle.std.specs.Prelude.{ℕ, ◌+◌, ◌<◌, ◌≤◌, ◌≡◌, refl, Bool, true, false, not}
-use Rattle.std.proofs.Common.{sym, ◌∙◌, rules}
+use Rattle.std.proofs.Common.{sym, ◌∙◌, rules as common}
 use Rattle.std.proofs.Math.Path.{ap}
 use Rattle.std.proofs.lemmas.Bool.{not-true, not-false}
 use Rattle.laws.specs.Range as range
@@ -24,7 +24,7 @@ module _ (f : ℕ → Judged) (i e : ℕ) {w : Judged} (inv : first_fault f i e 
   unfolding and_then
   first_next h p q = ap (λ (j : Judged). and_then j (first_fault f (i + 1) e)) (sym q) ∙ range.first_turn Accepted and_then f i e inv h p
 
-pub ruleset loops = (first_end, first_found, first_next, any_end, any_found, any_next, count_end, count_one, count_none, rules)
+pub ruleset loops = (first_end, first_found, first_next, any_end, any_found, any_next, count_end, count_one, count_none, common)
 
 -- one judgement after another, of which o is the first: it refuses, or the others decide
 pub then_refused : {o x : Judged} (y : Judged) {r : Refusal} → o ≡ x → o ≡ Refused r → Refused r ≡ and_then x y

@@ -1,4 +1,6 @@
 // The judge of a scene's bytes: accepted, or the first refusal in the order of checking.
+#![tactic(auto)]
+
 ghost use Rattle.std.specs.Prelude.{◌≡◌};
 ghost use Rattle.judge.specs.Judge.{judged};
 

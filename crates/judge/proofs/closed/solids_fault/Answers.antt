@@ -1,0 +1,39 @@
+-- The words of both solids decide.
+use native.Mathlib.Omega.{arith}
+use Rattle.judge.specs.Laws.{chain}
+use Rattle.judge.specs.Words.{words_none}
+use Rattle.judge.proofs.closed.solids_fault.Goals as goal
+
+pub words_of-ua-requires : goal.words_of-ua-requires
+words_of-ua-requires c =
+    record { words = words_none _ _; faces = (omega arith, λ i b. c.requires.0 i (omega arith)) }
+
+pub words_of-ub-requires : goal.words_of-ub-requires
+words_of-ub-requires c =
+    record { words = words_none _ _; faces = (omega arith, λ i b. c.requires.0 i (omega arith)) }
+
+pub unuseds_fault-requires : goal.unuseds_fault-requires
+unuseds_fault-requires c =
+    record {
+      words = (
+        rw c.byte-a.ensures.0 at c.words_of-ua.ensures.1,
+        rw (c.byte-a.ensures.0, c.byte-b.ensures.0) at c.words_of-ub.ensures.1,
+      );
+      vertices = (c.requires.1, c.requires.2);
+    }
+
+pub edges_fault-requires : goal.edges_fault-requires
+edges_fault-requires c =
+    record {
+      faces = c.requires;
+      words = (
+        rw c.byte-a.ensures.0 at c.words_of-ua.ensures.0,
+        rw (c.byte-a.ensures.0, c.byte-b.ensures.0) at c.words_of-ub.ensures.0,
+      );
+    }
+
+pub returns-in-Refused : goal.returns-in-Refused
+returns-in-Refused c = search chain depth 12
+
+pub returns : goal.returns
+returns c = search chain depth 12

@@ -1,0 +1,5 @@
+-- The byte is held to the limits.
+use Rattle.judge.proofs.header.vertices_ok.Goals as goal
+
+pub returns : goal.returns
+returns c = cc
