@@ -1,4 +1,6 @@
 // A solid of a scene as an object text, rendered into a lent buffer at a place; the answer is the place behind.
+#![tactic(auto)]
+
 ghost use Rattle.std.specs.Prelude.{◌≡◌, true, false, ◌+◌, ◌-◌, ◌<◌};
 ghost use Rattle.laws.specs.Lists.{run};
 ghost use Rattle.print.specs.Put.{Put};
