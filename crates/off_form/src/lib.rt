@@ -1,4 +1,6 @@
 // The form of an object text: where it is at fault, or that it is not, and its counts.
+#![tactic(auto)]
+
 ghost use Rattle.std.specs.Prelude.{◌≡◌, true, false, ◌+◌, ◌*◌, ◌^◌, ◌≤◌, ◌<◌, length};
 ghost use Rattle.off_items.specs.Items.{after};
 ghost use Rattle.off_items.specs.Numbers.{size_of, largest, at_most};
@@ -21,7 +23,7 @@ pub enum Reading {
 
 // What a text's first four items tell: by the keyword how many numbers each vertex has, 3 or 4, and 0 where it is neither OFF nor 4OFF; the
 // counts of vertices and of faces; and where the four end.
-#[derive(Drop)]
+#[derive(Clone, Copy)]
 pub struct Head {
     pub per: usize,
     pub vertices: usize,

@@ -7,7 +7,7 @@ use Rattle.off_items.specs.Items.{start_of, end_of, after}
 use Rattle.off_items.specs.Numbers.{whole_from, size_from}
 use Rattle.off_form.specs.Form.{go_on, wholes, face_from, faces_from, end_from, numbers_of, vertices_of}
 use Rattle.off_form.specs.Form.{faces_of, faces_then, vertices_then, form_of}
-use Rattle.off_form.specs.Places.{start_in, end_in, after_in}
+use Rattle.off_form.proofs.Places.{start_in, end_in, after_in}
 use Rattle.off_form.specs.declared.Reading.{Reading}
 use Rattle.off_form.specs.declared.Reading.TheVariants.{At, Outside, Sides}
 

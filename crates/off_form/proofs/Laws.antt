@@ -9,7 +9,7 @@ use Rattle.off_items.specs.Items.{start_of, end_of, after}
 use Rattle.off_items.specs.Numbers.{is_whole, size_of, whole_from, largest, at_most}
 use Rattle.off_items.specs.Laws.{at_most_low, at_most_high}
 use Rattle.off_form.specs.Form.{is_three, is_four, keyword, go_on, wholes, face_from, faces_from, end_from, numbers_of, counts_then, form_of}
-use Rattle.off_form.specs.Places.{after_in, wholes_reach, wholes_many, face_reach, faces_reach, faces_many}
+use Rattle.off_form.proofs.Places.{after_in, wholes_reach, wholes_many, face_reach, faces_reach, faces_many}
 use Rattle.off_form.specs.declared.Reading.{Reading}
 use Rattle.off_form.specs.declared.Reading.TheVariants.{At, Outside, Sides}
 
