@@ -29,16 +29,16 @@ pub record Powers (R : Type 0) : Type 0 where
 abbrev by_power : {R : Type 0} → (R → R → R) → Powers R → Powers R → Powers R
 by_power f p q = record { e0 = f p.e0 q.e0; e1 = f p.e1 q.e1; e2 = f p.e2 q.e2; e3 = f p.e3 q.e3 }
 
-module _ {R : Type 0} (nought : R) (◌plus◌ ◌minus◌ ◌times◌ : R → R → R) where
-  infixl 6 ◌plus◌
+module _ {R : Type 0} (nought : R) (◌add◌ ◌sub◌ ◌times◌ : R → R → R) where
+  infixl 6 ◌add◌
   infixl 7 ◌times◌
   abbrev product : Powers R → Powers R → Powers R
   product p q =
       record {
         e0 = p.e0 times q.e0;
-        e1 = p.e0 times q.e1 plus p.e1 times q.e0;
-        e2 = p.e0 times q.e2 plus p.e1 times q.e1 plus p.e2 times q.e0;
-        e3 = p.e0 times q.e3 plus p.e1 times q.e2 plus p.e2 times q.e1 plus p.e3 times q.e0;
+        e1 = p.e0 times q.e1 add p.e1 times q.e0;
+        e2 = p.e0 times q.e2 add p.e1 times q.e1 add p.e2 times q.e0;
+        e3 = p.e0 times q.e3 add p.e1 times q.e2 add p.e2 times q.e1 add p.e3 times q.e0;
       }
 
   -- x + e·s
@@ -57,7 +57,7 @@ module _ {R : Type 0} (nought : R) (◌plus◌ ◌minus◌ ◌times◌ : R → R
 
   -- the determinant of four shifted rows
   abbrev pub powers : Numbered R → Numbered R → Numbered R → Numbered R → Powers R
-  powers a b c d = determinant (by_power ◌plus◌) (by_power ◌minus◌) product (shifted a) (shifted b) (shifted c) (shifted d)
+  powers a b c d = determinant (by_power ◌add◌) (by_power ◌sub◌) product (shifted a) (shifted b) (shifted c) (shifted d)
 
 -- ---- the terms
 

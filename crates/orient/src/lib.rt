@@ -1,4 +1,6 @@
 // The sign of four points: the four terms of the determinant of their shifted rows, and the sign of the first that is not zero.
+#![tactic(auto)]
+
 ghost use Rattle.std.specs.Prelude.{◌≡◌, true, false, cond, ◌≤◌, pos};
 ghost use Rattle.scene.specs.Limits.{limits, most_points};
 ghost use Rattle.scene.specs.Arrays.{row_in, AllWithin};
@@ -17,7 +19,7 @@ mod ones;
 mod slide;
 
 // The four terms.
-#[derive(Drop)]
+#[derive(Clone, Copy)]
 pub struct Terms {
     pub c0: i64,
     pub c1: i64,
@@ -26,7 +28,7 @@ pub struct Terms {
 }
 
 // A point: its row with its number.
-#[derive(Drop)]
+#[derive(Clone, Copy)]
 struct Point {
     x: i64,
     y: i64,

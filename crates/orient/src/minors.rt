@@ -8,7 +8,7 @@ ghost use Rattle.orient.specs.Formed.{JoinWithin, DetWithin, TripleProductWithin
 use scene::Row;
 
 // The six 2×2 minors of two rows.
-#[derive(Drop)]
+#[derive(Clone, Copy)]
 pub struct Line {
     pub xy: i64,
     pub xz: i64,
