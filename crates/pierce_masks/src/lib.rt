@@ -1,10 +1,12 @@
 // A mask: a set of faces of one solid, as those that an edge pierces, in two words.
+#![tactic(auto)]
+
 ghost use Rattle.std.specs.Prelude.{◌≡◌};
 ghost use Rattle.std.specs.Int.Count.{ones};
 ghost use Rattle.pierce_masks.specs.Faces.{is_odd, value_of, has_face, first_face};
 
 // Bit k - 1 of the first word stands for the solid's k-th face, up to the 64th; the second word goes on from there.
-#[derive(Drop)]
+#[derive(Clone, Copy)]
 pub struct Mask {
     pub low: u64,
     pub high: u64,
