@@ -45,7 +45,7 @@ def it_is_loaded_and_answers():
 
 
 def compiled_by_the_kit(tools, room, libraries):
-    """tests/c/survey.c by the compiler that stands beside the emulator."""
+    """tests/c/survey.c by the kit's compiler."""
     lib = tools.parent / "lib"
     run([tools / "clang", "--target=x86_64-unknown-linux-gnu", "-O2", "-fPIE", "-ffreestanding", "-nostdinc",
          f"-I{ROOT}/tests/c/headers", f"-I{TREE}/include", "-c", ROOT / "tests/c/survey.c", "-o", f"{room}/survey.o"])
@@ -64,7 +64,7 @@ def compiled_here(room, libraries):
 def reports_by(libraries):
     """What a program in C prints of the examples that is linked with the library."""
     with folder() as room:
-        tools = Path(LOADER.split()[0]).parent if LOADER else None
+        tools = Path(LOADER.split()[0]).parents[1] / "bin" if LOADER else None
         if tools and not (tools / "clang").exists():
             raise Skipped("there is no compiler for x86-64")
         made = compiled_by_the_kit(tools, room, libraries) if tools else compiled_here(room, libraries)

@@ -14,14 +14,16 @@ from tree import ENVIRONMENT, PATH, PROGRAMS, ROOT, Skipped, each, data, example
 KIT = """#!/bin/sh
 case $1 in
     version) echo "a kit" && exit ;;
-    check) echo "$2" >> calls ;;
+    run) name=${PWD##*/} ;;
     *) exit 2 ;;
 esac
+cd ../..
+echo "$name" >> calls
 mkdir alone || { echo "two at once"; exit 1; }
 sleep 0.5
 rmdir alone
 [ ! -e crates/wrong ] || { echo "crates/wrong stands in the way"; exit 1; }
-mkdir -p target/bin && cp built/"$2" target/bin/
+mkdir -p crates/"$name"/out && cp built/"$name" crates/"$name"/out/
 """
 
 

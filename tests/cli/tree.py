@@ -1,7 +1,6 @@
 """The installed tree that is tested, runs of its programs, and the register of tests."""
 
 import os
-import platform
 import shutil
 import subprocess
 import sys
@@ -44,18 +43,8 @@ class Skipped(Exception):
     """Why a test could not be run here."""
 
 
-def loader():
-    """The words before a program, where this machine cannot run it by itself."""
-    if "BODHRANHAZE_LOADER" in os.environ:
-        return os.environ["BODHRANHAZE_LOADER"]
-    if platform.machine() == "x86_64":
-        return ""
-    guide = subprocess.run(["rt", "doc"], stdout=subprocess.PIPE, check=True, text=True).stdout
-    tools = Path(guide).parents[1] / "on" / platform.machine() / "toolchain"
-    return f"{tools}/bin/qemu-x86_64 {tools}/lib/ld-linux-x86-64.so.2 --library-path {tools}/lib"
-
-
-LOADER = loader()
+# The words before a program, where this machine cannot run it by itself.
+LOADER = os.environ.get("BODHRANHAZE_LOADER", "")
 ENVIRONMENT = {"PATH": PATH, "HOME": "/", "LC_ALL": "C", **({"BODHRANHAZE_LOADER": LOADER} if LOADER else {})}
 
 
