@@ -1,5 +1,5 @@
 # make                     proves and builds the programs and the library; `rt` of the Rattle kit must be in PATH
-# make check               the gate, all tests
+# make check               the gate, all proofs and tests
 # make install             copies what was built to PREFIX, below DESTDIR; this needs no kit
 # make uninstall           removes it
 # make dist                packs it into target/ for machines without the kit; it may be unpacked anywhere
@@ -54,6 +54,7 @@ dist:
 	rm -rf target/dist
 	@$(MAKE) --no-print-directory -s install DESTDIR=target/dist PREFIX=/$(PACK)
 	tar -C target/dist --sort=name --owner=0 --group=0 --numeric-owner -czf target/$(PACK).tar.gz $(PACK)
+	rm -rf target/dist
 	@echo target/$(PACK).tar.gz
 
 .PHONY: all check install uninstall dist
