@@ -12,7 +12,7 @@ pub mod read;
 pub mod write;
 
 // The header's counts.
-#[derive(Drop)]
+#[derive(Clone, Copy)]
 pub struct Scene {
     pub vertices_a: usize,
     pub faces_a: usize,
@@ -56,7 +56,7 @@ impl Scene {
 }
 
 // Why a question is not answered: a case for each number, with its place where that is not always 0.
-#[derive(Drop)]
+#[derive(Clone, Copy)]
 pub enum Refusal {
     Opening,
     Counts,
@@ -117,7 +117,7 @@ pub fn place(r: Refusal) -> usize
 }
 
 // A point's four numbers.
-#[derive(Drop)]
+#[derive(Clone, Copy)]
 pub struct Row {
     pub x: i64,
     pub y: i64,
@@ -126,7 +126,7 @@ pub struct Row {
 }
 
 // A face's three corners, in stored order.
-#[derive(Drop)]
+#[derive(Clone, Copy)]
 pub struct Face {
     pub p: usize,
     pub q: usize,
@@ -135,7 +135,7 @@ pub struct Face {
 
 // A solid: its vertices are the `verts` points behind point vert0, its faces the `faces` faces behind face face0, and the other solid's
 // faces the `others` faces behind face other0.
-#[derive(Drop)]
+#[derive(Clone, Copy)]
 pub struct Solid {
     pub vert0: usize,
     pub verts: usize,
