@@ -59,9 +59,9 @@ pub grown_decimal : (n : ℕ) → grown_by 0 (decimal n) ≡ held n
 grown_decimal n =
     ap (λ (x : ℕ). grown_by x (decimal n)) (sym (at_most_low largest 0 (omega arith))) ∙ grown_by_law 0 (decimal n) ∙ ap held (number_back n)
 
-is_digit : {b : ℕ} → IsDigit b → is_digit b ≡ true
+is_digit_law : {b : ℕ} → IsDigit b → is_digit b ≡ true
 unfolding is_digit
-is_digit {b} h = rw (le-leb 48 b h.least, le-leb b 57 h.most)
+is_digit_law {b} h = rw (le-leb 48 b h.least, le-leb b 57 h.most)
 
 -- ---- one byte
 
@@ -145,7 +145,7 @@ module _ (form : List ℕ) (p c x : ℕ) (f : Lettered form p c x) (whole : ℕ)
       read_of form (known (p + 1) n whole totals longer k) (t ++ rest) ≡ read_of form (known (p + 1) (grown_by n t) whole totals longer k) rest
   unfolding read_of
   more_digits n [] h rest = refl
-  more_digits n (b ∷ t) h rest = rw (f.more_on, more_digit n b (is_digit h.0)) (more_digits (grown n b) t h.1 rest)
+  more_digits n (b ∷ t) h rest = rw (f.more_on, more_digit n b (is_digit_law h.0)) (more_digits (grown n b) t h.1 rest)
 
   digits : (t : List ℕ) → Each IsDigit t → 0 < length t → (rest : List ℕ) → read_of form (known p 0 whole totals longer k) (t ++ (x ∷ rest))
       ≡ read_of form
@@ -154,7 +154,7 @@ module _ (form : List ℕ) (p c x : ℕ) (f : Lettered form p c x) (whole : ℕ)
   unfolding read_of
   digits [] h some rest = absurd (omega arith)
   digits (b ∷ t) h some rest =
-      rw (f.on, first_digit b (is_digit h.0))
+      rw (f.on, first_digit b (is_digit_law h.0))
       (more_digits (grown 0 b) t h.1 (x ∷ rest) ∙ rw (f.more_on, last_byte (grown_by (grown 0 b) t)))
 
   pub number_leads : (n : ℕ) (rest : List ℕ) → read_of form (known p 0 whole totals longer k) (decimal n ++ (x ∷ rest))

@@ -1,4 +1,6 @@
 // The numbers of class reports end to end: a text is read byte by byte by a form, piece by piece, and each number is added to its total.
+#![tactic(auto)]
+
 ghost use Rattle.std.specs.Prelude.{◌≡◌, true, cond, ◌-◌};
 ghost use Rattle.class_read.specs.Totals.{reports, is_letter, number_of, whole_of, ends, plus};
 ghost use Rattle.class_read.specs.Totals.{paired, counted_of, begins, start_of, next_of};
