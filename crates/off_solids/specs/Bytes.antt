@@ -14,7 +14,7 @@ use Rattle.off_items.specs.Numbers.{largest, at_most}
 use Rattle.off_items.specs.Laws.{at_most_low}
 use Rattle.off_form.specs.Form.{numbers_of, vertices_of, faces_of}
 use Rattle.off_form.specs.Head.{Headed}
-use Rattle.off_form.specs.Laws.{numbers_low}
+use Rattle.off_form.proofs.Laws.{numbers_low}
 use Rattle.off_form.specs.declared.Head.{Head}
 use Rattle.rules.specs.Write.{point_bytes, face_bytes, bytes_of}
 use Rattle.scene.specs.Write.{two}
