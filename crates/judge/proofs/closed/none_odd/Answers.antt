@@ -1,6 +1,6 @@
 -- The words of A's vertices, then of B's.
 use mathlib.Core.Bool.{false≢true}
-use Rattle.judge.specs.Alone.{none_odd}
+use Rattle.judge.proofs.NoneOdd.{none_odd}
 use Rattle.judge.proofs.closed.none_odd.Goals as goal
 
 pub returns-then-not-are_alone : goal.returns-then-not-are_alone
