@@ -1,4 +1,6 @@
 // Piercing by formula (13).
+#![tactic(auto)]
+
 ghost use Rattle.std.specs.Prelude.{◌≡◌, ◌≤◌};
 ghost use Rattle.scene.specs.Limits.{limits, most_points};
 ghost use Rattle.scene.specs.Arrays.{row_in, AllWithin, FaceWithin};
