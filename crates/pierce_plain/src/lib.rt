@@ -1,4 +1,6 @@
 // Piercing by five signs, as the tutorial notes have it: no helper is needed.
+#![tactic(auto)]
+
 ghost use Rattle.std.specs.Prelude.{◌≡◌, ◌≤◌};
 ghost use Rattle.scene.specs.Limits.{limits, most_points};
 ghost use Rattle.scene.specs.Arrays.{row_in, AllWithin, FaceWithin};
