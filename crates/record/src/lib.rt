@@ -1,4 +1,6 @@
 // Any one record of an accepted scene: the caller's own bytes from its mark to its last byte.
+#![tactic(auto)]
+
 ghost use Rattle.std.specs.Prelude.{◌≡◌, ◌+◌, ◌≤◌, length};
 ghost use Rattle.scene.specs.Records.{length_of, last_record};
 ghost use Rattle.record.specs.Shown.{part, part_at, shown, refusal};
