@@ -1,4 +1,6 @@
 // The two engines of piercing, which answer alike, and the mask of an edge against a solid's faces by either.
+#![tactic(auto)]
+
 ghost use Rattle.std.specs.Prelude.{◌≡◌, ◌+◌, ◌*◌, ◌≤◌};
 ghost use Rattle.laws.specs.Mask.{digit};
 ghost use Rattle.scene.specs.Limits.{limits, most_points};
@@ -14,7 +16,7 @@ use scene::decode::face_in;
 use scene::{Corners, Face, Rows};
 
 // By formula (13) with the lowest helper, or by five signs. No contract below depends on which.
-#[derive(Drop)]
+#[derive(Clone, Copy)]
 pub enum Engine {
     Formula,
     Plain,
