@@ -2,6 +2,8 @@
 // rule that it breaks; or that the input is no scene at all.
 // It is put into a lent buffer at a place, as far as there is room; the answer is the place behind. No contract says which words are put,
 // only where.
+#![tactic(auto)]
+
 ghost use Rattle.print_why.specs.Said.{Said};
 
 use judge::Judged;

@@ -1,8 +1,0 @@
--- Its parts, one after the other.
-use Rattle.print_why.specs.Said.{one, and}
-use borrow.Author.Rules.{rules}
-use Rattle.print_why.proofs.clauses.clause.Statement.{statement}
-use Rattle.print_why.proofs.clauses.clause.Tie as tie
-
-pub clause-spec : {M : Type 1} → statement M
-clause-spec = tie.close (tie.spec (λ c κs. search rules) (λ c κs. search rules) (λ c. search rules) (λ c. search (one, and)))
