@@ -12,7 +12,7 @@ use Rattle.judge.specs.declared.Judged.{Judged}
 use Rattle.judge.specs.declared.Judged.TheVariants as judge
 use Rattle.off_form.specs.Form.{form_of}
 use Rattle.off_form.specs.Head.{Headed}
-use Rattle.off_form.specs.Placed.{form_placed}
+use Rattle.off_form.proofs.Placed.{form_placed}
 use Rattle.off_form.specs.declared.Head.{Head}
 use Rattle.off_form.specs.declared.Reading.{Reading}
 use Rattle.off_form.specs.declared.Reading.TheVariants as reading

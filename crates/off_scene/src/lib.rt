@@ -1,4 +1,6 @@
 // Two object texts and a far point made into a scene in a lent buffer.
+#![tactic(auto)]
+
 ghost use Rattle.std.specs.Prelude.{◌≡◌, length};
 ghost use Rattle.off_solids.specs.Fitted.{scene_of};
 ghost use Rattle.off_scene.specs.Made.{number_of, place_of, placed, judged_of, counted_of, second_of, made_of, Makes};
@@ -12,7 +14,7 @@ use scene::write::copy;
 use scene::{Refusal, Scene, is_within};
 
 // Why there is no scene: an item outside the form, a face that is not a triangle, each with its offset; or a refusal of the scene's.
-#[derive(Drop)]
+#[derive(Clone, Copy)]
 pub enum Fault {
     Outside(usize),
     Sides(usize),
