@@ -1,4 +1,6 @@
 // A block of scenes, end to end: where each of them stands, and the reader that hands them out.
+#![tactic(auto)]
+
 ghost use Rattle.std.specs.Prelude.{◌≡◌};
 ghost use Rattle.scene.specs.Records.{length_of};
 ghost use Rattle.class_block.specs.Reading.{Handed};
@@ -43,7 +45,7 @@ fn size(s: &[u8]) -> usize
 
 // The scene that starts at `at`: no bytes where the block has ended.
 fn scene_at(block: &[u8], at: usize) -> &[u8]
-    ensures { result.now ≡ scene_of (start_at block.now at) }
+    ensures scene { result.now ≡ scene_of (start_at block.now at) }
 {
     if at < block.len() {
         let end = at + size(&block[at..]);
