@@ -1,7 +1,7 @@
 // The first pair, where there is one.
 
 // An edge, lower point first, and a face that it pierces; or none.
-#[derive(Drop)]
+#[derive(Clone, Copy)]
 pub enum Found {
     Nothing,
     Pair(usize, usize, usize),

@@ -1,4 +1,6 @@
 // What may be asked of a scene: the types of the answers here, each question as a definition on a view in `specs/Answers`.
+#![tactic(auto)]
+
 use orient::Terms;
 use pierce_masks::Mask;
 use scene::{Refusal, Scene};
@@ -6,13 +8,13 @@ use scene::{Refusal, Scene};
 pub mod find;
 
 // The four terms, and whether the first that is not zero is positive.
-#[derive(Drop)]
+#[derive(Clone, Copy)]
 pub enum Signed {
     Refused(Refusal),
     Sign(Terms, bool),
 }
 
-#[derive(Drop)]
+#[derive(Clone, Copy)]
 pub enum Answer {
     Refused(Refusal),
     Yes,
@@ -20,19 +22,19 @@ pub enum Answer {
 }
 
 // The mask, and how many ones it has.
-#[derive(Drop)]
+#[derive(Clone, Copy)]
 pub enum Masked {
     Refused(Refusal),
     Faces(Mask, usize),
 }
 
-#[derive(Drop)]
+#[derive(Clone, Copy)]
 pub enum Enclosing {
     Refused(Refusal),
     Count(usize),
 }
 
-#[derive(Drop)]
+#[derive(Clone, Copy)]
 pub enum Verdict {
     Refused(Refusal),
     Cross(usize, usize, usize),
@@ -41,21 +43,21 @@ pub enum Verdict {
     Apart,
 }
 
-#[derive(Drop)]
+#[derive(Clone, Copy)]
 pub struct Counts {
     pub pairs: usize,
     pub a_in_b: usize,
     pub b_in_a: usize,
 }
 
-#[derive(Drop)]
+#[derive(Clone, Copy)]
 pub enum Counted {
     Refused(Refusal),
     Counts(Counts),
 }
 
 // How many pairs there are.
-#[derive(Drop)]
+#[derive(Clone, Copy)]
 pub enum Listed {
     Refused(Refusal),
     Count(usize),
@@ -66,7 +68,7 @@ pub enum Listed {
 pub const MOST_PAIRS: usize = 2 * Scene::MOST_FACES * Scene::MOST_FACES;
 
 // Bit j of a word is set exactly when the other solid encloses the solid's vertex j + 1.
-#[derive(Drop)]
+#[derive(Clone, Copy)]
 pub struct Facts {
     pub verdict: Verdict,
     pub counts: Counts,
@@ -74,7 +76,7 @@ pub struct Facts {
     pub b_inside: u64,
 }
 
-#[derive(Drop)]
+#[derive(Clone, Copy)]
 pub enum Surveyed {
     Refused(Refusal),
     Facts(Facts),
