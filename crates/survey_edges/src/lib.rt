@@ -1,4 +1,6 @@
 // A table of a solid's edges with the mask of each, and what is read off it.
+#![tactic(auto)]
+
 ghost use Rattle.std.specs.Prelude.{◌≡◌, List, ℕ, ◌+◌, ◌*◌, ◌^◌, ◌≤◌, ◌<◌, length};
 ghost use Rattle.pierce_masks.specs.Faces.{width, value_of};
 ghost use Rattle.survey_edges.specs.Table.{most_edges, mask_in, table_hits};
