@@ -3,4 +3,3 @@ pub mod Scenes
 pub mod Header
 pub mod Reading
 pub mod Parts
-pub mod PartsProof

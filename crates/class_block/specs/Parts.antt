@@ -1,5 +1,5 @@
 -- What the scenes of a block are, in the words of the request; what a reader hands out; and the scenes of two blocks end to end. The proofs
--- stand in `PartsProof`. Assumes nothing.
+-- stand in `proofs/PartsProof`. Assumes nothing.
 use Rattle.std.specs.Prelude.{◌≡◌, true, false, List, [], ◌∷◌, ◌++◌, ℕ, ◌≤◌, ◌<◌, length, take, drop}
 use Rattle.std.specs.Borrow.{Bor}
 use Rattle.laws.specs.Lists.{Each}

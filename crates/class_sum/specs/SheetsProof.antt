@@ -6,7 +6,7 @@ use Rattle.std.proofs.Math.Decide.{dec_lt}
 use Rattle.laws.specs.Lists.{Each, each_append}
 use Rattle.class_block.specs.Block.{scenes_of, whole}
 use Rattle.class_block.specs.Parts.{Ended}
-use Rattle.class_block.specs.PartsProof.{parts}
+use Rattle.class_block.proofs.PartsProof.{parts}
 use Rattle.class_block.specs.Scenes.{scenes_end}
 use Rattle.off_items.specs.Numbers.{is_digit, largest, at_most}
 use Rattle.off_items.specs.Laws.{at_most_low, at_most_high}

@@ -6,7 +6,7 @@ use Rattle.std.proofs.Math.Decide.{ℕ_discrete}
 use Rattle.laws.specs.Range.{more}
 use Rattle.class_block.specs.Block.{scenes_of}
 use Rattle.class_block.specs.Parts.{Ended}
-use Rattle.class_block.specs.PartsProof.{parts}
+use Rattle.class_block.proofs.PartsProof.{parts}
 use Rattle.class_tally.specs.Tally.{mark_of, counts, in_line, pairs_of, made, tally_of, marks_of, mean_over, mean_of}
 use Rattle.class_tally.specs.Most.{pairs_or_line}
 use Rattle.class_tally.specs.Counting.{line_some}

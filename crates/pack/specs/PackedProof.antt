@@ -17,7 +17,7 @@ use Rattle.judge.specs.declared.Judged.{Judged}
 use Rattle.judge.specs.declared.Judged.TheVariants.{Accepted, Refused}
 use Rattle.class_block.specs.Block.{headed, whole, scenes_of}
 use Rattle.class_block.specs.Parts.{Ended}
-use Rattle.class_block.specs.PartsProof.{parts}
+use Rattle.class_block.proofs.PartsProof.{parts}
 use Rattle.class_tally.specs.Tally.{mark_of, tally_of, marks_of}
 use Rattle.pack.specs.Packed.{passes, Whole, end_to_end, Packed}
 
