@@ -1,4 +1,6 @@
 // The lines that the programs print, each rendered into a lent buffer at a place; the answer is the place behind.
+#![tactic(auto)]
+
 ghost use Rattle.print.specs.Text.{line};
 ghost use Rattle.print.specs.Put.{Put};
 ghost use Rattle.print_lines.specs.Lines.{refused_line, scene_line, inside_line, pairs_line, pair_line, judged_line};
