@@ -12,7 +12,7 @@ use scene::decode::row_in;
 use scene::{Corners, Row, Rows};
 
 // Of so few faces that a word holds them: those that a point lies above, and those in whose planes it lies.
-#[derive(Drop)]
+#[derive(Clone, Copy)]
 pub struct Digits {
     pub above: u64,
     pub tied: u64,
@@ -20,7 +20,7 @@ pub struct Digits {
 
 // Of a solid's faces. The two words of a mask do not stand side by side here: a processor waits where both are read at once that were just
 // written one by one.
-#[derive(Drop)]
+#[derive(Clone, Copy)]
 pub struct PointDigits {
     pub low: Digits,
     pub high: Digits,

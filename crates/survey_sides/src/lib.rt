@@ -1,5 +1,7 @@
 // The mask of an edge against a solid's faces, from the sides on which its ends lie: those are worked out once a scene, and only a face
 // whose plane parts the ends is asked about.
+#![tactic(auto)]
+
 ghost use Rattle.std.specs.Prelude.{◌≡◌, true, ◌+◌, ◌*◌, ◌≤◌};
 ghost use Rattle.scene.specs.Limits.{limits, most_points};
 ghost use Rattle.scene.specs.Arrays.{row_in, face_in, AllWithin, FaceWithin, FacesWithin};
