@@ -20,7 +20,8 @@ use Rattle.questions.specs.WritePairs.{flat, part_in}
 use Rattle.questions.specs.PairsWritten.{length_flat}
 use Rattle.scene.specs.View.{view_of}
 use Rattle.questions.specs.Answers.{or_refuse, verdict_in, verdict_of, counts_in, counted_of, IsPart, listing_in}
-use Rattle.questions.specs.Listings.{PouredIf, part_told}
+use Rattle.questions.specs.Listings.{PouredIf}
+use Rattle.questions.proofs.Listings.{part_told}
 use Rattle.questions.specs.declared.Counts.{Counts}
 use Rattle.questions.specs.declared.Counted.{Counted}
 use Rattle.questions.specs.declared.Counted.TheVariants as counted

@@ -151,6 +151,3 @@ pairs_written_part l d from =
 pub part_all : (l : List Hit) (d : List ℕ) → 3 * length l ≤ length d → part_in l 0 d ≡ all_in l d
 unfolding part_in all_in
 part_all l d h = let k : length l ≤ length d / 3 = omega arith in rw (take_all (length d / 3) l k)
-
-pub poured_all : (l : List Hit) (d : List ℕ) → 3 * length l ≤ length d → pairs_written d 0 0 l ≡ all_in l d
-poured_all l d h = pairs_written_part l d 0 ∙ part_all l d h
