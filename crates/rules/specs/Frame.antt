@@ -1,10 +1,10 @@
 -- A row reads only its record, and a face only its record and the header's counts: where the bytes of those are the same, so is the row or
 -- the face. Assumes nothing.
-use Rattle.std.specs.Prelude.{◌≡◌, List, ℕ, ◌+◌, ◌*◌, ◌≤◌, ◌<◌}
+use Rattle.std.specs.Prelude.{◌≡◌, List, ℕ, ◌+◌, ◌*◌, ◌≤◌, ◌<◌, length}
 use Rattle.std.proofs.Math.Path.{ap, ap₂}
 use Rattle.std.proofs.Common.{◌∙◌, arith}
 use Rattle.scene.specs.Bytes.{byte_at, two_at, coordinate_at, weight_at, signed}
-use Rattle.scene.specs.Records.{verts_a, verts_b, point_start, face_start}
+use Rattle.scene.specs.Records.{verts_a, verts_b, verts, point_start, face_start}
 use Rattle.scene.specs.Tables.{row_at, face_at, corner_at}
 
 -- r has the n bytes from k on that s has there
@@ -14,6 +14,13 @@ Same r s k n = (m : ℕ) → k ≤ m → m < k + n → byte_at r m ≡ byte_at s
 -- the header's counts
 abbrev pub SameCounts : (r s : List ℕ) → Type 0
 SameCounts r s = Same r s 2 4
+
+-- t has the bytes of s, but for what stands behind the marks of the points
+pub record Rerowed (s t : List ℕ) : Type 0 where
+  pub long : length t ≡ length s
+  pub header : Same t s 0 6
+  pub mark : (j : ℕ) → j ≤ verts s → Same t s (point_start j) 2
+  pub behind : (k n : ℕ) → 15 + verts s * 9 ≤ k → Same t s k n
 
 module _ (r s : List ℕ) where
   pub two_frame : (k : ℕ) → Same r s k 2 → two_at r k ≡ two_at s k

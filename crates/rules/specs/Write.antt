@@ -1,6 +1,7 @@
 -- The bytes of a scene, written from its tables. Assumes nothing.
 use mathlib.Core.List.{List, ◌++◌, flat_map}
-use Rattle.std.specs.Prelude.{ℕ, length}
+use Rattle.std.specs.Prelude.{ℕ, ◌<◌, length}
+use Rattle.scene.specs.Bytes.{byte_at}
 use Rattle.scene.specs.Records.{markfp, markvx, markfc, marken}
 use Rattle.scene.specs.Tables.{Tables, size}
 use Rattle.scene.specs.Write.{two, row_bytes, corner_bytes, header_bytes}
@@ -24,3 +25,7 @@ bytes_of t =
     ++ (flat_map (point_bytes markvx) t.a.rows ++ (flat_map (point_bytes markvx) t.b.rows
     ++ (flat_map face_bytes t.a.faces ++ (flat_map face_bytes t.b.faces
     ++ two marken)))))
+
+-- the elements are bytes
+abbrev pub Bytes : List ℕ → Type 0
+Bytes s = (i : ℕ) → byte_at s i < 256

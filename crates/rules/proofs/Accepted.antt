@@ -9,8 +9,8 @@ use Rattle.judge.specs.Judge.{unused_fault, unuseds_fault, edge_fault, edges_fau
 use Rattle.judge.specs.declared.Judged.TheVariants.{Accepted}
 use Rattle.rules.specs.Rules.{Opens, CountsOk, HeaderOk, RecordOk, RecordsOk, Used, AllUsed, SidesOk, FileOk}
 use Rattle.judge.specs.Tests.{accepts, rule_iff, first_iff}
-use Rattle.rules.specs.Records.{tested}
-use Rattle.rules.specs.Edges.{used_iff, closed_iff}
+use Rattle.rules.proofs.Records.{tested}
+use Rattle.rules.proofs.Edges.{used_iff, closed_iff}
 
 module _ (s : List ℕ) where
   pub opens_iff : (opens s ≡ true) ↔ Opens s

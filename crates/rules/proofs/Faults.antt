@@ -10,8 +10,8 @@ use Rattle.judge.specs.Judge.{refuse_unless, record_fault, unused_fault, edge_fa
 use Rattle.judge.specs.declared.Judged.{Judged}
 use Rattle.judge.specs.declared.Judged.TheVariants.{Accepted, Refused}
 use Rattle.rules.specs.Rules.{MarkOk, CoordinatesOk, WeightOk, SomewhereOk, CornersOk, Used, SidesOk}
-use Rattle.rules.specs.Records.{Tested, tested}
-use Rattle.rules.specs.Edges.{used_iff, closed_iff}
+use Rattle.rules.proofs.Records.{Tested, tested}
+use Rattle.rules.proofs.Edges.{used_iff, closed_iff}
 use Rattle.rules.specs.Numbers.{check_order, Gives, gives, gives_none, rule_next, rule_at}
 
 -- ---- one record

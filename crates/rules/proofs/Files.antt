@@ -15,13 +15,15 @@ use Rattle.scene.specs.declared.Face.{Face}
 use Rattle.judge.specs.Judge.{judged_at}
 use Rattle.judge.specs.declared.Judged.TheVariants.{Accepted}
 use Rattle.rules.specs.TableRules.{RowOk, TableOk, TablesOk, Marked, Fit}
-use Rattle.rules.specs.Accepted.{accepted}
-use Rattle.rules.specs.Bridge.{by_tables}
+use Rattle.rules.proofs.Accepted.{accepted}
+use Rattle.rules.proofs.Bridge.{by_tables}
 use Rattle.scene.specs.Write.{two, unsigned}
 use Rattle.rules.specs.Write.{point_bytes, face_bytes, header, bytes_of}
 use Rattle.rules.specs.Held.{Held, all_give}
-use Rattle.rules.specs.Written.{Bytes, file_length, accepted_written}
+use Rattle.rules.proofs.Written.{file_length, accepted_written}
 use Rattle.rules.specs.ReadBack.{read_mark, far_stands, end_stands, a_rows, b_rows, a_faces, b_faces, read_back}
+use Rattle.rules.specs.Write.{Bytes}
+use Rattle.rules.specs.FileOf.{FileOf}
 
 module _ (t : Tables) where
   abbrev s : List ℕ
@@ -122,12 +124,6 @@ module _ {l : Limits} (fit : Fit l) where
     -- the file of tables that keep the rules is accepted
     pub file_accepted : judged_at l (bytes_of t) ≡ Accepted
     file_accepted = (accepted l (bytes_of t)).1 ((by_tables l (bytes_of t)).1 (marked t, subst (TablesOk l) (sym (read_back t fit ok)) ok))
-
--- s is the file of tables that keep the rules
-pub record FileOf (l : Limits) (s : List ℕ) : Type 0 where
-  pub tables : Tables
-  pub ok : TablesOk l tables
-  pub written : bytes_of tables ≡ s
 
 pub accepted_files : (l : Limits) → Fit l → (s : List ℕ) → Bytes s → (judged_at l s ≡ Accepted) ↔ FileOf l s
 accepted_files l fit s bytes = (

@@ -14,16 +14,13 @@ use Rattle.scene.specs.Read.{size_a, size_b}
 use Rattle.judge.specs.Judge.{judged_at}
 use Rattle.judge.specs.declared.Judged.TheVariants.{Accepted}
 use Rattle.rules.specs.TableRules.{Marked}
-use Rattle.rules.specs.Accepted.{accepted}
-use Rattle.rules.specs.Bridge.{by_tables}
+use Rattle.rules.proofs.Accepted.{accepted}
+use Rattle.rules.proofs.Bridge.{by_tables}
 use Rattle.scene.specs.Write.{two, unsigned}
 use Rattle.scene.specs.Written.{unsigned_signed}
 use Rattle.rules.specs.Write.{point_bytes, face_bytes, header, bytes_of}
 use Rattle.rules.specs.Held.{Held, join, whole, length_all, all_held}
-
--- the elements are bytes
-abbrev pub Bytes : List ℕ → Type 0
-Bytes s = (i : ℕ) → byte_at s i < 256
+use Rattle.rules.specs.Write.{Bytes}
 
 module _ (s : List ℕ) (bytes : Bytes s) where
   two_held : (k n : ℕ) → two_at s k ≡ n → Held s k (two n)

@@ -12,10 +12,10 @@ use Rattle.judge.specs.Judge.{judged_at, header_fault, record_fault, unused_faul
 use Rattle.judge.specs.declared.Judged.TheVariants.{Accepted, Refused}
 use Rattle.rules.specs.Rules.{Between, MarkOk, CoordinatesOk, WeightOk, SomewhereOk, CornersOk, Used, SidesOk}
 use Rattle.rules.specs.Grounds.{AtRecord, AtVertex, Grounds}
-use Rattle.rules.specs.Accepted.{opens_iff, counts_iff, record_iff, vertex_iff, face_iff}
+use Rattle.rules.proofs.Accepted.{opens_iff, counts_iff, record_iff, vertex_iff, face_iff}
 use Rattle.rules.specs.Numbers.{check_order, gives, gives_none, rule_alone, rule_next}
-use Rattle.rules.specs.Faults.{record_mark, record_coordinate, record_weight, record_nowhere, record_corner, unused_here, edge_here}
-use Rattle.rules.specs.Parts.{judge_gives, by_header, by_records, by_unused, by_edges}
+use Rattle.rules.proofs.Faults.{record_mark, record_coordinate, record_weight, record_nowhere, record_corner, unused_here, edge_here}
+use Rattle.rules.proofs.Parts.{judge_gives, by_header, by_records, by_unused, by_edges}
 
 module _ (l : Limits) (s : List ℕ) where
   -- ---- refusals 1, 2 and 3

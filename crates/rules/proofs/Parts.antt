@@ -10,8 +10,8 @@ use Rattle.judge.specs.declared.Judged.TheVariants.{Refused}
 use Rattle.judge.specs.Tests.{First, first_refused}
 use Rattle.rules.specs.Rules.{HeaderOk, RecordsOk, AllUsed}
 use Rattle.rules.specs.Numbers.{check_order, Gives, gives, gives_then, gives_first, gives_wider, then_here, then_next}
-use Rattle.rules.specs.Faults.{record_gives}
-use Rattle.rules.specs.Accepted.{header_iff, records_iff, unused_iff}
+use Rattle.rules.proofs.Faults.{record_gives}
+use Rattle.rules.proofs.Accepted.{header_iff, records_iff, unused_iff}
 
 module _ (l : Limits) (s : List ℕ) where
   header_gives : Gives 1 3 (header_fault l s)

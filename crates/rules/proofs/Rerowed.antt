@@ -12,16 +12,10 @@ use Rattle.judge.specs.Judge.{judged}
 use Rattle.judge.specs.declared.Judged.TheVariants.{Accepted}
 use Rattle.rules.specs.Rules.{Zeros}
 use Rattle.rules.specs.TableRules.{RowOk, TableOk, TablesOk, Marked}
-use Rattle.rules.specs.Accepted.{accepted}
-use Rattle.rules.specs.Bridge.{by_tables}
+use Rattle.rules.proofs.Accepted.{accepted}
+use Rattle.rules.proofs.Bridge.{by_tables}
 use Rattle.rules.specs.Frame.{Same, SameCounts, two_frame, face_frame}
-
--- t has the bytes of s, but for what stands behind the marks of the points
-pub record Rerowed (s t : List ℕ) : Type 0 where
-  pub long : length t ≡ length s
-  pub header : Same t s 0 6
-  pub mark : (j : ℕ) → j ≤ verts s → Same t s (point_start j) 2
-  pub behind : (k n : ℕ) → 15 + verts s * 9 ≤ k → Same t s k n
+use Rattle.rules.specs.Frame.{Rerowed}
 
 -- a solid with the same faces and as many vertices
 table_frame : (k' k : Table) → k'.faces ≡ k.faces → size k' ≡ size k → Each (RowOk 1 limits) k'.rows → TableOk limits k →

@@ -17,8 +17,8 @@ use Rattle.judge.specs.Judge.{judged_at}
 use Rattle.judge.specs.declared.Judged.TheVariants.{Accepted}
 use Rattle.rules.specs.Rules.{Between, CountsOk, RecordOk, FileOk}
 use Rattle.rules.specs.TableRules.{TablesOk}
-use Rattle.rules.specs.Bridge.{by_tables}
-use Rattle.rules.specs.Accepted.{accepted}
+use Rattle.rules.proofs.Bridge.{by_tables}
+use Rattle.rules.proofs.Accepted.{accepted}
 
 -- ---- faces raised to the scene's numbers
 

@@ -1,0 +1,11 @@
+pub mod Records
+pub mod Edges
+pub mod Accepted
+pub mod Faults
+pub mod Parts
+pub mod Refused
+pub mod Bridge
+pub mod Written
+pub mod Files
+pub mod Rerowed
+pub mod Given
