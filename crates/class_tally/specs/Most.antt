@@ -9,7 +9,7 @@ use Rattle.scene.specs.Records.{verts_a, verts}
 use Rattle.judge.specs.Judge.{judged}
 use Rattle.judge.specs.declared.Judged.{Judged}
 use Rattle.judge.specs.declared.Judged.TheVariants.{Accepted, Refused}
-use Rattle.rules.specs.Given as given
+use Rattle.rules.proofs.Given as given
 use Rattle.scene.specs.Edges.{joined}
 use Rattle.scene.specs.declared.Solid.{Solid}
 use Rattle.pierce.specs.Formula.{pierced}

@@ -8,7 +8,7 @@ use Rattle.scene.specs.Arrays.{AllWithin}
 use Rattle.scene.specs.declared.Row.{Row}
 use Rattle.judge.specs.Judge.{judged}
 use Rattle.judge.specs.declared.Judged.TheVariants.{Accepted}
-use Rattle.rules.specs.Given.{counts, rows_within}
+use Rattle.rules.proofs.Given.{counts, rows_within}
 
 module _ (s : List ℕ) (ok : judged s ≡ Accepted) where
   pub rows_fit : verts s + 1 ≤ most_points limits

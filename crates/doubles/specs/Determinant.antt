@@ -12,7 +12,7 @@ use Rattle.scene.specs.Tables.{row, tables_of}
 use Rattle.scene.specs.declared.Row.{Row}
 use Rattle.judge.specs.Judge.{judged}
 use Rattle.judge.specs.declared.Judged.TheVariants.{Accepted}
-use Rattle.rules.specs.Given.{rows_within}
+use Rattle.rules.proofs.Given.{rows_within}
 use Rattle.orient.specs.Determinant.{Entries, det4}
 use Rattle.orient.specs.Terms.{terms_at, point_at}
 use Rattle.orient.specs.Columns.{part_of, c0_parts}

@@ -14,8 +14,8 @@ use Rattle.judge.specs.Judge.{judged}
 use Rattle.judge.specs.Laws.{rule_ok, rule_rest}
 use Rattle.judge.specs.Tests.{first_iff}
 use Rattle.judge.specs.declared.Judged.TheVariants.{Accepted}
-use Rattle.rules.specs.Accepted.{accepted}
-use Rattle.rules.specs.Given.{rows_within}
+use Rattle.rules.proofs.Accepted.{accepted}
+use Rattle.rules.proofs.Given.{rows_within}
 use Rattle.clean.specs.Sizes.{most_entry, RowSmall, row_small}
 use Rattle.map_image.specs.Image.{row_upto, entries_ok, most_table, image_row, coordinates_ok, weight_ok, row_fault, point_fault, rows_fault}
 use Rattle.map_image.specs.Columns.{columns_of, MapSmall}

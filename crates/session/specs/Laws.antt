@@ -16,7 +16,7 @@ use Rattle.judge.specs.declared.Judged.{Judged}
 use Rattle.judge.specs.declared.Judged.TheVariants.{Accepted, Refused}
 use Rattle.rules.specs.Rules.{Zeros}
 use Rattle.rules.specs.TableRules.{RowOk}
-use Rattle.rules.specs.Accepted.{accepted}
+use Rattle.rules.proofs.Accepted.{accepted}
 use Rattle.session.specs.Session.{scene, fresh, empty, opened_by, opened, is_whole, sizes_of, row_fault}
 use Rattle.session.specs.Session.{is_nowhere, vertex_fault, far_fault, turn_fault, changed_by}
 use Rattle.session.specs.declared.Session.{Session}

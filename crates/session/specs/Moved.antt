@@ -14,10 +14,11 @@ use Rattle.judge.specs.Judge.{judged}
 use Rattle.judge.specs.declared.Judged.TheVariants.{Accepted}
 use Rattle.rules.specs.Rules.{Zeros}
 use Rattle.rules.specs.TableRules.{RowOk}
-use Rattle.rules.specs.Accepted.{accepted}
-use Rattle.rules.specs.Bridge.{by_tables}
+use Rattle.rules.proofs.Accepted.{accepted}
+use Rattle.rules.proofs.Bridge.{by_tables}
 use Rattle.rules.specs.Frame.{Same, row_frame}
-use Rattle.rules.specs.Rerowed.{Rerowed, still_accepted}
+use Rattle.rules.specs.Frame.{Rerowed}
+use Rattle.rules.proofs.Rerowed.{still_accepted}
 
 module _ (s : List ℕ) (j : ℕ) (v : Row) where
   abbrev s' : List ℕ

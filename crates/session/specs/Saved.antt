@@ -10,7 +10,7 @@ use Rattle.judge.specs.Judge.{judged, refuse_unless}
 use Rattle.judge.specs.Tests.{accepts}
 use Rattle.judge.specs.declared.Judged.{Judged}
 use Rattle.judge.specs.declared.Judged.TheVariants.{Accepted, Refused}
-use Rattle.rules.specs.Accepted.{accepted}
+use Rattle.rules.proofs.Accepted.{accepted}
 use Rattle.scene.specs.Limits.{limits}
 use Rattle.session.specs.Session.{scene, fresh, opened_by, opened, is_whole}
 use Rattle.session.specs.Kept.{Empty, Full, Holds}

@@ -14,8 +14,8 @@ use Rattle.scene.specs.declared.Face.{Face}
 use Rattle.judge.specs.Judge.{judged}
 use Rattle.judge.specs.declared.Judged.TheVariants.{Accepted}
 use Rattle.rules.specs.TableRules.{TableOk, TablesOk, Marked}
-use Rattle.rules.specs.Accepted.{accepted}
-use Rattle.rules.specs.Bridge.{by_tables}
+use Rattle.rules.proofs.Accepted.{accepted}
+use Rattle.rules.proofs.Bridge.{by_tables}
 use Rattle.rules.specs.Frame.{Same, SameCounts, two_frame, row_frame, face_frame}
 use Rattle.session.specs.Session.{reversed_face, reversed_in}
 

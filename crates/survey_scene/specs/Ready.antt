@@ -16,7 +16,7 @@ use Rattle.scene.specs.declared.Face.{Face}
 use Rattle.scene.specs.declared.Solid.{Solid}
 use Rattle.judge.specs.Judge.{judged}
 use Rattle.judge.specs.declared.Judged.TheVariants.{Accepted}
-use Rattle.rules.specs.Given.{counts, weighted, rows_within, faces_within, face_of_a, face_of_b}
+use Rattle.rules.proofs.Given.{counts, weighted, rows_within, faces_within, face_of_a, face_of_b}
 use Rattle.orient.specs.Signs.{Upto, ne_sym}
 use Rattle.orient.specs.Terms.{terms_at, positive_at}
 use Rattle.orient.specs.Weighted.{Weighted, SignDefined}

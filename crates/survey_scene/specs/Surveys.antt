@@ -11,7 +11,7 @@ use Rattle.scene.specs.View.Laws.{either_solid}
 use Rattle.scene.specs.declared.Solid.{Solid}
 use Rattle.judge.specs.Judge.{judged}
 use Rattle.judge.specs.declared.Judged.TheVariants.{Accepted}
-use Rattle.rules.specs.Given.{counts, each_of_a, each_of_b, edges_of_a, edges_of_b}
+use Rattle.rules.proofs.Given.{counts, each_of_a, each_of_b, edges_of_a, edges_of_b}
 use Rattle.pierce.specs.Parity as parity
 use Rattle.pierce.specs.Parity.{solid_by_edges}
 use Rattle.questions.specs.Hits.{view_in, enclosed_count}

@@ -13,7 +13,7 @@ use Rattle.scene.specs.declared.Refusal.{Refusal}
 use Rattle.judge.specs.Tests.{within_iff, rule_iff, never}
 use Rattle.judge.specs.declared.Judged.{Judged}
 use Rattle.judge.specs.declared.Judged.TheVariants as judge
-use Rattle.rules.specs.Accepted.{accepted}
+use Rattle.rules.proofs.Accepted.{accepted}
 use Rattle.session.specs.Session.{scene, is_whole, vertex_fault, far_fault, changed_by, moved_of, far_moved_of}
 use Rattle.session.specs.Kept.{Empty, Full, Holds, moved_holds, far_holds}
 use Rattle.session.specs.Changes.{RowChanged, vertex_changed, far_changed, vertex_refused, far_refused}

@@ -15,7 +15,7 @@ use Rattle.judge.specs.Judge.{judged, refuse_unless}
 use Rattle.judge.specs.Tests.{never}
 use Rattle.judge.specs.declared.Judged.{Judged}
 use Rattle.judge.specs.declared.Judged.TheVariants as judge
-use Rattle.rules.specs.Accepted.{accepted}
+use Rattle.rules.proofs.Accepted.{accepted}
 use Rattle.session.specs.Session.{scene, empty, opened}
 use Rattle.session.specs.Kept.{Empty, Full, opened_holds}
 use Rattle.session.specs.Kept as session

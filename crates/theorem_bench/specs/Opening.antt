@@ -19,7 +19,8 @@ use Rattle.judge.specs.declared.Judged.TheVariants as judge
 use Rattle.rules.specs.Held.{Held, byte_of, length_all}
 use Rattle.rules.specs.ReadBack.{far_stands, b_rows, b_faces}
 use Rattle.rules.specs.Write.{point_bytes, face_bytes, bytes_of}
-use Rattle.rules.specs.Written.{Bytes, accepted_written}
+use Rattle.rules.specs.Write.{Bytes}
+use Rattle.rules.proofs.Written.{accepted_written}
 use Rattle.bench_moves.specs.Bench.{unless, then_scene, differ_at, same_bytes, same_counts, same_far}
 use Rattle.bench_moves.specs.Bench.{same_vertices, same_faces, is_shared, open_fault}
 use Rattle.bench_moves.specs.declared.Fault.TheVariants.{Differing}

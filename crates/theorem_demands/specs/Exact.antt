@@ -16,8 +16,8 @@ use Rattle.scene.specs.Tables.{tables_of, row}
 use Rattle.judge.specs.Judge.{judged}
 use Rattle.judge.specs.declared.Judged.TheVariants.{Accepted}
 use Rattle.rules.specs.Rules.{FileOk}
-use Rattle.rules.specs.Files.{FileOf}
-use Rattle.rules.specs.Written.{Bytes}
+use Rattle.rules.specs.FileOf.{FileOf}
+use Rattle.rules.specs.Write.{Bytes}
 use Rattle.orient.specs.Terms.{positive_at, terms_at}
 use Rattle.orient.specs.declared.Terms.{Terms}
 use Rattle.questions.specs.Hits.{Hit}

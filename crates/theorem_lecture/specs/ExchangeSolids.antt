@@ -7,7 +7,7 @@ use Rattle.scene.specs.Records.{verts_a, verts_b, faces_in_a, faces_in_b, verts}
 use Rattle.scene.specs.View.{view_of, solid}
 use Rattle.judge.specs.Judge.{judged}
 use Rattle.judge.specs.declared.Judged.TheVariants.{Accepted}
-use Rattle.rules.specs.Given.{counts, face_of_a, face_of_b}
+use Rattle.rules.proofs.Given.{counts, face_of_a, face_of_b}
 use Rattle.survey_scene.specs.Ready.{scene_weighted}
 use Rattle.theorem_lecture.specs.Lecture.{rows_of, points_of}
 use Rattle.theorem_lecture.specs.Renumbered.{Untied}

@@ -16,10 +16,10 @@ use Rattle.scene.specs.declared.Refusal.TheVariants.{Unused, Edge, ListTooShort,
 use Rattle.judge.specs.Judge.{judged}
 use Rattle.judge.specs.declared.Judged.{Judged}
 use Rattle.judge.specs.declared.Judged.TheVariants as judge
-use Rattle.rules.specs.Accepted.{accepted}
-use Rattle.rules.specs.Bridge.{by_tables}
+use Rattle.rules.proofs.Accepted.{accepted}
+use Rattle.rules.proofs.Bridge.{by_tables}
 use Rattle.rules.specs.Numbers.{Gives, check_order, gives_first, gives}
-use Rattle.rules.specs.Refused as table
+use Rattle.rules.proofs.Refused as table
 use Rattle.rules.specs.Rules.{Zeros}
 use Rattle.clean.specs.Clean.{is_zero}
 use Rattle.map_image.specs.declared.Map.{Map}

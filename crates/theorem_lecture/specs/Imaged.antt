@@ -18,10 +18,11 @@ use Rattle.scene.specs.declared.Row.{Row}
 use Rattle.judge.specs.Judge.{judged}
 use Rattle.judge.specs.declared.Judged.TheVariants.{Accepted}
 use Rattle.rules.specs.TableRules.{RowOk}
-use Rattle.rules.specs.Accepted.{accepted}
-use Rattle.rules.specs.Bridge.{by_tables}
+use Rattle.rules.proofs.Accepted.{accepted}
+use Rattle.rules.proofs.Bridge.{by_tables}
 use Rattle.rules.specs.Frame.{Same, row_frame}
-use Rattle.rules.specs.Rerowed.{Rerowed, still_accepted}
+use Rattle.rules.specs.Frame.{Rerowed}
+use Rattle.rules.proofs.Rerowed.{still_accepted}
 use Rattle.orient.specs.Signs.{Upto}
 use Rattle.map_image.specs.declared.Map.{Map}
 use Rattle.map_image.specs.Mapped.{mapped, determinant_of}

@@ -12,7 +12,7 @@ use Rattle.scene.specs.declared.Refusal.TheVariants.{NoSuchNumber, NotDistinct}
 use Rattle.judge.specs.Judge.{refuse_unless, judged}
 use Rattle.judge.specs.declared.Judged.{Judged}
 use Rattle.judge.specs.declared.Judged.TheVariants.{Accepted, Refused}
-use Rattle.rules.specs.Given.{counts}
+use Rattle.rules.proofs.Given.{counts}
 use Rattle.orient.specs.Signs.{Upto, Four}
 use Rattle.orient.specs.Terms.{is_plus, positive_at, terms_at}
 use Rattle.orient.specs.declared.Terms.{Terms}

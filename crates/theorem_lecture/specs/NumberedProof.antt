@@ -17,7 +17,7 @@ use Rattle.scene.specs.declared.Face.{Face}
 use Rattle.scene.specs.declared.Refusal.TheVariants.{NoSuchNumber}
 use Rattle.judge.specs.Judge.{refuse_unless, judged}
 use Rattle.judge.specs.declared.Judged.TheVariants.{Accepted}
-use Rattle.rules.specs.Given.{counts, face_of_a, face_of_b}
+use Rattle.rules.proofs.Given.{counts, face_of_a, face_of_b}
 use Rattle.orient.specs.Signs.{Upto}
 use Rattle.orient.specs.Weighted.{Weighted}
 use Rattle.pierce.specs.Beside.{Beside, beside}

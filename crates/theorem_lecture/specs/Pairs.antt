@@ -16,7 +16,7 @@ use Rattle.scene.specs.Tables.{tables_of, face}
 use Rattle.scene.specs.declared.Face.{Face}
 use Rattle.judge.specs.Judge.{judged}
 use Rattle.judge.specs.declared.Judged.TheVariants.{Accepted}
-use Rattle.rules.specs.Given.{face_of_a, face_of_b}
+use Rattle.rules.proofs.Given.{face_of_a, face_of_b}
 use Rattle.pierce.specs.Beside.{Beside, beside}
 use Rattle.scene.specs.View.{view_of}
 use Rattle.questions.specs.Hits.{Hit}

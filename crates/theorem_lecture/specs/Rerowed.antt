@@ -5,7 +5,8 @@ use Rattle.std.proofs.Math.Decide.{dec_lt}
 use Rattle.scene.specs.Records.{faces_in_a, faces}
 use Rattle.scene.specs.Tables.{face, raise, tables_of}
 use Rattle.scene.specs.Read.{face_zero, face_a, face_b, face_none}
-use Rattle.rules.specs.Rerowed.{Rerowed, va_same, fa_same, vb_same, fb_same, face_same}
+use Rattle.rules.specs.Frame.{Rerowed}
+use Rattle.rules.proofs.Rerowed.{va_same, fa_same, vb_same, fb_same, face_same}
 use Rattle.theorem_lecture.specs.Lecture.{SameShape}
 
 module _ (s t : List ℕ) (h : Rerowed s t) where

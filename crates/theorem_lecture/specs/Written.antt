@@ -11,10 +11,10 @@ use Rattle.scene.specs.Tables.{Tables, tables_of, face, size, raise, row_at, fac
 use Rattle.scene.specs.declared.Face.{Face}
 use Rattle.judge.specs.Judge.{judged}
 use Rattle.judge.specs.declared.Judged.TheVariants.{Accepted}
-use Rattle.rules.specs.Accepted.{accepted}
-use Rattle.rules.specs.Bridge.{by_tables, limits_fit}
-use Rattle.rules.specs.Files.{file_accepted}
-use Rattle.rules.specs.Given.{face_of_a, face_of_b}
+use Rattle.rules.proofs.Accepted.{accepted}
+use Rattle.rules.proofs.Bridge.{by_tables, limits_fit}
+use Rattle.rules.proofs.Files.{file_accepted}
+use Rattle.rules.proofs.Given.{face_of_a, face_of_b}
 use Rattle.rules.specs.ReadBack.{read_back}
 use Rattle.rules.specs.TableRules.{TablesOk}
 use Rattle.orient.specs.Signs.{Upto}

@@ -18,7 +18,7 @@ use Rattle.scene.specs.Faces.{FaceOf, EdgesOk}
 use Rattle.scene.specs.View.{view_of, solid, solid_a, solid_b}
 use Rattle.scene.specs.declared.Face.{Face}
 use Rattle.scene.specs.declared.Solid.{Solid}
-use Rattle.rules.specs.Given.{counts, each_of_a, each_of_b, edges_of_a, edges_of_b}
+use Rattle.rules.proofs.Given.{counts, each_of_a, each_of_b, edges_of_a, edges_of_b}
 use Rattle.pierce.specs.Closed.{Closed, closed_by_edges}
 use Rattle.pierce.specs.Formula.{pierced}
 use Rattle.survey_sides.specs.Sides.{above}

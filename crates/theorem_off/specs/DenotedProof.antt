@@ -22,8 +22,8 @@ use Rattle.judge.specs.declared.Judged.{Judged}
 use Rattle.judge.specs.declared.Judged.TheVariants as judge
 use Rattle.rules.specs.Rules.{Between}
 use Rattle.rules.specs.TableRules.{TablesOk}
-use Rattle.rules.specs.Bridge.{limits_fit}
-use Rattle.rules.specs.Written.{file_length}
+use Rattle.rules.proofs.Bridge.{limits_fit}
+use Rattle.rules.proofs.Written.{file_length}
 use Rattle.rules.specs.ReadBack.{read_back}
 use Rattle.rules.specs.Write.{bytes_of}
 use Rattle.off_form.specs.Form.{form_of, vertices_of, faces_of}

@@ -21,10 +21,10 @@ use Rattle.rules.specs.Rules.{SomewhereOk, CornersOk, RecordOk, RecordsOk, Used,
 use Rattle.rules.specs.TableRules.{TablesOk}
 use Rattle.rules.specs.Grounds.{AtRecord, AtVertex, AtFace, Grounds}
 use Rattle.rules.specs.Write.{bytes_of}
-use Rattle.rules.specs.Bridge.{limits_fit}
-use Rattle.rules.specs.Given.{tables_ok}
-use Rattle.rules.specs.Refused.{refused}
-use Rattle.rules.specs.Files.{file_accepted}
+use Rattle.rules.proofs.Bridge.{limits_fit}
+use Rattle.rules.proofs.Given.{tables_ok}
+use Rattle.rules.proofs.Refused.{refused}
+use Rattle.rules.proofs.Files.{file_accepted}
 use Rattle.off_solids.specs.Fitted.{fitted_row, fitted_face, fitted}
 use Rattle.theorem_off.specs.Denoted.{verts_in, faces_in, point_in, face_in, CountsIn, CoordinatesKept, WeightKept}
 use Rattle.theorem_off.specs.Denoted.{SomewhereKept, CornersKept, RecordKept, UsedIn, SidesIn, ToRecord, AllKept, ToVertex, ToFace}

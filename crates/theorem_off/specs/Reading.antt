@@ -18,7 +18,7 @@ use Rattle.scene.specs.declared.Row.{Row}
 use Rattle.scene.specs.declared.Face.{Face}
 use Rattle.rules.specs.TableRules.{Marked}
 use Rattle.rules.specs.Write.{point_bytes, face_bytes, bytes_of}
-use Rattle.rules.specs.Written.{file_length}
+use Rattle.rules.proofs.Written.{file_length}
 use Rattle.rules.specs.Held.{Held, left, right, byte_of, all_give}
 use Rattle.rules.specs.ReadBack.{read_mark, far_stands, end_stands, a_rows, b_rows, a_faces, b_faces}
 use Rattle.off_items.specs.Laws.{told_le, at_most_low}

@@ -3,7 +3,7 @@ use borrow.Author.Rules.{rules}
 use mathlib.Core.Path.{ap₂, ◌∙◌}
 use Rattle.clean.specs.Clean.{has_flat}
 use native.Mathlib.Omega.{arith}
-use Rattle.rules.specs.Given.{rows_within}
+use Rattle.rules.proofs.Given.{rows_within}
 use Rattle.clean.specs.Scene.{rows_fit, ready}
 use Rattle.clean.proofs.flat_scene.Statement.{statement}
 use Rattle.clean.proofs.flat_scene.Tie as tie

@@ -1,5 +1,5 @@
 -- Both solids can be surveyed, and what is told of the arrays is so of the scene.
-use Rattle.rules.specs.Given.{rows_within, faces_within}
+use Rattle.rules.proofs.Given.{rows_within, faces_within}
 use Rattle.survey_scene.specs.Ready.{rows_fit, faces_fit_law, decoded}
 use Rattle.survey_scene.specs.Surveys.{to_survey, survey_is}
 use borrow.Author.Rules.{rules}

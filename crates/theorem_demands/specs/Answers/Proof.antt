@@ -16,9 +16,9 @@ use Rattle.judge.specs.declared.Judged.{Judged}
 use Rattle.judge.specs.declared.Judged.TheVariants.{Accepted, Refused}
 use Rattle.judge.specs.Tests.{within_iff, then_refused}
 use Rattle.rules.specs.Numbers.{check_order, Gives, gives, gives_none, gives_wider, rule_here, then_here, then_next}
-use Rattle.rules.specs.Parts.{judge_gives}
-use Rattle.rules.specs.Accepted.{accepted}
-use Rattle.rules.specs.Refused as table
+use Rattle.rules.proofs.Parts.{judge_gives}
+use Rattle.rules.proofs.Accepted.{accepted}
+use Rattle.rules.proofs.Refused as table
 use Rattle.record.specs.Shown.{refusal, shown, if_accepted}
 use Rattle.pierce.specs.Formula.{pierced}
 use Rattle.questions.specs.Hits.{lowest_enclosed}

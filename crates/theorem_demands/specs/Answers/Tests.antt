@@ -18,9 +18,9 @@ use Rattle.judge.specs.declared.Judged.TheVariants.{Accepted, Refused}
 use Rattle.rules.specs.Rules.{Between, FileOk}
 use Rattle.judge.specs.Tests.{never, within_iff, then_refused, rule_iff, then_iff}
 use Rattle.rules.specs.Numbers.{check_order, Gives, gives, gives_none, gives_wider, rule_alone, rule_next, then_here, then_next}
-use Rattle.rules.specs.Parts.{judge_gives}
-use Rattle.rules.specs.Accepted.{accepted}
-use Rattle.rules.specs.Refused as table
+use Rattle.rules.proofs.Parts.{judge_gives}
+use Rattle.rules.proofs.Accepted.{accepted}
+use Rattle.rules.proofs.Refused as table
 use Rattle.questions.specs.Laws.{answered_then}
 use Rattle.questions.specs.Answers.{or_refuse, is_point, is_face, differs, differ, are_points, ends_off_face, edge_and_face}
 use Rattle.questions.specs.Answers.{is_vertex_of, edge_and_solid, ends_off_solid, is_solid}

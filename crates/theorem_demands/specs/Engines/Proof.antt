@@ -6,7 +6,7 @@ use Rattle.scene.specs.Records.{verts}
 use Rattle.scene.specs.Tables.{tables_of, row}
 use Rattle.judge.specs.Judge.{judged}
 use Rattle.judge.specs.declared.Judged.TheVariants.{Accepted}
-use Rattle.rules.specs.Given.{counts}
+use Rattle.rules.proofs.Given.{counts}
 use Rattle.orient.specs.Rules.{rules}
 use Rattle.orient.specs.Signs.{Upto, Rules}
 use Rattle.pierce.specs.Five.{any_helper, by_helper}

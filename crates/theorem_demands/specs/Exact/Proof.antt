@@ -23,9 +23,9 @@ use Rattle.judge.specs.declared.Judged.{Judged}
 use Rattle.judge.specs.declared.Judged.TheVariants.{Accepted}
 use Rattle.rules.specs.Rules.{FileOk}
 use Rattle.judge.specs.Tests.{within_iff, rule_iff, then_iff}
-use Rattle.rules.specs.Accepted as rules
-use Rattle.rules.specs.Bridge.{limits_fit}
-use Rattle.rules.specs.Files.{accepted_files}
+use Rattle.rules.proofs.Accepted as rules
+use Rattle.rules.proofs.Bridge.{limits_fit}
+use Rattle.rules.proofs.Files.{accepted_files}
 use Rattle.orient.specs.Terms.{positive_at, terms_at}
 use Rattle.orient.specs.declared.Terms.{Terms}
 use Rattle.pierce.specs.Formula.{pierced}

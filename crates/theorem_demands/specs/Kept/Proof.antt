@@ -24,7 +24,7 @@ use Rattle.judge.specs.Judge.{record_fault, records_fault, judged_at, judged}
 use Rattle.judge.specs.declared.Judged.{Judged}
 use Rattle.judge.specs.declared.Judged.TheVariants.{Accepted, Refused}
 use Rattle.rules.specs.Rules.{CountsOk, FileOk}
-use Rattle.rules.specs.Accepted.{opens_iff, counts_iff, accepted}
+use Rattle.rules.proofs.Accepted.{opens_iff, counts_iff, accepted}
 use Rattle.questions.specs.Answers.{or_refuse, sign_of, pierces_of, masked_of, refused, enclosed_of, counted_of, inside_of, verdict_of}
 use Rattle.questions.specs.declared.Signed.TheVariants as sign
 use Rattle.questions.specs.declared.Answer.TheVariants as answer

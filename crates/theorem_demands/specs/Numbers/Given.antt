@@ -19,8 +19,8 @@ use Rattle.judge.specs.Judge.{unuseds_fault, edge_ok, sides_ok, closed_at, edge_
 use Rattle.judge.specs.declared.Judged.TheVariants.{Accepted, Refused}
 use Rattle.rules.specs.Rules.{FileOk}
 use Rattle.rules.specs.Grounds.{Grounds}
-use Rattle.rules.specs.Accepted.{accepted}
-use Rattle.rules.specs.Refused as table
+use Rattle.rules.proofs.Accepted.{accepted}
+use Rattle.rules.proofs.Refused as table
 use Rattle.orient.specs.Terms.{terms, orientation, positive_at}
 use Rattle.pierce.specs.Formula.{can_help, helper, counts, sides_count, formula, pierces}
 use Rattle.questions.specs.WritePairs.{part_in}

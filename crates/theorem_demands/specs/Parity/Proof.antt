@@ -12,7 +12,7 @@ use Rattle.scene.specs.View.Laws.{either_solid}
 use Rattle.scene.specs.declared.Solid as numbers
 use Rattle.judge.specs.Judge.{judged_at, refuse_unless}
 use Rattle.judge.specs.declared.Judged.TheVariants.{Accepted}
-use Rattle.rules.specs.Given.{weighted, each_of_a, each_of_b, edges_of_a, edges_of_b}
+use Rattle.rules.proofs.Given.{weighted, each_of_a, each_of_b, edges_of_a, edges_of_b}
 use Rattle.judge.specs.Tests.{within_iff}
 use Rattle.orient.specs.Signs.{Upto}
 use Rattle.orient.specs.Weighted.{Weighted}

@@ -10,7 +10,7 @@ use Rattle.scene.specs.View.{View, view_of, points}
 use Rattle.scene.specs.declared.Row.{Row}
 use Rattle.judge.specs.Judge.{judged}
 use Rattle.judge.specs.declared.Judged.TheVariants.{Accepted}
-use Rattle.rules.specs.Given.{rows_within}
+use Rattle.rules.proofs.Given.{rows_within}
 use Rattle.orient.specs.Columns.{part_of, c0_parts}
 use Rattle.orient.specs.Formed.{most_formed}
 use Rattle.orient.specs.Signs.{Upto, Four}

@@ -11,7 +11,7 @@ use Rattle.scene.specs.Records.{verts, faces, last_record, length_of, point_star
 use Rattle.judge.specs.Judge.{judged}
 use Rattle.judge.specs.declared.Judged.TheVariants.{Accepted}
 use Rattle.rules.specs.Rules.{FileOk}
-use Rattle.rules.specs.Accepted.{accepted}
+use Rattle.rules.proofs.Accepted.{accepted}
 use Rattle.record.specs.Shown.{part, part_at, shown}
 use Rattle.record.specs.Cases.{at_header, at_point, at_face, at_end, shown_all, had}
 use Rattle.theorem_demands.specs.Shown.{end_to_end, Is, Records}

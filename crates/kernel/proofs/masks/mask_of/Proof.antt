@@ -1,5 +1,5 @@
 -- The solid's faces are beside an edge of two points that are none of its vertices.
-use Rattle.rules.specs.Given.{rows_within, faces_within}
+use Rattle.rules.proofs.Given.{rows_within, faces_within}
 use Rattle.survey_scene.specs.Ready.{rows_fit, faces_fit_law, mask_fits, decoded, mask_found}
 use borrow.Author.Rules.{rules}
 use Rattle.kernel.proofs.masks.mask_of.Statement.{statement}

@@ -5,7 +5,7 @@ use Rattle.judge.specs.declared.Judged.TheVariants.{Accepted}
 use Rattle.scene.specs.View.{view_of}
 use Rattle.questions.specs.Answers.{pierces_fault, pierces_in, pierces_of}
 use Rattle.questions.specs.Laws.{accepted_so, refused_so, own_refused, both_accept, yes_so, no_so}
-use Rattle.rules.specs.Given.{rows_within}
+use Rattle.rules.proofs.Given.{rows_within}
 use Rattle.survey_scene.specs.Ready.{rows_fit, pierces_fit, pierces_found}
 use Rattle.questions.specs.declared.Answer.TheVariants.{Refused}
 use borrow.Author.Rules.{rules}

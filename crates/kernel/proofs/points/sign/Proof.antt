@@ -1,7 +1,7 @@
 -- The judge decides, then the question's own faults; four different points of an accepted scene have a sign.
 use Rattle.questions.specs.Answers.{sign_in, sign_of}
 use Rattle.questions.specs.Laws.{accepted_so, refused_so, own_refused, both_accept}
-use Rattle.rules.specs.Given.{rows_within}
+use Rattle.rules.proofs.Given.{rows_within}
 use Rattle.survey_scene.specs.Ready.{rows_fit, sign_fits, four_are, sign_found}
 use Rattle.questions.specs.declared.Signed.TheVariants.{Refused}
 use borrow.Author.Rules.{rules}
