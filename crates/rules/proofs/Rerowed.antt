@@ -1,6 +1,6 @@
 -- An accepted scene stays accepted when the rows of its points change, each within its rules: what a file has beside its rows is as it was.
 -- Assumes nothing.
-use Rattle.std.specs.Prelude.{◌≡◌, List, ℕ, zero, suc, ◌+◌, ◌*◌, ◌≤◌, length}
+use Rattle.std.specs.Prelude.{◌≡◌, List, ℕ, zero, suc, ◌+◌, ◌≤◌}
 use Rattle.std.proofs.Common.{sym, ap, ap₂, ◌∙◌, arith}
 use Rattle.laws.specs.Lists.{Each, run, run_each, run_same}
 use Rattle.scene.specs.Limits.{limits, least_weight}
@@ -14,7 +14,7 @@ use Rattle.rules.specs.Rules.{Zeros}
 use Rattle.rules.specs.TableRules.{RowOk, TableOk, TablesOk, Marked}
 use Rattle.rules.proofs.Accepted.{accepted}
 use Rattle.rules.proofs.Bridge.{by_tables}
-use Rattle.rules.specs.Frame.{Same, SameCounts, two_frame, face_frame}
+use Rattle.rules.specs.Frame.{SameCounts, two_frame, face_frame}
 use Rattle.rules.specs.Frame.{Rerowed}
 
 -- a solid with the same faces and as many vertices
