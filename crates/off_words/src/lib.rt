@@ -1,4 +1,6 @@
 // Why two texts make no scene, as two lines: the refusal's number and place, and in words what stands there and which rule it breaks.
+#![tactic(auto)]
+
 ghost use Rattle.std.specs.Prelude.{◌≡◌, ◌-◌};
 ghost use Rattle.print.specs.Put.{Put};
 ghost use Rattle.off_words.specs.Faults.{refused_line, spotted, fault_at, in_texts, words_of, fault_of};

@@ -1,0 +1,10 @@
+-- Its words, one after the other.
+use Rattle.print.specs.Put.{end_to_end}
+use Rattle.off_words.specs.Records.{number_put}
+use Rattle.off_words.proofs.spotted.Goals as goal
+
+pub returns : goal.returns
+returns c =
+    end_to_end c.word-p.ensures
+    (end_to_end (number_put c.spot_of-s.ensures.0 c.next_number-q.ensures)
+    (end_to_end c.word-r.ensures (number_put c.spot_of-s.ensures.1 c.next_number.ensures)))
