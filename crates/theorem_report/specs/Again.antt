@@ -1,7 +1,6 @@
 -- A report reads back: from its text its lines are found again, and from them the verdict's word, the counts and the listing.
--- Assumes nothing.
-use Rattle.std.specs.Prelude.{ℕ, ◌≡◌, refl, Bool, true, not, ◌&&◌, List, [], ◌∷◌, ◌++◌, map, eqb, get_or, drop}
-use Rattle.std.proofs.Common.{ap, ◌∙◌}
+-- (That it is found is proofs/FoundAgain.) Assumes nothing.
+use Rattle.std.specs.Prelude.{ℕ, ◌≡◌, refl, Bool, true, not, ◌&&◌, List, [], ◌∷◌, map, eqb, get_or, drop}
 use Rattle.laws.specs.Lists.{Each, each_append}
 use Rattle.laws.specs.Decides.{and_iff, differ_iff}
 use Rattle.judge.specs.Judge.{judged}
@@ -16,7 +15,7 @@ use Rattle.questions.specs.declared.Counted.TheVariants as counted
 use Rattle.questions.specs.declared.Verdict.{Verdict}
 use Rattle.questions.specs.declared.Verdict.TheVariants as verdict
 use Rattle.print.specs.Text.{ascii, text}
-use Rattle.print.specs.Decimal.{number_in, number_back}
+use Rattle.print.specs.Decimal.{number_in}
 use Rattle.print.specs.Back.{Word, Words, Plain, Line, decimal_plain, lines_in, lines_back}
 use Rattle.print_lines.specs.Lines.{word_of}
 use Rattle.print_lines.specs.Report.{hit_line, head_of, listing_lines, report_of}
@@ -84,11 +83,6 @@ word_in ls i j = get_or (get_or ls i []) j []
 abbrev pub hit_in : Words → Hit
 hit_in w = record { low = number_in (get_or w 0 []); high = number_in (get_or w 1 []); face = number_in (get_or w 2 []) }
 
-hits_back : (l : List Hit) → map hit_in (map hit_line l) ≡ l
-hits_back [] = refl
-hits_back (h ∷ l) =
-    λ i. record { low = number_back h.low i; high = number_back h.high i; face = number_back h.face i } ∷ hits_back l i
-
 -- what the text t says of an accepted scene with these counts
 pub record Again (s : List ℕ) (c : Counts) (t : List ℕ) : Type 0 where
   pub word : word_in (lines_in t) 1 1 ≡ word_of (verdict_of s)
@@ -96,17 +90,3 @@ pub record Again (s : List ℕ) (c : Counts) (t : List ℕ) : Type 0 where
   pub b_in_a_law : number_in (word_in (lines_in t) 2 2) ≡ c.b_in_a
   pub pairs : number_in (word_in (lines_in t) 3 1) ≡ c.pairs
   pub listing : map hit_in (drop 4 (lines_in t)) ≡ listing_in (view_of s)
-
-pub found_again : (s : List ℕ) (c : Counts) → judged s ≡ Accepted → counted_of s ≡ counted.Counts c → Again s c (text (report_of s))
-unfolding report_of listing_lines or_refuse
-found_again s c j e =
-    let ls : lines_in (text (report_of s)) ≡ head_of s (counted.Counts c) ++ map hit_line (listing_in (view_of s)) =
-    report_back s ∙ ap (λ (a : Counted). head_of s a ++ listing_lines s) e
-    ∙ ap (λ (k : Judged). head_of s (counted.Counts c) ++ or_refuse (λ _. []) k (map hit_line (listing_in (view_of s)))) j in
-    record {
-      word = ap (λ (l : List Words). word_in l 1 1) ls;
-      a_in_b_law = ap (λ (l : List Words). number_in (word_in l 2 1)) ls ∙ number_back c.a_in_b;
-      b_in_a_law = ap (λ (l : List Words). number_in (word_in l 2 2)) ls ∙ number_back c.b_in_a;
-      pairs = ap (λ (l : List Words). number_in (word_in l 3 1)) ls ∙ number_back c.pairs;
-      listing = ap (λ (l : List Words). map hit_in (drop 4 l)) ls ∙ hits_back (listing_in (view_of s));
-    }

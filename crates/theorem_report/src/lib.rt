@@ -1,1 +1,2 @@
 // That a report reads back: theorems only.
+#![tactic(auto)]
