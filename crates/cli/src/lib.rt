@@ -1,208 +1,340 @@
 // What the programs share: words of the command line, the input that a word names, read whole, and answers that are written whole. What
 // can't be done is said on standard error behind the program's name.
-ghost use Rattle.io.specs.Counts.{IsPrefixLen};
+#![tactic(auto)]
+
+ghost use Rattle.cli.specs.Counts.{IsPrefixLen};
 
 use check::same;
-use libc::{STDERR_FILENO, STDIN_FILENO, STDOUT_FILENO};
+use std::env::FillError;
+use std::fs::{File, OpenOptions};
+use std::io::{ErrorKind, Print, Read, Write};
+use std::rt::{Env, Stdin};
+use std::{fs, io, str};
 
-// What was read: how many bytes, and whether these are all, or as many as there was room for.
+// What was read: how many bytes, and whether these are all, or as many as there was room for; else why there are no more.
 #[derive(Drop)]
 pub struct Input {
     pub whole: bool,
     pub count: usize,
+    pub error: Option<io::Error>,
 }
 
-// Whether word i of the command line is this one, of at most 32 bytes. (Word 0 is the program's own name.)
-pub fn is_word(i: usize, name: &[u8]) -> bool {
-    let mut word = [0u8; 32];
-    let n = os::arg(i, &mut word);
-    if os::errno() != 0 {
-        return false;
+// What is read: standard input, or a file, which is closed where this is dropped.
+#[derive(Drop)]
+pub enum Source {
+    Standard(Stdin),
+    Named(File),
+}
+
+impl Read for Source {
+    fn read(&mut self, buf: &mut [u8]) -> io::Result<usize> {
+        match self {
+            Source::Standard(input) => input.read(buf),
+            Source::Named(file) => file.read(buf),
+        }
     }
-    same(&word[..n], name)
+}
+
+// Word i of the command line, to the front of the buffer; how many bytes it has, or 0 where it is missing or has more than there is room
+// for. (Word 0 is the program's own name.)
+pub fn word_at(rt: &HostRuntime, i: usize, buf: &mut [u8]) -> usize
+    ensures { IsPrefixLen result buf.new }
+{
+    match rt.arg(i, buf) {
+        Ok(n) => n,
+        Err(_) => 0,
+    }
+}
+
+// Whether the command line has a word i.
+pub fn has_word(rt: &HostRuntime, i: usize) -> bool {
+    let mut word = [0u8; 1];
+    match rt.arg(i, &mut word) {
+        Ok(_) => true,
+        Err(FillError::TooLong) => true,
+        Err(FillError::NotPresent) => false,
+    }
+}
+
+// How many words the command line has, the program's own name among them.
+pub fn word_count(rt: &HostRuntime) -> usize {
+    for i in 0..usize::MAX {
+        if !has_word(rt, i) {
+            return i;
+        }
+    }
+    usize::MAX
+}
+
+// Whether word i of the command line is this one, of at most 32 bytes.
+pub fn is_word(rt: &HostRuntime, i: usize, name: &[u8]) -> bool {
+    let mut word = [0u8; 32];
+    match rt.arg(i, &mut word) {
+        Ok(n) => same(&word[..n], name),
+        Err(_) => false,
+    }
 }
 
 // Whether word i begins with a minus sign and is not `-` alone.
-pub fn is_option(i: usize) -> bool {
+pub fn is_option(rt: &HostRuntime, i: usize) -> bool {
     // A word that is longer leaves its first bytes here.
     let mut word = [0u8; 2];
-    let n = os::arg(i, &mut word);
+    let n = word_at(rt, i, &mut word);
     if n == 1 {
         return false;
     }
     word[0] == b'-'
 }
 
-// A text on standard error, as it is.
-pub fn to_error(text: &[u8]) {
-    io::write_all(STDERR_FILENO, text);
+// A text on standard error, as it is. Where that can't be written there is no one to tell.
+pub fn to_error(rt: &HostRuntime, text: &[u8]) {
+    rt.stderr().write_all(text).is_ok();
 }
 
 // A line on standard error.
-pub fn say(program: &[u8], what: &[u8]) {
-    io::write_all(STDERR_FILENO, program);
-    io::write_all(STDERR_FILENO, b": ");
-    io::write_all(STDERR_FILENO, what);
-    io::write_all(STDERR_FILENO, b"\n");
+pub fn say(rt: &HostRuntime, program: &[u8], what: &[u8]) {
+    to_error(rt, program);
+    to_error(rt, b": ");
+    to_error(rt, what);
+    to_error(rt, b"\n");
 }
 
 // The same with word i of the command line in its midst.
-pub fn say_word(program: &[u8], before: &[u8], i: usize, behind: &[u8]) {
-    let mut word = io::buffer();
-    let n = os::arg(i, &mut word);
-    io::write_all(STDERR_FILENO, program);
-    io::write_all(STDERR_FILENO, b": ");
-    io::write_all(STDERR_FILENO, before);
-    io::write_all(STDERR_FILENO, &word[..n]);
-    io::write_all(STDERR_FILENO, behind);
-    io::write_all(STDERR_FILENO, b"\n");
+pub fn say_word(rt: &HostRuntime, program: &[u8], before: &[u8], i: usize, behind: &[u8]) {
+    let mut word = [0u8; 4096];
+    let n = word_at(rt, i, &mut word);
+    to_error(rt, program);
+    to_error(rt, b": ");
+    to_error(rt, before);
+    to_error(rt, &word[..n]);
+    to_error(rt, behind);
+    to_error(rt, b"\n");
 }
 
-// A line about a call that failed just before, with the reason.
-pub fn fail(program: &[u8], what: &[u8]) {
-    io::write_all(STDERR_FILENO, program);
-    io::write_all(STDERR_FILENO, b": ");
-    os::fail(what);
+// The words of an error, without the number that stands behind those of the system.
+fn say_reason(rt: &HostRuntime, error: io::Error) {
+    let mut out = [0u8; 256];
+    let mut rest: &mut [u8] = &mut out;
+    write!(rest, "{error}").is_ok();
+    let left = rest.len();
+    let n = 256usize.saturating_sub(left);
+    let Ok(text) = str::from_utf8(&out[..n]) else {
+        return;
+    };
+    match text.rsplit_once(" (os error ") {
+        Some((words, _)) => to_error(rt, words.as_bytes()),
+        None => to_error(rt, text.as_bytes()),
+    }
+}
+
+// A line about a call that failed, with the reason.
+pub fn fail(rt: &HostRuntime, program: &[u8], what: &[u8], error: io::Error) {
+    to_error(rt, program);
+    to_error(rt, b": ");
+    to_error(rt, what);
+    to_error(rt, b": ");
+    say_reason(rt, error);
+    to_error(rt, b"\n");
 }
 
 // A part of an answer on standard output. Behind a part that could not be written nothing may follow.
-pub fn write(program: &[u8], text: &[u8]) -> bool {
-    if io::write_all(STDOUT_FILENO, text) {
-        return true;
+pub fn write(rt: &HostRuntime, program: &[u8], text: &[u8]) -> bool {
+    match rt.stdout().write_all(text) {
+        Ok(()) => true,
+        Err(e) => {
+            fail(rt, program, b"standard output", e);
+            false
+        }
     }
-    fail(program, b"standard output");
-    false
+}
+
+// Some systems tell only where a file is closed that it could not be written. std passes nothing on from there, so a file is synced
+// before, which tells the same; one that can't be synced tells nothing.
+pub fn settle(file: &File) -> io::Result<()> {
+    match file.sync_all() {
+        Err(e) if matches!(e.kind(), ErrorKind::InvalidInput | ErrorKind::Unsupported) => Ok(()),
+        settled => settled,
+    }
+}
+
+// The file that standard output is, where it is an ordinary one.
+fn output_file(rt: &HostRuntime) -> Option<File> {
+    let name = "/proc/self/fd/1";
+    let about = fs::metadata(rt, name).ok()?;
+    if !about.is_file() {
+        return None;
+    }
+    OpenOptions::new().append(true).open(rt, name).ok()
 }
 
 // The end of an answer: some systems tell only here that it could not be written.
-pub fn finish(program: &[u8]) -> bool {
-    if libc::close(STDOUT_FILENO) == 0 {
+pub fn finish(rt: &HostRuntime, program: &[u8]) -> bool {
+    let Some(file) = output_file(rt) else {
         return true;
+    };
+    match settle(&file) {
+        Ok(()) => true,
+        Err(e) => {
+            fail(rt, program, b"standard output", e);
+            false
+        }
     }
-    fail(program, b"standard output");
-    false
 }
 
 // A whole answer.
-pub fn answer(program: &[u8], text: &[u8]) -> bool {
-    if !write(program, text) {
+pub fn answer(rt: &HostRuntime, program: &[u8], text: &[u8]) -> bool {
+    if !write(rt, program, text) {
         return false;
     }
-    finish(program)
+    finish(rt, program)
 }
 
 // Answers `-h`, `--help` and `--version` as word i, and tells whether that was asked.
-pub fn tells_at(program: &[u8], i: usize, help: &[u8]) -> bool {
-    if is_word(i, b"-h") || is_word(i, b"--help") {
-        answer(program, help);
+pub fn tells_at(rt: &HostRuntime, program: &[u8], i: usize, help: &[u8]) -> bool {
+    if is_word(rt, i, b"-h") || is_word(rt, i, b"--help") {
+        answer(rt, program, help);
         return true;
     }
-    if is_word(i, b"--version") {
-        answer(program, b"bodhranhaze 1.0.0\n");
+    if is_word(rt, i, b"--version") {
+        answer(rt, program, b"bodhranhaze 1.0.0\n");
         return true;
     }
     false
 }
 
 // The same as the first word.
-pub fn tells(program: &[u8], help: &[u8]) -> bool {
-    tells_at(program, 1, help)
+pub fn tells(rt: &HostRuntime, program: &[u8], help: &[u8]) -> bool {
+    tells_at(rt, program, 1, help)
 }
 
 // Whether word i names standard input: it is `-`, or there is none.
-pub fn is_standard(i: usize) -> bool {
-    if i >= os::arg_count() {
+pub fn is_standard(rt: &HostRuntime, i: usize) -> bool {
+    if !has_word(rt, i) {
         return true;
     }
-    is_word(i, b"-")
+    is_word(rt, i, b"-")
 }
 
 // The name of the input that word i names, a part of a line on standard error.
-pub fn say_name(i: usize) {
-    if is_standard(i) {
-        io::write_all(STDERR_FILENO, b"standard input");
+pub fn say_name(rt: &HostRuntime, i: usize) {
+    if is_standard(rt, i) {
+        to_error(rt, b"standard input");
         return;
     }
-    let mut name = io::buffer();
-    let n = os::arg(i, &mut name);
-    io::write_all(STDERR_FILENO, &name[..n]);
+    let mut name = [0u8; 4096];
+    let n = word_at(rt, i, &mut name);
+    to_error(rt, &name[..n]);
 }
 
-// Opens the input that word i names; below 0 where that fails, which is then said.
-pub fn open_at(program: &[u8], i: usize) -> i32 {
-    if is_standard(i) {
-        return STDIN_FILENO;
+// A file's name, as std takes it: UTF-8 text, and no other.
+pub fn path(name: &[u8]) -> io::Result<&str> {
+    if name.contains(&0) {
+        return Err(io::Error::new(ErrorKind::InvalidInput, "Invalid argument"));
     }
-    let mut name = io::buffer();
-    let n = os::arg(i, &mut name);
-    if os::errno() != 0 {
-        fail(program, b"the name of a file");
-        return -1;
+    match str::from_utf8(name) {
+        Ok(path) => Ok(path),
+        Err(_) => Err(io::Error::new(ErrorKind::InvalidFilename, "the name is not UTF-8")),
     }
-    let file = os::open_read(&name[..n]);
-    if file < 0 {
-        fail(program, &name[..n]);
+}
+
+// Opens a file for reading.
+pub fn open(rt: &HostRuntime, name: &[u8]) -> io::Result<File> {
+    File::open(rt, path(name)?)
+}
+
+// The name that word i is has more bytes than there is room for.
+pub fn fail_long(rt: &HostRuntime, program: &[u8], what: &[u8]) {
+    let error = io::Error::new(ErrorKind::InvalidFilename, "File name too long");
+    fail(rt, program, what, error);
+}
+
+// Opens the input that word i names; none where that fails, which is then said.
+pub fn open_at(rt: &HostRuntime, program: &[u8], i: usize) -> Option<Source> {
+    if is_standard(rt, i) {
+        return Some(Source::Standard(rt.stdin()));
     }
-    file
+    let mut name = [0u8; 4096];
+    let Ok(n) = rt.arg(i, &mut name) else {
+        fail_long(rt, program, b"the name of a file");
+        return None;
+    };
+    match open(rt, &name[..n]) {
+        Ok(file) => Some(Source::Named(file)),
+        Err(e) => {
+            fail(rt, program, &name[..n], e);
+            None
+        }
+    }
 }
 
 // One read to the front of the buffer; no bytes where the input has ended.
-fn read_some(file: i32, buf: &mut [u8]) -> Input
+fn read_some(file: &mut impl Read, buf: &mut [u8]) -> Input
     ensures { IsPrefixLen result.count buf.new }
 {
-    let got = libc::read(file, buf);
-    Input {
-        whole: got >= 0,
-        count: io::count(got, buf),
+    match file.read(buf) {
+        Ok(count) => Input {
+            whole: true,
+            count,
+            error: None,
+        },
+        Err(e) => Input {
+            whole: false,
+            count: 0,
+            error: Some(e),
+        },
     }
 }
 
 // Reads until the buffer is full, the input ends or a read fails.
-pub fn read(file: i32, buf: &mut [u8]) -> Input
+pub fn read(file: &mut impl Read, buf: &mut [u8]) -> Input
     ensures { IsPrefixLen result.count buf.new }
 {
     let mut at = 0;
     let mut whole = true;
+    let mut error = None;
     while at < buf.len() {
         let r = read_some(file, &mut buf[at..]);
         whole = r.whole;
+        error = r.error;
         let n = r.count;
         if n == 0 {
             break;
         }
         at += n;
     }
-    Input { whole, count: at }
+    Input {
+        whole,
+        count: at,
+        error,
+    }
 }
 
 // Says why an input failed that is standard input or has this name.
-fn fail_input(program: &[u8], standard: bool, name: &[u8]) {
+fn fail_input(rt: &HostRuntime, program: &[u8], standard: bool, name: &[u8], error: io::Error) {
     if standard {
-        fail(program, b"standard input");
+        fail(rt, program, b"standard input", error);
         return;
     }
-    fail(program, name);
+    fail(rt, program, name, error);
 }
 
 // The input that word i names, read until the buffer is full or the input ends. Where that fails it is said, and the input is not whole.
-pub fn read_at(program: &[u8], i: usize, buf: &mut [u8]) -> Input
+pub fn read_at(rt: &HostRuntime, program: &[u8], i: usize, buf: &mut [u8]) -> Input
     ensures { IsPrefixLen result.count buf.new }
 {
-    let standard = is_standard(i);
-    let mut name = io::buffer();
-    let n = os::arg(i, &mut name);
-    let file = open_at(program, i);
-    if file < 0 {
+    let standard = is_standard(rt, i);
+    let mut name = [0u8; 4096];
+    let n = word_at(rt, i, &mut name);
+    let Some(mut file) = open_at(rt, program, i) else {
         return Input {
             whole: false,
             count: 0,
+            error: None,
         };
+    };
+    let r = read(&mut file, buf);
+    if let Some(e) = r.error {
+        fail_input(rt, program, standard, &name[..n], e);
     }
-    let r = read(file, buf);
-    let whole = r.whole;
-    if !whole {
-        fail_input(program, standard, &name[..n]);
-    }
-    libc::close(file);
     r
 }
