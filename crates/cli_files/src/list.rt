@@ -1,8 +1,11 @@
 // The names of a list, a line each. A last line without its newline counts; an empty line is refused.
-ghost use Rattle.io.specs.Counts.{IsPrefixLen};
+ghost use Rattle.cli.specs.Counts.{IsPrefixLen};
 
 use crate::Walk;
+use cli::Source;
 use print::{next_number, next_word, word};
+use std::io;
+use std::io::Read;
 
 // The next name: how many bytes of it stand in the lent buffer.
 #[derive(Drop)]
@@ -12,15 +15,15 @@ pub struct Next {
     pub count: usize,
 }
 
-// The bytes of a piece of the list that are not read yet, and whether there are no more since the list can't be read.
-#[derive(Drop)]
+// The bytes of a piece of the list that are not read yet, and why there are no more where the list can't be read.
+#[derive(Clone, Copy)]
 struct Left {
     at: usize,
     end: usize,
-    failed: bool,
+    error: Option<io::Error>,
 }
 
-#[derive(Drop)]
+#[derive(Clone, Copy)]
 struct Byte {
     left: Left,
     some: bool,
@@ -28,20 +31,31 @@ struct Byte {
 }
 
 // A line of so many bytes, with its newline, or the list has ended behind it.
-#[derive(Drop)]
+#[derive(Clone, Copy)]
 struct Line {
     left: Left,
     count: usize,
     newline: bool,
 }
 
-// The list's next piece; no bytes where the list has ended or can't be read.
-fn refill(list: i32, piece: &mut [u8]) -> Left {
-    let got = libc::read(list, piece);
+// The bytes from `at` to `end`.
+fn unread(at: usize, end: usize) -> Left {
     Left {
-        at: 0,
-        end: io::count(got, piece),
-        failed: got < 0,
+        at,
+        end,
+        error: None,
+    }
+}
+
+// The list's next piece; no bytes where the list has ended or can't be read.
+fn refill(list: &mut Source, piece: &mut [u8]) -> Left {
+    match list.read(piece) {
+        Ok(end) => unread(0, end),
+        Err(e) => Left {
+            at: 0,
+            end: 0,
+            error: Some(e),
+        },
     }
 }
 
@@ -65,7 +79,7 @@ fn taken(left: Left, piece: &[u8]) -> Byte {
     }
 }
 
-fn next_byte(list: i32, left: Left, piece: &mut [u8]) -> Byte {
+fn next_byte(list: &mut Source, left: Left, piece: &mut [u8]) -> Byte {
     let b = taken(left, piece);
     if b.some {
         return b;
@@ -90,7 +104,7 @@ fn is_end(b: Byte) -> bool {
 }
 
 // As much of the line as there is room for.
-fn read_line(list: i32, first: Left, piece: &mut [u8], name: &mut [u8]) -> Line
+fn read_line(list: &mut Source, first: Left, piece: &mut [u8], name: &mut [u8]) -> Line
     ensures { IsPrefixLen result.count name.new }
 {
     let mut left = first;
@@ -115,57 +129,61 @@ fn read_line(list: i32, first: Left, piece: &mut [u8], name: &mut [u8]) -> Line
 }
 
 // The line behind those that were names.
-fn refused(program: &[u8], w: Walk, why: &[u8]) -> Walk {
-    let next = crate::counted(w);
+fn refused(rt: &HostRuntime, program: &[u8], w: Walk, why: &[u8]) -> Walk {
     let mut out = [0u8; 128];
     let p = word(&mut out, 0, b"line");
-    let q = next_number(&mut out, p, next.named);
+    let q = next_number(&mut out, p, crate::one_more(w.named));
     let e = next_word(&mut out, q, why);
-    cli::say(program, &out[0..e]);
+    cli::say(rt, program, &out[0..e]);
     let mut v = w;
     v.failed = true;
     v
 }
 
-// A line of n bytes was read.
-fn line_read(program: &[u8], w: Walk, n: usize, newline: bool, full: bool) -> Walk {
-    if w.failed {
-        cli::fail(program, b"the list of names");
+// The line was read.
+fn line_read(rt: &HostRuntime, program: &[u8], w: Walk, line: Line, full: bool) -> Walk {
+    if let Some(e) = line.left.error {
+        cli::fail(rt, program, b"the list of names", e);
         return w;
     }
     if full {
-        return refused(program, w, b"of the list is longer than a name can be");
+        return refused(rt, program, w, b"of the list is longer than a name can be");
     }
-    if n > 0 {
+    if line.count > 0 {
         return crate::counted(w);
     }
-    if newline {
-        return refused(program, w, b"of the list is empty");
+    if line.newline {
+        return refused(rt, program, w, b"of the list is empty");
     }
     let mut v = w;
-    if w.named == 0 {
-        cli::say(program, b"the list names no file");
+    if v.named == 0 {
+        cli::say(rt, program, b"the list names no file");
         v.failed = true;
     }
     v
 }
 
-pub fn next_line(program: &[u8], w: Walk, piece: &mut [u8], name: &mut [u8]) -> Next
+// The walk's next name, of its list, which is not in it.
+pub fn next_line(
+    rt: &HostRuntime,
+    program: &[u8],
+    w: Walk,
+    list: Source,
+    piece: &mut [u8],
+    name: &mut [u8],
+) -> Next
     ensures { IsPrefixLen result.count name.new }
 {
-    let first = Left {
-        at: w.at,
-        end: w.end,
-        failed: false,
-    };
-    let line = read_line(w.list, first, piece, name);
+    let mut source = list;
+    let line = read_line(&mut source, unread(w.at, w.end), piece, name);
     let left = line.left;
     let n = line.count;
     let mut v = w;
+    v.list = Some(source);
     v.at = left.at;
     v.end = left.end;
-    v.failed = left.failed;
-    let read = line_read(program, v, n, line.newline, n >= name.len());
+    v.failed = left.error.is_some();
+    let read = line_read(rt, program, v, line, n >= name.len());
     let found = if read.failed { false } else { n > 0 };
     Next {
         walk: read,

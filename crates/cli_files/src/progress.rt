@@ -3,41 +3,47 @@ ghost use Rattle.std.specs.Prelude.{◌≤◌};
 
 use crate::Walk;
 use print::{next_number, next_word};
+use std::fs::OpenOptions;
+use std::io::Write;
+use std::time::SystemTime;
 
 // The largest time that is told apart.
-const LAST: usize = 4611686018427387904;
+const LAST: u64 = 4611686018427387904;
 
-fn seconds() -> usize
+fn seconds(rt: &HostRuntime) -> usize
     ensures { result ≤ 4611686018427387904 }
 {
-    let mut t = 0;
-    let z = libc::time(&mut t);
-    if z < 0 {
+    let Ok(now) = SystemTime::now(rt) else {
         return 0;
-    }
-    let n = print::size(z);
+    };
+    let Ok(since) = now.duration_since(SystemTime::UNIX_EPOCH) else {
+        return 0;
+    };
+    let n = since.as_secs();
     if n > LAST {
-        return LAST;
+        return LAST as usize;
     }
-    n
+    n as usize
 }
 
 // A walk that is shown.
-pub fn started(w: Walk) -> Walk {
+pub fn started(rt: &HostRuntime, w: Walk) -> Walk {
     let mut v = w;
     v.shown = true;
-    v.due = seconds() + 2;
+    v.due = seconds(rt) + 2;
     v
 }
 
-fn show(w: Walk) {
+fn show(w: &mut Walk) {
     // Two numbers of no more than 20 digits, and 11 bytes more.
     let mut out = [0u8; 64];
     let p = print::number(&mut out, 0, w.named);
     let q = rest(&mut out, p, w.all);
     let r = next_word(&mut out, q, b"files");
     let e = print::byte(&mut out, r, b'\r');
-    io::write_all(w.terminal, &out[0..e]);
+    if let Some(terminal) = &mut w.terminal {
+        terminal.write_all(&out[0..e]).is_ok();
+    }
 }
 
 fn rest(out: &mut [u8], at: usize, all: usize) -> usize {
@@ -48,39 +54,37 @@ fn rest(out: &mut [u8], at: usize, all: usize) -> usize {
     next_number(out, p, all)
 }
 
-fn opened(w: Walk) -> Walk {
+fn opened(rt: &HostRuntime, w: Walk) -> Walk {
     let mut v = w;
-    if w.terminal < 0 {
-        v.terminal = os::open_append(b"/dev/tty");
-        v.shown = v.terminal >= 0;
+    if v.terminal.is_none() {
+        v.terminal = OpenOptions::new().append(true).open(rt, "/dev/tty").ok();
+        v.shown = v.terminal.is_some();
     }
     v
 }
 
 // Where it is time.
-pub fn told(w: Walk) -> Walk {
+pub fn told(rt: &HostRuntime, w: Walk) -> Walk {
     if !w.shown {
         return w;
     }
-    let now = seconds();
+    let now = seconds(rt);
     if now < w.due {
         return w;
     }
-    let mut v = opened(w);
+    let mut v = opened(rt, w);
     v.due = now + 1;
     if v.shown {
-        show(v);
+        show(&mut v);
     }
     v
 }
 
-// The line is wiped out.
-pub fn ended(w: Walk) {
-    if w.terminal >= 0 {
-        io::write_all(
-            w.terminal,
-            b"                                                      \r",
-        );
-        libc::close(w.terminal);
+// The line is wiped out, and the terminal closed.
+pub fn ended(w: &mut Walk) {
+    if let Some(mut terminal) = w.terminal.take() {
+        terminal
+            .write_all(b"                                                      \r")
+            .is_ok();
     }
 }
