@@ -1,9 +1,13 @@
 // The words of a command line, read as signed whole numbers.
+#![tactic(auto)]
+
 ghost use Rattle.std.specs.Prelude.{◌≡◌, ◌≤◌};
 ghost use Rattle.off_items.specs.Numbers.{made, at_most};
 ghost use Rattle.cli_words.specs.Word.{most, number_of};
 
 use off_items::numbers::{is_whole, signed_number};
+use std::env::FillError;
+use std::rt::Env;
 
 // A word's number. One that is larger in size than MOST is told as MOST, which is outside every limit.
 #[derive(Drop)]
@@ -45,25 +49,20 @@ pub fn number(w: &[u8]) -> Word
 }
 
 // A word for which 32 bytes are too few, up to the longest that the system passes on.
-fn long_number_at(i: usize) -> Word {
+fn long_number_at(rt: &HostRuntime, i: usize) -> Word {
     let mut w = [0u8; 131072];
-    let n = os::arg(i, &mut w);
-    if os::errno() != 0 {
-        return Word::None;
+    match rt.arg(i, &mut w) {
+        Ok(n) => number(&w[..n]),
+        Err(_) => Word::None,
     }
-    number(&w[..n])
 }
 
 // Word i of the command line, where 0 is the program's own. Few words are long, and clearing room for the longest takes time.
-pub fn number_at(i: usize) -> Word {
+pub fn number_at(rt: &HostRuntime, i: usize) -> Word {
     let mut w = [0u8; 32];
-    let n = os::arg(i, &mut w);
-    let error = os::errno();
-    if error == libc::ENAMETOOLONG {
-        return long_number_at(i);
+    match rt.arg(i, &mut w) {
+        Ok(n) => number(&w[..n]),
+        Err(FillError::TooLong) => long_number_at(rt, i),
+        Err(FillError::NotPresent) => Word::None,
     }
-    if error != 0 {
-        return Word::None;
-    }
-    number(&w[..n])
 }
