@@ -1,4 +1,6 @@
 // ask [--formula] QUESTION [NUMBER...] [FILE] answers one question about a scene.
+#![tactic(auto)]
+
 ghost use Rattle.std.specs.Prelude.{◌≤◌, ◌<◌, length};
 
 use crate::words::{Asked, asked_at, count_at};
@@ -44,87 +46,87 @@ fn answer(engine: Engine, q: Asked, s: &[u8], out: &mut [u8]) -> usize
 }
 
 // Whether they were written.
-fn write_rows(engine: Engine, s: &[u8]) -> bool {
+fn write_rows(rt: &HostRuntime, engine: Engine, s: &[u8]) -> bool {
     let mut list = [0u16; PLACES];
     let mut out = [0u8; TEXT];
     let r = reports::part(engine, s, 0, &mut list, &mut out);
     let end = r.end;
-    cli::write(b"ask", &out[..end])
+    cli::write(rt, b"ask", &out[..end])
 }
 
 // Why there is no other answer. `why` has said it.
-fn explain(q: Asked, s: &[u8], answer: &[u8]) {
+fn explain(rt: &HostRuntime, q: Asked, s: &[u8], answer: &[u8]) {
     if let Asked::Why = q {
         return;
     }
     let j = judge::judge(s);
     match j {
-        Judged::Refused(r) => said::scene(s, r),
-        Judged::Accepted => said::rule(answer),
+        Judged::Refused(r) => said::scene(rt, s, r),
+        Judged::Accepted => said::rule(rt, answer),
     }
 }
 
 // A write that fails is the last.
-fn write_answer(engine: Engine, q: Asked, s: &[u8]) {
+fn write_answer(rt: &HostRuntime, engine: Engine, q: Asked, s: &[u8]) {
     let mut out = [0u8; TEXT];
     let end = answer(engine, q, s, &mut out);
-    if !cli::write(b"ask", &out[..end]) {
+    if !cli::write(rt, b"ask", &out[..end]) {
         return;
     }
     if let Asked::Listing = q {
-        if !write_rows(engine, s) {
+        if !write_rows(rt, engine, s) {
             return;
         }
     }
-    if cli::finish(b"ask") {
-        explain(q, s, &out[..end]);
+    if cli::finish(rt, b"ask") {
+        explain(rt, q, s, &out[..end]);
     }
 }
 
-fn reply(engine: Engine, q: Asked, file: usize) {
+fn reply(rt: &HostRuntime, engine: Engine, q: Asked, file: usize) {
     // One byte more than the longest scene tells that the input is too long.
     let mut s = [0u8; Scene::LONGEST + 1];
-    let r = cli::read_at(b"ask", file, &mut s);
+    let r = cli::read_at(rt, b"ask", file, &mut s);
     let n = r.count;
     if r.whole {
-        write_answer(engine, q, &s[..n]);
+        write_answer(rt, engine, q, &s[..n]);
     }
 }
 
 // The word at `file` names it, where it is the last.
-fn reply_of(engine: Engine, q: Asked, file: usize)
+fn reply_of(rt: &HostRuntime, engine: Engine, q: Asked, file: usize)
     requires { file < 20 }
 {
-    if is_option(file) {
-        said::no_option(file);
+    if is_option(rt, file) {
+        said::no_option(rt, file);
         return;
     }
-    if os::arg_count() > file + 1 {
-        said::too_many(file + 1);
+    if cli::has_word(rt, file + 1) {
+        said::too_many(rt, file + 1);
         return;
     }
-    reply(engine, q, file);
+    reply(rt, engine, q, file);
 }
 
 // The name of the question is word i.
-fn ask(engine: Engine, i: usize)
+fn ask(rt: &HostRuntime, engine: Engine, i: usize)
     requires { i < 9 }
 {
-    let q = asked_at(i);
+    let q = asked_at(rt, i);
     match q {
-        Asked::Unknown => said::no_question(i),
-        Asked::NoNumber(k) => said::no_number(i, k),
-        _ => reply_of(engine, q, i + count_at(i)),
+        Asked::Unknown => said::no_question(rt, i),
+        Asked::NoNumber(k) => said::no_number(rt, i, k),
+        _ => reply_of(rt, engine, q, i + count_at(rt, i)),
     }
 }
 
-fn main() {
-    if said::help() {
+fn main(rt: HostRuntime) {
+    if said::help(&rt) {
         return;
     }
-    if cli::is_word(1, b"--formula") {
-        ask(Engine::Formula, 2);
+    if cli::is_word(&rt, 1, b"--formula") {
+        ask(&rt, Engine::Formula, 2);
     } else {
-        ask(Engine::Plain, 1);
+        ask(&rt, Engine::Plain, 1);
     }
 }

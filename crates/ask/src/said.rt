@@ -6,8 +6,9 @@ use print::{newline, word};
 use scene::Refusal;
 
 // Whether the first word asked for help or for the version.
-pub fn help() -> bool {
+pub fn help(rt: &HostRuntime) -> bool {
     cli::tells(
+        rt,
         b"ask",
         b"ask [--formula] QUESTION [NUMBER...] [FILE]
 
@@ -35,53 +36,61 @@ is answered `refused N P`; standard error then says why.
     )
 }
 
-pub fn usage() {
+pub fn usage(rt: &HostRuntime) {
     cli::say(
+        rt,
         b"ask",
         b"usage: ask [--formula] QUESTION [NUMBER...] [FILE]",
     );
     cli::say(
+        rt,
         b"ask",
         b"questions: judge, why, verdict, counts, listing [PLACES], enclosed V, pierces U V F, mask U V S, sign A B C D, record K, clean",
     );
 }
 
 // Word i is no question.
-pub fn no_question(i: usize) {
-    if i < os::arg_count() {
-        cli::say_word(b"ask", b"there is no question ", i, b"");
+pub fn no_question(rt: &HostRuntime, i: usize) {
+    if cli::has_word(rt, i) {
+        cli::say_word(rt, b"ask", b"there is no question ", i, b"");
     }
-    usage();
+    usage(rt);
 }
 
 // Word k is no number of the question that word i names.
-pub fn no_number(i: usize, k: usize) {
-    if k < os::arg_count() {
-        cli::say_word(b"ask", b"", k, b" is no number");
+pub fn no_number(rt: &HostRuntime, i: usize, k: usize) {
+    if cli::has_word(rt, k) {
+        cli::say_word(rt, b"ask", b"", k, b" is no number");
     } else {
-        cli::say_word(b"ask", b"", i, b" asks for more numbers");
+        cli::say_word(rt, b"ask", b"", i, b" asks for more numbers");
     }
-    usage();
+    usage(rt);
 }
 
-pub fn no_option(i: usize) {
-    cli::say_word(b"ask", b"there is no option ", i, b" behind the question");
-    usage();
+pub fn no_option(rt: &HostRuntime, i: usize) {
+    cli::say_word(
+        rt,
+        b"ask",
+        b"there is no option ",
+        i,
+        b" behind the question",
+    );
+    usage(rt);
 }
 
 // Word i stands behind the file.
-pub fn too_many(i: usize) {
-    cli::say_word(b"ask", b"nothing may stand behind the file: ", i, b"");
-    usage();
+pub fn too_many(rt: &HostRuntime, i: usize) {
+    cli::say_word(rt, b"ask", b"nothing may stand behind the file: ", i, b"");
+    usage(rt);
 }
 
 // The refusal of a scene.
-pub fn scene(s: &[u8], r: Refusal) {
+pub fn scene(rt: &HostRuntime, s: &[u8], r: Refusal) {
     let mut out = [0u8; 512];
     let p = word(&mut out, 0, b"why: ");
     let q = print_why::sentence(s, r, &mut out, p);
     let n = newline(&mut out, q);
-    to_error(&out[0..n]);
+    to_error(rt, &out[0..n]);
 }
 
 // The number of the refusal that is answered of an accepted scene: 10, 11 or 12.
@@ -96,10 +105,10 @@ fn refusal_in(answer: &[u8]) -> Number {
 }
 
 // The refusal, if it is one.
-pub fn rule(answer: &[u8]) {
+pub fn rule(rt: &HostRuntime, answer: &[u8]) {
     if let Number::Is(n) = refusal_in(answer) {
         let mut out = [0u8; 256];
         let end = print_refusals::line(&mut out, 0, n);
-        to_error(&out[0..end]);
+        to_error(rt, &out[0..end]);
     }
 }

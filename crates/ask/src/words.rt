@@ -2,8 +2,10 @@
 ghost use Rattle.std.specs.Prelude.{◌<◌};
 
 use check::same;
+use cli::word_at;
+use std::rt::Env;
 
-#[derive(Drop)]
+#[derive(Clone, Copy)]
 pub enum Asked {
     Unknown,
     // This word is no number, or there is none.
@@ -22,7 +24,7 @@ pub enum Asked {
     Clean,
 }
 
-#[derive(Drop)]
+#[derive(Clone, Copy)]
 pub enum Number {
     Is(usize),
     None,
@@ -63,13 +65,12 @@ pub fn number_in(word: &[u8]) -> Number {
     Number::Is(n)
 }
 
-fn number_at(i: usize) -> Number {
+fn number_at(rt: &HostRuntime, i: usize) -> Number {
     let mut word = [0u8; WORD];
-    let n = os::arg(i, &mut word);
-    if os::errno() != 0 {
-        return Number::None;
+    match rt.arg(i, &mut word) {
+        Ok(n) => number_in(&word[..n]),
+        Err(_) => Number::None,
     }
-    number_in(&word[..n])
 }
 
 fn without_number(word: &[u8]) -> Asked {
@@ -95,8 +96,8 @@ fn without_number(word: &[u8]) -> Asked {
 }
 
 // The number is word i.
-fn with_one(word: &[u8], i: usize) -> Asked {
-    let Number::Is(n) = number_at(i) else {
+fn with_one(rt: &HostRuntime, word: &[u8], i: usize) -> Asked {
+    let Number::Is(n) = number_at(rt, i) else {
         return Asked::NoNumber(i);
     };
     if same(word, b"enclosed") {
@@ -109,16 +110,16 @@ fn with_one(word: &[u8], i: usize) -> Asked {
 }
 
 // The numbers are word i and those behind it.
-fn with_three(word: &[u8], i: usize) -> Asked
+fn with_three(rt: &HostRuntime, word: &[u8], i: usize) -> Asked
     requires { i < 10 }
 {
-    let Number::Is(u) = number_at(i) else {
+    let Number::Is(u) = number_at(rt, i) else {
         return Asked::NoNumber(i);
     };
-    let Number::Is(v) = number_at(i + 1) else {
+    let Number::Is(v) = number_at(rt, i + 1) else {
         return Asked::NoNumber(i + 1);
     };
-    let Number::Is(k) = number_at(i + 2) else {
+    let Number::Is(k) = number_at(rt, i + 2) else {
         return Asked::NoNumber(i + 2);
     };
     if same(word, b"mask") {
@@ -127,26 +128,26 @@ fn with_three(word: &[u8], i: usize) -> Asked
     Asked::Pierces(u, v, k)
 }
 
-fn with_four(i: usize) -> Asked
+fn with_four(rt: &HostRuntime, i: usize) -> Asked
     requires { i < 10 }
 {
-    let Number::Is(a) = number_at(i) else {
+    let Number::Is(a) = number_at(rt, i) else {
         return Asked::NoNumber(i);
     };
-    let Number::Is(b) = number_at(i + 1) else {
+    let Number::Is(b) = number_at(rt, i + 1) else {
         return Asked::NoNumber(i + 1);
     };
-    let Number::Is(c) = number_at(i + 2) else {
+    let Number::Is(c) = number_at(rt, i + 2) else {
         return Asked::NoNumber(i + 2);
     };
-    let Number::Is(d) = number_at(i + 3) else {
+    let Number::Is(d) = number_at(rt, i + 3) else {
         return Asked::NoNumber(i + 3);
     };
     Asked::Sign(a, b, c, d)
 }
 
 // How many numbers a question has. That of `listing` may be left out: a word behind it that is no number is the file.
-fn numbers(word: &[u8], i: usize) -> usize
+fn numbers(rt: &HostRuntime, word: &[u8], i: usize) -> usize
     ensures { result < 5 }
 {
     if same(word, b"enclosed") || same(word, b"record") {
@@ -159,7 +160,7 @@ fn numbers(word: &[u8], i: usize) -> usize
         return 4;
     }
     if same(word, b"listing") {
-        if let Number::Is(_) = number_at(i) {
+        if let Number::Is(_) = number_at(rt, i) {
             return 1;
         }
     }
@@ -167,27 +168,27 @@ fn numbers(word: &[u8], i: usize) -> usize
 }
 
 // How many words the question whose name is word i has, with its name.
-pub fn count_at(i: usize) -> usize
+pub fn count_at(rt: &HostRuntime, i: usize) -> usize
     requires { i < 9 }
     ensures { result < 6 }
 {
     // A word that is longer than any name is read as none.
     let mut word = [0u8; 16];
-    let n = os::arg(i, &mut word);
-    numbers(&word[..n], i + 1) + 1
+    let n = word_at(rt, i, &mut word);
+    numbers(rt, &word[..n], i + 1) + 1
 }
 
 // The question whose name is word i.
-pub fn asked_at(i: usize) -> Asked
+pub fn asked_at(rt: &HostRuntime, i: usize) -> Asked
     requires { i < 9 }
 {
     let mut word = [0u8; 16];
-    let n = os::arg(i, &mut word);
-    let count = count_at(i);
+    let n = word_at(rt, i, &mut word);
+    let count = count_at(rt, i);
     match count {
         1 => without_number(&word[..n]),
-        2 => with_one(&word[..n], i + 1),
-        4 => with_three(&word[..n], i + 1),
-        _ => with_four(i + 1),
+        2 => with_one(rt, &word[..n], i + 1),
+        4 => with_three(rt, &word[..n], i + 1),
+        _ => with_four(rt, i + 1),
     }
 }

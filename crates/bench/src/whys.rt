@@ -6,8 +6,9 @@ use print::newline;
 use scene::Refusal;
 
 // Whether the first word asked for help or for the version.
-pub fn help() -> bool {
+pub fn help(rt: &HostRuntime) -> bool {
     cli::tells(
+        rt,
         b"bench",
         b"bench FIRST SECOND [one P X Y Z W | two P X Y Z W | lecturer N X Y Z W]...
 
@@ -29,44 +30,44 @@ is refused is said on standard error. A refused move changes nothing.
 }
 
 // The rule that was broken.
-fn rule(number: usize) {
+fn rule(rt: &HostRuntime, number: usize) {
     let mut out = [0u8; 256];
     let n = print_refusals::line(&mut out, 0, number);
-    to_error(&out[0..n]);
+    to_error(rt, &out[0..n]);
 }
 
-pub fn moved(a: Answer) {
+pub fn moved(rt: &HostRuntime, a: Answer) {
     if let Answer::Refused(f) = a {
-        rule(bench_moves::number(f));
+        rule(rt, bench_moves::number(f));
     }
 }
 
 // The scene s, of word i, is refused.
-fn scene_refused(i: usize, s: &[u8], r: Refusal) {
-    to_error(b"why: ");
-    cli::say_name(i);
+fn scene_refused(rt: &HostRuntime, i: usize, s: &[u8], r: Refusal) {
+    to_error(rt, b"why: ");
+    cli::say_name(rt, i);
     let mut out = [0u8; 512];
     let p = print::word(&mut out, 0, b": ");
     let q = print_why::sentence(s, r, &mut out, p);
     let n = newline(&mut out, q);
-    to_error(&out[0..n]);
+    to_error(rt, &out[0..n]);
 }
 
 // The first scene's own refusal, then the second's, then that they differ.
-fn refused(s: &[u8], t: &[u8]) {
+fn refused(rt: &HostRuntime, s: &[u8], t: &[u8]) {
     if let Judged::Refused(r) = judge::judge(s) {
-        scene_refused(1, s, r);
+        scene_refused(rt, 1, s, r);
         return;
     }
     if let Judged::Refused(r) = judge::judge(t) {
-        scene_refused(2, t, r);
+        scene_refused(rt, 2, t, r);
         return;
     }
-    rule(22);
+    rule(rt, 22);
 }
 
-pub fn opening(a: Answer, s: &[u8], t: &[u8]) {
+pub fn opening(rt: &HostRuntime, a: Answer, s: &[u8], t: &[u8]) {
     if let Answer::Refused(_) = a {
-        refused(s, t);
+        refused(rt, s, t);
     }
 }

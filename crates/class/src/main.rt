@@ -1,5 +1,7 @@
 // Prints the class report of files: each is one scene, judged whole, so that `scenes` is the number of files. Where a file can't be read
 // there is no report: an answer that misses files must not look like one.
+#![tactic(auto)]
+
 use class_print::ROOM;
 use class_tally::files::Files;
 use class_tally::{Report, files};
@@ -16,11 +18,18 @@ struct Marking {
 }
 
 // The next file, where there is one.
-fn marked(program: &[u8], m: Marking, piece: &mut [u8], name: &mut [u8], s: &mut [u8]) -> Marking {
+fn marked(
+    rt: &HostRuntime,
+    program: &[u8],
+    m: Marking,
+    piece: &mut [u8],
+    name: &mut [u8],
+    s: &mut [u8],
+) -> Marking {
     let w = m.walk;
     let f = m.files;
     let unread = m.unread;
-    let r = cli_files::step(program, w, piece, name, s);
+    let r = cli_files::step(rt, program, w, piece, name, s);
     let v = r.walk;
     let n = r.count;
     if r.whole {
@@ -42,6 +51,7 @@ fn marked(program: &[u8], m: Marking, piece: &mut [u8], name: &mut [u8], s: &mut
 }
 
 fn all_marked(
+    rt: &HostRuntime,
     program: &[u8],
     first: Marking,
     piece: &mut [u8],
@@ -51,7 +61,7 @@ fn all_marked(
     let mut m = first;
     let mut left = MOST_FILES;
     while left > 0 {
-        m = marked(program, m, piece, name, s);
+        m = marked(rt, program, m, piece, name, s);
         if m.over {
             break;
         }
@@ -60,18 +70,19 @@ fn all_marked(
     m
 }
 
-fn report(program: &[u8], f: Files) {
+fn report(rt: &HostRuntime, program: &[u8], f: Files) {
     let mut out = [0u8; ROOM];
     let p = class_print::sheet(&mut out, 0, Report::Tallied(files::tally(f)));
-    cli::answer(program, &out[0..p]);
+    cli::answer(rt, program, &out[0..p]);
 }
 
-fn finish(program: &[u8], m: Marking) {
-    let w = m.walk;
+fn finish(rt: &HostRuntime, program: &[u8], m: Marking) {
+    let mut w = m.walk;
     let f = m.files;
-    progress::ended(w);
+    progress::ended(&mut w);
     if m.unread > 0 {
         cli_files::say_some(
+            rt,
             program,
             m.unread,
             w.named,
@@ -80,13 +91,13 @@ fn finish(program: &[u8], m: Marking) {
         return;
     }
     if !w.failed {
-        report(program, f);
+        report(rt, program, f);
     }
 }
 
-fn run(program: &[u8], walk: Walk) {
-    let mut piece = io::buffer();
-    let mut name = io::buffer();
+fn run(rt: &HostRuntime, program: &[u8], walk: Walk) {
+    let mut piece = [0u8; 4096];
+    let mut name = [0u8; 4096];
     // One byte more than the longest scene tells that a file is too long.
     let mut s = [0u8; Scene::LONGEST + 1];
     let none = files::none();
@@ -96,12 +107,13 @@ fn run(program: &[u8], walk: Walk) {
         unread: 0,
         over: false,
     };
-    let m = all_marked(program, first, &mut piece, &mut name, &mut s);
-    finish(program, m);
+    let m = all_marked(rt, program, first, &mut piece, &mut name, &mut s);
+    finish(rt, program, m);
 }
 
-fn main() {
+fn main(rt: HostRuntime) {
     let w = cli_files::begin(
+        &rt,
         b"class",
         0,
         b"usage: class [--progress] FILE...\n       class [--progress] --names LIST\n\
@@ -109,6 +121,6 @@ fn main() {
           LIST has a name a line; - is standard input. Where a file can't be read no report is printed.\n",
     );
     if !w.failed {
-        run(b"class", w);
+        run(&rt, b"class", w);
     }
 }

@@ -1,5 +1,7 @@
 // edit [move P X Y Z W | far X Y Z W | reverse F]... [FILE] changes a scene by the operations on the command line. What each answers goes
 // to standard error, and the scene at the end to standard output.
+#![tactic(auto)]
+
 ghost use Rattle.std.specs.Prelude.{◌<◌};
 
 use crate::operations::Asked;
@@ -14,49 +16,49 @@ mod said;
 mod steps;
 
 // The word behind the operations, which names the file where there is one; and the first word that is wrong, or 0.
-#[derive(Drop)]
+#[derive(Clone, Copy)]
 struct Words {
     file: usize,
     wrong: usize,
 }
 
 // The operation whose name is word i.
-fn operation_at(i: usize) -> Asked
+fn operation_at(rt: &HostRuntime, i: usize) -> Asked
     requires { i < 8388608 }
 {
     // A word that is longer than any name is read as none.
     let mut w = [0u8; 8];
-    let n = os::arg(i, &mut w);
-    let a = number_at(i + 1);
-    let b = number_at(i + 2);
-    let c = number_at(i + 3);
-    let d = number_at(i + 4);
-    let e = number_at(i + 5);
+    let n = cli::word_at(rt, i, &mut w);
+    let a = number_at(rt, i + 1);
+    let b = number_at(rt, i + 2);
+    let c = number_at(rt, i + 3);
+    let d = number_at(rt, i + 4);
+    let e = number_at(rt, i + 5);
     operations::operation_of(i, &w[..n], a, b, c, d, e)
 }
 
 // Word i is no operation, because of word k: only the last may be a file's name.
-fn words_at(i: usize, k: usize, count: usize) -> Words
+fn words_at(rt: &HostRuntime, i: usize, k: usize, count: usize) -> Words
     requires { i < count }
 {
-    if k == i && i + 1 == count && !is_option(i) {
+    if k == i && i + 1 == count && !is_option(rt, i) {
         return Words { file: i, wrong: 0 };
     }
     Words { file: i, wrong: k }
 }
 
-fn words_of(count: usize) -> Words
+fn words_of(rt: &HostRuntime, count: usize) -> Words
     requires { count < 4194304 }
 {
     let mut i = 1;
     while i < count {
-        let a = operation_at(i);
+        let a = operation_at(rt, i);
         match a {
             Asked::Operation(o) => {
                 i += operations::words_of(o);
             }
             Asked::Wrong(k) => {
-                return words_at(i, k, count);
+                return words_at(rt, i, k, count);
             }
         }
     }
@@ -64,64 +66,64 @@ fn words_of(count: usize) -> Words
 }
 
 // The session after the operations.
-fn play(first: Session, count: usize) -> Session
+fn play(rt: &HostRuntime, first: Session, count: usize) -> Session
     requires { count < 4194304 }
 {
     let mut s = first;
     let mut i = 1;
     while i < count {
-        let Asked::Operation(o) = operation_at(i) else {
+        let Asked::Operation(o) = operation_at(rt, i) else {
             return s;
         };
         let c = steps::step(s, o);
-        said::operation(c);
+        said::operation(rt, c);
         s = c.session;
         i += operations::words_of(o);
     }
     s
 }
 
-fn write_scene(s: Session) {
+fn write_scene(rt: &HostRuntime, s: Session) {
     let mut out = [0u8; Scene::LONGEST];
     let n = steps::scene_in(s, &mut out);
     if n == 0 {
-        said::nothing_written();
+        said::nothing_written(rt);
         return;
     }
-    cli::answer(b"edit", &out[0..n]);
+    cli::answer(rt, b"edit", &out[0..n]);
 }
 
 // What is said on standard error is about the scene: where that cannot be said, the scene is written all the same.
-fn change(s: &[u8], count: usize)
+fn change(rt: &HostRuntime, s: &[u8], count: usize)
     requires { count < 4194304 }
 {
     let c = session::open(s);
-    said::opening(s, c);
-    write_scene(play(c.session, count));
+    said::opening(rt, s, c);
+    write_scene(rt, play(rt, c.session, count));
 }
 
-fn run(file: usize, count: usize)
+fn run(rt: &HostRuntime, file: usize, count: usize)
     requires { count < 4194304 }
 {
     // One byte more than the longest scene tells that the input is too long.
     let mut s = [0u8; Scene::LONGEST + 1];
-    let r = cli::read_at(b"edit", file, &mut s);
+    let r = cli::read_at(rt, b"edit", file, &mut s);
     let n = r.count;
     if r.whole {
-        change(&s[..n], count);
+        change(rt, &s[..n], count);
     }
 }
 
-fn main() {
-    if said::help() {
+fn main(rt: HostRuntime) {
+    if said::help(&rt) {
         return;
     }
     // No system passes on so many words.
-    let count = least(os::arg_count(), 4194303);
-    let w = words_of(count);
+    let count = least(cli::word_count(&rt), 4194303);
+    let w = words_of(&rt, count);
     if w.wrong != 0 {
-        said::usage(w.wrong);
+        said::usage(&rt, w.wrong);
         return;
     }
-    run(w.file, count);
+    run(&rt, w.file, count);
 }

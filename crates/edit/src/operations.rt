@@ -6,7 +6,7 @@ ghost use Rattle.edit.specs.Operations.{same, named, row_of, move_of, far_of, re
 use cli_words::Word;
 use scene::Row;
 
-#[derive(Drop)]
+#[derive(Clone, Copy)]
 pub enum Operation {
     Move(usize, Row),
     Far(Row),
@@ -14,13 +14,13 @@ pub enum Operation {
 }
 
 // An operation, or the first of its words that is wrong.
-#[derive(Drop)]
+#[derive(Clone, Copy)]
 pub enum Asked {
     Operation(Operation),
     Wrong(usize),
 }
 
-#[derive(Drop)]
+#[derive(Clone, Copy)]
 enum Four {
     Row(Row),
     Wrong(usize),

@@ -7,8 +7,9 @@ use scene::Refusal;
 use session::Changed;
 
 // Whether the first word asked for help or for the version.
-pub fn help() -> bool {
+pub fn help(rt: &HostRuntime) -> bool {
     cli::tells(
+        rt,
         b"edit",
         b"edit [move P X Y Z W | far X Y Z W | reverse F]... [FILE]
 
@@ -29,56 +30,62 @@ nothing is written.
 }
 
 // The counts after it, or its refusal.
-fn answer(c: Changed) {
+fn answer(rt: &HostRuntime, c: Changed) {
     // `counts` and three numbers, each of no more than 20 digits.
     let mut out = [0u8; 70];
     let n = steps::line_of(&mut out, c);
-    to_error(&out[0..n]);
+    to_error(rt, &out[0..n]);
 }
 
 // The refusal of the scene s.
-fn why(s: &[u8], r: Refusal) {
+fn why(rt: &HostRuntime, s: &[u8], r: Refusal) {
     let mut out = [0u8; 512];
     let p = word(&mut out, 0, b"why: ");
     let q = print_why::sentence(s, r, &mut out, p);
     let n = newline(&mut out, q);
-    to_error(&out[0..n]);
+    to_error(rt, &out[0..n]);
 }
 
-pub fn opening(s: &[u8], c: Changed) {
-    answer(c);
+pub fn opening(rt: &HostRuntime, s: &[u8], c: Changed) {
+    answer(rt, c);
     let a = c.answer;
     if let Judged::Refused(r) = a {
-        why(s, r);
+        why(rt, s, r);
     }
     if s.len() == 0 {
-        to_error(b"note: a shell empties FILE before `edit ... FILE > FILE` reads it; ");
-        to_error(b"`bodhranhaze -o FILE edit ... FILE` changes a file in place\n");
+        to_error(
+            rt,
+            b"note: a shell empties FILE before `edit ... FILE > FILE` reads it; ",
+        );
+        to_error(
+            rt,
+            b"`bodhranhaze -o FILE edit ... FILE` changes a file in place\n",
+        );
     }
 }
 
-fn rule(r: Refusal) {
+fn rule(rt: &HostRuntime, r: Refusal) {
     let mut out = [0u8; 256];
     let n = print_refusals::line(&mut out, 0, scene::number(r));
-    to_error(&out[0..n]);
+    to_error(rt, &out[0..n]);
 }
 
-pub fn operation(c: Changed) {
-    answer(c);
+pub fn operation(rt: &HostRuntime, c: Changed) {
+    answer(rt, c);
     let a = c.answer;
     if let Judged::Refused(r) = a {
-        rule(r);
+        rule(rt, r);
     }
 }
 
-pub fn nothing_written() {
-    to_error(b"why: no scene is written\n");
+pub fn nothing_written(rt: &HostRuntime) {
+    to_error(rt, b"why: no scene is written\n");
 }
 
 // Word k is wrong.
-pub fn usage(k: usize) {
+pub fn usage(rt: &HostRuntime, k: usize) {
     // A hundred bytes, and a number of no more than 20 digits.
     let mut out = [0u8; 120];
     let n = steps::usage_of(&mut out, k);
-    to_error(&out[0..n]);
+    to_error(rt, &out[0..n]);
 }

@@ -6,13 +6,13 @@ use cli_words::Word;
 use map_image::Map;
 use scene::Row;
 
-#[derive(Drop)]
+#[derive(Clone, Copy)]
 pub enum Entries {
     Row(Row),
     Wrong,
 }
 
-#[derive(Drop)]
+#[derive(Clone, Copy)]
 pub enum Asked {
     Map(Map),
     Wrong,

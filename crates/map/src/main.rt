@@ -1,4 +1,6 @@
 // map M11 M12 ... M44 [FILE] writes the image of a scene under a map, whose entries are the sixteen words, row by row.
+#![tactic(auto)]
+
 use asked::{Asked, Entries, map_of, row_of};
 use cli::is_option;
 use cli_words::{Word, number_at};
@@ -15,24 +17,29 @@ const ENTRIES: usize = 16;
 
 const FILE: usize = ENTRIES + 1;
 
-fn row_at(i: usize, j: usize, k: usize, l: usize) -> Entries {
-    row_of(number_at(i), number_at(j), number_at(k), number_at(l))
+fn row_at(rt: &HostRuntime, i: usize, j: usize, k: usize, l: usize) -> Entries {
+    row_of(
+        number_at(rt, i),
+        number_at(rt, j),
+        number_at(rt, k),
+        number_at(rt, l),
+    )
 }
 
-fn map_asked() -> Asked {
+fn map_asked(rt: &HostRuntime) -> Asked {
     map_of(
-        row_at(1, 2, 3, 4),
-        row_at(5, 6, 7, 8),
-        row_at(9, 10, 11, 12),
-        row_at(13, 14, 15, 16),
+        row_at(rt, 1, 2, 3, 4),
+        row_at(rt, 5, 6, 7, 8),
+        row_at(rt, 9, 10, 11, 12),
+        row_at(rt, 13, 14, 15, 16),
     )
 }
 
 // The first of the sixteen words that is no number.
-fn wrong_word() -> usize {
+fn wrong_word(rt: &HostRuntime) -> usize {
     let mut i = 1;
     while i < ENTRIES {
-        if let Word::None = number_at(i) {
+        if let Word::None = number_at(rt, i) {
             return i;
         }
         i += 1;
@@ -40,45 +47,45 @@ fn wrong_word() -> usize {
     i
 }
 
-fn write_image(s: &[u8], m: Map, out: &mut [u8]) {
+fn write_image(rt: &HostRuntime, s: &[u8], m: Map, out: &mut [u8]) {
     match image(s, m, out) {
-        Imaged::Refused(f) => said::refused(s, f),
+        Imaged::Refused(f) => said::refused(rt, s, f),
         Imaged::Written(n) => {
-            cli::answer(b"map", &out[0..n]);
+            cli::answer(rt, b"map", &out[0..n]);
         }
     }
 }
 
-fn run(m: Map) {
+fn run(rt: &HostRuntime, m: Map) {
     // One byte more than the longest scene tells that the input is too long.
     let mut s = [0u8; Scene::LONGEST + 1];
-    let r = cli::read_at(b"map", FILE, &mut s);
+    let r = cli::read_at(rt, b"map", FILE, &mut s);
     let n = r.count;
     if r.whole {
         let mut out = [0u8; Scene::LONGEST];
-        write_image(&s[..n], m, &mut out);
+        write_image(rt, &s[..n], m, &mut out);
     }
 }
 
 // Behind the map stands a file or nothing.
-fn run_on_file(m: Map) {
-    if is_option(FILE) {
-        said::no_option(FILE);
+fn run_on_file(rt: &HostRuntime, m: Map) {
+    if is_option(rt, FILE) {
+        said::no_option(rt, FILE);
         return;
     }
-    if os::arg_count() > FILE + 1 {
-        said::too_many(FILE + 1);
+    if cli::has_word(rt, FILE + 1) {
+        said::too_many(rt, FILE + 1);
         return;
     }
-    run(m);
+    run(rt, m);
 }
 
-fn main() {
-    if said::help() {
+fn main(rt: HostRuntime) {
+    if said::help(&rt) {
         return;
     }
-    match map_asked() {
-        Asked::Map(m) => run_on_file(m),
-        Asked::Wrong => said::no_map(wrong_word()),
+    match map_asked(&rt) {
+        Asked::Map(m) => run_on_file(&rt, m),
+        Asked::Wrong => said::no_map(&rt, wrong_word(&rt)),
     }
 }

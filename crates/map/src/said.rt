@@ -7,8 +7,9 @@ use print::{newline, word};
 use scene::Refusal;
 
 // Whether the first word asked for help or for the version.
-pub fn help() -> bool {
+pub fn help(rt: &HostRuntime) -> bool {
     cli::tells(
+        rt,
         b"map",
         b"map M11 M12 M13 M14 M21 ... M44 [FILE]
 
@@ -23,69 +24,69 @@ Where there is no image, nothing is written: standard error has `refused N P`, t
     )
 }
 
-fn usage() {
-    cli::say(b"map", b"usage: map M11 M12 M13 M14 M21 ... M44 [FILE]");
+fn usage(rt: &HostRuntime) {
+    cli::say(rt, b"map", b"usage: map M11 M12 M13 M14 M21 ... M44 [FILE]");
 }
 
 // Word i is no number.
-pub fn no_map(i: usize) {
-    if i < os::arg_count() {
-        cli::say_word(b"map", b"", i, b" is no number");
+pub fn no_map(rt: &HostRuntime, i: usize) {
+    if cli::has_word(rt, i) {
+        cli::say_word(rt, b"map", b"", i, b" is no number");
     } else {
-        cli::say(b"map", b"a map has sixteen numbers");
+        cli::say(rt, b"map", b"a map has sixteen numbers");
     }
-    usage();
+    usage(rt);
 }
 
-pub fn no_option(i: usize) {
-    cli::say_word(b"map", b"there is no option ", i, b" behind the map");
-    usage();
+pub fn no_option(rt: &HostRuntime, i: usize) {
+    cli::say_word(rt, b"map", b"there is no option ", i, b" behind the map");
+    usage(rt);
 }
 
 // Word i stands behind the file.
-pub fn too_many(i: usize) {
-    cli::say_word(b"map", b"nothing may stand behind the file: ", i, b"");
-    usage();
+pub fn too_many(rt: &HostRuntime, i: usize) {
+    cli::say_word(rt, b"map", b"nothing may stand behind the file: ", i, b"");
+    usage(rt);
 }
 
 // The refusal of the scene s.
-fn scene(s: &[u8], r: Refusal) {
+fn scene(rt: &HostRuntime, s: &[u8], r: Refusal) {
     let mut out = [0u8; 512];
     let p = word(&mut out, 0, b"why: ");
     let q = print_why::sentence(s, r, &mut out, p);
     let n = newline(&mut out, q);
-    to_error(&out[0..n]);
+    to_error(rt, &out[0..n]);
 }
 
-fn rule(before: &[u8], number: usize) {
+fn rule(rt: &HostRuntime, before: &[u8], number: usize) {
     let mut out = [0u8; 256];
     let p = word(&mut out, 0, before);
     let q = print_refusals::rule(&mut out, p, number);
     let n = newline(&mut out, q);
-    to_error(&out[0..n]);
+    to_error(rt, &out[0..n]);
 }
 
 // Of an accepted scene: 17 and 18 are the map's, and the others the image's.
-fn image(number: usize) {
+fn image(rt: &HostRuntime, number: usize) {
     if number < 17 {
-        rule(b"why: in the image ", number);
+        rule(rt, b"why: in the image ", number);
         return;
     }
-    rule(b"why: ", number);
+    rule(rt, b"why: ", number);
 }
 
-fn explain(s: &[u8], f: Fault) {
+fn explain(rt: &HostRuntime, s: &[u8], f: Fault) {
     let j = judge::judge(s);
     match j {
-        Judged::Refused(r) => scene(s, r),
-        Judged::Accepted => image(map_image::number(f)),
+        Judged::Refused(r) => scene(rt, s, r),
+        Judged::Accepted => image(rt, map_image::number(f)),
     }
 }
 
-pub fn refused(s: &[u8], f: Fault) {
+pub fn refused(rt: &HostRuntime, s: &[u8], f: Fault) {
     // Two numbers of no more than 20 digits.
     let mut out = [0u8; 64];
     let n = line::refused(f, &mut out);
-    to_error(&out[0..n]);
-    explain(s, f);
+    to_error(rt, &out[0..n]);
+    explain(rt, s, f);
 }

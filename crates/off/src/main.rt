@@ -1,5 +1,7 @@
 // off FIRST SECOND X Y Z W writes the scene of two object files and a far point; off --write K [FILE] writes solid K of a scene as an
 // object text. What is refused is told on standard error.
+#![tactic(auto)]
+
 use cli::{is_option, is_word, to_error};
 use off_items::numbers::{Number, is_whole, signed_number};
 use off_solids::points::Point;
@@ -10,13 +12,14 @@ mod writing;
 // The longest word that the system passes on.
 const WORD: usize = 131072;
 
-pub fn write(text: &[u8]) {
-    cli::answer(b"off", text);
+pub fn write(rt: &HostRuntime, text: &[u8]) {
+    cli::answer(rt, b"off", text);
 }
 
 // Whether the first word asked for help or for the version.
-fn help() -> bool {
+fn help(rt: &HostRuntime) -> bool {
     cli::tells(
+        rt,
         b"off",
         b"off FIRST SECOND X Y Z W
 off --write K [FILE]
@@ -33,106 +36,111 @@ What makes no scene is told on standard error: `refused N P`, and why. Nothing i
     )
 }
 
-fn say_usage() {
-    cli::say(b"off", b"usage: off FIRST SECOND X Y Z W");
+fn say_usage(rt: &HostRuntime) {
+    cli::say(rt, b"off", b"usage: off FIRST SECOND X Y Z W");
     cli::say(
+        rt,
         b"off",
         b"usage: off --write 1 [FILE], or off --write 2 [FILE]",
     );
 }
 
 // Whether word i is a whole number; and the number that it tells.
-fn is_number(i: usize) -> bool {
+fn is_number(rt: &HostRuntime, i: usize) -> bool {
     let mut word = [0u8; WORD];
-    let n = os::arg(i, &mut word);
+    let n = cli::word_at(rt, i, &mut word);
     let w = &word[..n];
     is_whole(w, 0, w.len(), true)
 }
 
-fn number(i: usize) -> Number {
+fn number(rt: &HostRuntime, i: usize) -> Number {
     let mut word = [0u8; WORD];
-    let n = os::arg(i, &mut word);
+    let n = cli::word_at(rt, i, &mut word);
     let w = &word[..n];
     signed_number(w, 0, w.len())
 }
 
 // The first of the far point's words that is no number, or 0.
-fn wrong_number() -> usize {
-    if !is_number(3) {
+fn wrong_number(rt: &HostRuntime) -> usize {
+    if !is_number(rt, 3) {
         return 3;
     }
-    if !is_number(4) {
+    if !is_number(rt, 4) {
         return 4;
     }
-    if !is_number(5) {
+    if !is_number(rt, 5) {
         return 5;
     }
-    if is_number(6) { 0 } else { 6 }
+    if is_number(rt, 6) { 0 } else { 6 }
 }
 
-fn say_wrong(i: usize) {
+fn say_wrong(rt: &HostRuntime, i: usize) {
     let mut word = [0u8; WORD];
-    let n = os::arg(i, &mut word);
-    to_error(b"off: ");
-    to_error(&word[..n]);
-    to_error(b": this number of the far point is no whole number\n");
+    let n = cli::word_at(rt, i, &mut word);
+    to_error(rt, b"off: ");
+    to_error(rt, &word[..n]);
+    to_error(rt, b": this number of the far point is no whole number\n");
 }
 
 // The solid whose text is asked for, or 0 where the words are wrong.
-fn solid_asked() -> usize {
-    if os::arg_count() > 4 || is_option(3) {
+fn solid_asked(rt: &HostRuntime) -> usize {
+    if cli::has_word(rt, 4) || is_option(rt, 3) {
         return 0;
     }
-    if is_word(2, b"1") {
+    if is_word(rt, 2, b"1") {
         return 1;
     }
-    if is_word(2, b"2") {
+    if is_word(rt, 2, b"2") {
         return 2;
     }
     0
 }
 
-fn has_files() -> bool {
-    os::arg_count() == 7 && !is_option(1) && !is_option(2)
+fn has_files(rt: &HostRuntime) -> bool {
+    cli::word_count(rt) == 7 && !is_option(rt, 1) && !is_option(rt, 2)
 }
 
-fn make() {
-    if !has_files() {
-        say_usage();
+fn make(rt: &HostRuntime) {
+    if !has_files(rt) {
+        say_usage(rt);
         return;
     }
-    let k = wrong_number();
+    let k = wrong_number(rt);
     if k != 0 {
-        say_wrong(k);
+        say_wrong(rt, k);
         return;
     }
-    if is_word(1, b"-") && is_word(2, b"-") {
+    if is_word(rt, 1, b"-") && is_word(rt, 2, b"-") {
         cli::say(
+            rt,
             b"off",
             b"one of the two files may be standard input, and not both",
         );
         return;
     }
-    making::write_files(Point {
-        x: number(3),
-        y: number(4),
-        z: number(5),
-        w: number(6),
-    });
+    making::write_files(
+        rt,
+        Point {
+            x: number(rt, 3),
+            y: number(rt, 4),
+            z: number(rt, 5),
+            w: number(rt, 6),
+        },
+    );
 }
 
-fn main() {
-    if help() {
+fn main(rt: HostRuntime) {
+    if help(&rt) {
         return;
     }
-    if !is_word(1, b"--write") {
-        make();
+    if !is_word(&rt, 1, b"--write") {
+        make(&rt);
         return;
     }
-    let k = solid_asked();
+    let k = solid_asked(&rt);
     if k == 0 {
-        say_usage();
+        say_usage(&rt);
         return;
     }
-    writing::write_solid(k);
+    writing::write_solid(&rt, k);
 }

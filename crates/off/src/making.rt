@@ -11,52 +11,52 @@ const ROOM: usize = 262144;
 const MOST: usize = ROOM - 1;
 
 // The refusal and its words, of which a word of the text may be a part.
-fn say_fault(a: &[u8], b: &[u8], f: Fault) {
+fn say_fault(rt: &HostRuntime, a: &[u8], b: &[u8], f: Fault) {
     let mut out = [0u8; 512];
     let p = off_words::fault(&mut out, 0, a, b, f);
-    to_error(&out[0..p]);
+    to_error(rt, &out[0..p]);
 }
 
-fn write_scene(a: &[u8], b: &[u8], far: Point) {
+fn write_scene(rt: &HostRuntime, a: &[u8], b: &[u8], far: Point) {
     let mut out = [0u8; Scene::LONGEST];
     match off_scene::scene_of(a, b, far, &mut out) {
-        Made::Scene(n) => write(&out[..n]),
-        Made::Refused(f) => say_fault(a, b, f),
+        Made::Scene(n) => write(rt, &out[..n]),
+        Made::Refused(f) => say_fault(rt, a, b, f),
     }
 }
 
 // The file that word i names is longer than any that is read.
-fn say_long(i: usize) {
-    to_error(b"off: ");
-    cli::say_name(i);
-    to_error(b": longer than 262143 bytes\n");
+fn say_long(rt: &HostRuntime, i: usize) {
+    to_error(rt, b"off: ");
+    cli::say_name(rt, i);
+    to_error(rt, b": longer than 262143 bytes\n");
 }
 
-fn write_fitting(a: &[u8], b: &[u8], far: Point) {
+fn write_fitting(rt: &HostRuntime, a: &[u8], b: &[u8], far: Point) {
     if a.len() > MOST {
-        say_long(1);
+        say_long(rt, 1);
         return;
     }
     if b.len() > MOST {
-        say_long(2);
+        say_long(rt, 2);
         return;
     }
-    write_scene(a, b, far);
+    write_scene(rt, a, b, far);
 }
 
 // The files that words 1 and 2 name.
-pub fn write_files(far: Point) {
+pub fn write_files(rt: &HostRuntime, far: Point) {
     let mut a = [0u8; ROOM];
-    let first = cli::read_at(b"off", 1, &mut a);
+    let first = cli::read_at(rt, b"off", 1, &mut a);
     if !first.whole {
         return;
     }
     let mut b = [0u8; ROOM];
-    let second = cli::read_at(b"off", 2, &mut b);
+    let second = cli::read_at(rt, b"off", 2, &mut b);
     if !second.whole {
         return;
     }
     let m = first.count;
     let n = second.count;
-    write_fitting(&a[..m], &b[..n], far);
+    write_fitting(rt, &a[..m], &b[..n], far);
 }

@@ -3,6 +3,9 @@
 ghost use Rattle.std.specs.Prelude.{◌≤◌, length};
 
 use print::{number, word};
+use std::fs::{File, OpenOptions};
+use std::io::{ErrorKind, Write};
+use std::{fs, io};
 
 // No block's name is as long: five digits and more, and `/.block.part`.
 const NAME: usize = 40;
@@ -42,16 +45,14 @@ fn put_path(out: &mut [u8], dir: &[u8], n: usize) -> usize
 }
 
 // A name that can't be looked up counts as taken.
-fn is_taken(path: &[u8]) -> bool {
-    let file = os::open_read(path);
-    if file < 0 {
-        return os::errno() != libc::ENOENT;
+fn is_taken(rt: &HostRuntime, path: &[u8]) -> bool {
+    match cli::open(rt, path) {
+        Ok(_) => true,
+        Err(e) => e.kind() != ErrorKind::NotFound,
     }
-    libc::close(file);
-    true
 }
 
-fn say_taken(program: &[u8], path: &[u8]) {
+fn say_taken(rt: &HostRuntime, program: &[u8], path: &[u8]) {
     let mut out = [0u8; 4160];
     let p = word(&mut out, 0, path);
     let e = word(
@@ -59,62 +60,91 @@ fn say_taken(program: &[u8], path: &[u8]) {
         p,
         b": there is one already; no block is overwritten",
     );
-    cli::say(program, &out[0..e]);
+    cli::say(rt, program, &out[0..e]);
 }
 
-fn is_filled(program: &[u8], file: i32, part: &[u8], block: &[u8]) -> bool {
-    if !io::write_all(file, block) {
-        cli::fail(program, part);
-        libc::close(file);
-        return false;
+fn filled(file: File, block: &[u8]) -> io::Result<()> {
+    let mut out = file;
+    out.write_all(block)?;
+    cli::settle(&out)
+}
+
+fn is_filled(rt: &HostRuntime, program: &[u8], file: File, part: &[u8], block: &[u8]) -> bool {
+    match filled(file, block) {
+        Ok(()) => true,
+        Err(e) => {
+            cli::fail(rt, program, part, e);
+            false
+        }
     }
-    if libc::close(file) != 0 {
-        cli::fail(program, part);
-        return false;
-    }
-    true
+}
+
+fn renamed(rt: &HostRuntime, part: &[u8], path: &[u8]) -> io::Result<()> {
+    fs::rename(rt, cli::path(part)?, cli::path(path)?)
 }
 
 // The part is made, filled and put in place.
-fn is_placed(program: &[u8], file: i32, part: &[u8], path: &[u8], block: &[u8]) -> bool {
-    if is_taken(path) {
-        say_taken(program, path);
-        libc::close(file);
+fn is_placed(
+    rt: &HostRuntime,
+    program: &[u8],
+    file: File,
+    part: &[u8],
+    path: &[u8],
+    block: &[u8],
+) -> bool {
+    if is_taken(rt, path) {
+        say_taken(rt, program, path);
         return false;
     }
-    if !is_filled(program, file, part, block) {
+    if !is_filled(rt, program, file, part, block) {
         return false;
     }
-    if os::rename(part, path) != 0 {
-        cli::fail(program, path);
-        return false;
+    match renamed(rt, part, path) {
+        Ok(()) => true,
+        Err(e) => {
+            cli::fail(rt, program, path, e);
+            false
+        }
     }
-    true
 }
 
-fn made(program: &[u8], part: &[u8], path: &[u8], block: &[u8]) -> bool {
-    let file = os::create(part);
-    if file < 0 {
-        cli::fail(program, part);
-        return false;
+fn created(rt: &HostRuntime, part: &[u8]) -> io::Result<File> {
+    OpenOptions::new()
+        .write(true)
+        .create_new(true)
+        .open(rt, cli::path(part)?)
+}
+
+fn removed(rt: &HostRuntime, part: &[u8]) -> io::Result<()> {
+    fs::remove_file(rt, cli::path(part)?)
+}
+
+fn made(rt: &HostRuntime, program: &[u8], part: &[u8], path: &[u8], block: &[u8]) -> bool {
+    match created(rt, part) {
+        Err(e) => {
+            cli::fail(rt, program, part, e);
+            false
+        }
+        Ok(file) => {
+            let placed = is_placed(rt, program, file, part, path, block);
+            if !placed {
+                removed(rt, part).is_ok();
+            }
+            placed
+        }
     }
-    let placed = is_placed(program, file, part, path, block);
-    if !placed {
-        os::unlink(part);
-    }
-    placed
 }
 
 // Whether it stands in its place; what can't be done is said.
-pub fn write(program: &[u8], dir: &[u8], n: usize, block: &[u8]) -> bool {
-    let mut path = io::buffer();
+pub fn write(rt: &HostRuntime, program: &[u8], dir: &[u8], n: usize, block: &[u8]) -> bool {
+    let mut path = [0u8; 4096];
     if dir.len() > 4096 - NAME {
-        cli::say(program, b"the folder's name is too long");
+        cli::say(rt, program, b"the folder's name is too long");
         return false;
     }
     let e = put_path(&mut path, dir, n);
-    let mut part = io::buffer();
+    let mut part = [0u8; 4096];
     let p = put_path(&mut part, dir, n);
     let q = word(&mut part, p, b".part");
-    made(program, &part[0..q], &path[0..e], block)
+    made(rt, program, &part[0..q], &path[0..e], block)
 }

@@ -1,5 +1,7 @@
 // Packs scenes that stand in files into blocks, each of whole scenes end to end. A block is written under another name and renamed when
 // it is whole, and no file is overwritten. A file that is left out is lost from the class, and said.
+#![tactic(auto)]
+
 ghost use Rattle.std.specs.Prelude.{◌≡◌};
 ghost use Rattle.judge.specs.Judge.{judged};
 ghost use Rattle.pack.specs.Packed.{passes};
@@ -10,6 +12,9 @@ use cli_files::{MOST_FILES, Walk, progress};
 use judge::Judged;
 use print::{newline, next_number, word};
 use scene::{Refusal, Scene};
+use std::io::ErrorKind;
+use std::rt::Env;
+use std::{fs, io};
 
 mod blocks;
 
@@ -26,27 +31,27 @@ struct Packing {
 }
 
 // The block's line on standard output.
-fn tell(program: &[u8], p: Packing) -> bool {
+fn tell(rt: &HostRuntime, program: &[u8], p: &Packing) -> bool {
     let mut out = [0u8; 128];
     let a = blocks::put_name(&mut out, 0, p.number);
     let b = next_number(&mut out, a, p.scenes);
     let c = next_number(&mut out, b, p.at);
     let e = newline(&mut out, c);
-    cli::write(program, &out[0..e])
+    cli::write(rt, program, &out[0..e])
 }
 
 // The block is written, and the next is empty.
-fn written(program: &[u8], p: Packing, dir: &[u8], block: &[u8]) -> Packing {
+fn written(rt: &HostRuntime, program: &[u8], p: Packing, dir: &[u8], block: &[u8]) -> Packing {
     let mut q = p;
-    if p.at == 0 {
+    if q.at == 0 {
         return q;
     }
-    if !blocks::write(program, dir, p.number, block) || !tell(program, p) {
+    if !blocks::write(rt, program, dir, q.number, block) || !tell(rt, program, &q) {
         q.failed = true;
         q.over = true;
         return q;
     }
-    q.number = sum(p.number, 1);
+    q.number = sum(q.number, 1);
     q.at = 0;
     q.scenes = 0;
     q
@@ -62,29 +67,29 @@ fn passes(j: Judged) -> bool
     }
 }
 
-fn say_refused(program: &[u8], name: &[u8], r: Refusal) {
+fn say_refused(rt: &HostRuntime, program: &[u8], name: &[u8], r: Refusal) {
     let mut out = [0u8; 4160];
     let a = word(&mut out, 0, name);
     let b = word(&mut out, a, b": left out, refused");
     let c = next_number(&mut out, b, scene::number(r));
     let e = next_number(&mut out, c, scene::place(r));
-    cli::say(program, &out[0..e]);
+    cli::say(rt, program, &out[0..e]);
 }
 
-fn say_judged(program: &[u8], name: &[u8], j: Judged) {
+fn say_judged(rt: &HostRuntime, program: &[u8], name: &[u8], j: Judged) {
     if let Judged::Refused(r) = j {
-        say_refused(program, name, r);
+        say_refused(rt, program, name, r);
     }
 }
 
 // What can't is said.
-fn is_whole(program: &[u8], name: &[u8], s: &[u8]) -> bool
+fn is_whole(rt: &HostRuntime, program: &[u8], name: &[u8], s: &[u8]) -> bool
     ensures { result ≡ passes (judged s.now) }
 {
     let j = judge::judge(s);
     let whole = passes(j);
     if !whole {
-        say_judged(program, name, j);
+        say_judged(rt, program, name, j);
     }
     whole
 }
@@ -97,12 +102,19 @@ fn has_room(at: usize, n: usize) -> bool {
 }
 
 // One scene more, in this block or the next.
-fn put(program: &[u8], p: Packing, dir: &[u8], s: &[u8], block: &mut [u8]) -> Packing {
+fn put(
+    rt: &HostRuntime,
+    program: &[u8],
+    p: Packing,
+    dir: &[u8],
+    s: &[u8],
+    block: &mut [u8],
+) -> Packing {
     let mut q = p;
-    let at = p.at;
+    let at = q.at;
     if !has_room(at, s.len()) {
         if at <= block.len() {
-            q = written(program, p, dir, &block[0..at]);
+            q = written(rt, program, q, dir, &block[0..at]);
         }
         if q.failed {
             return q;
@@ -115,12 +127,13 @@ fn put(program: &[u8], p: Packing, dir: &[u8], s: &[u8], block: &mut [u8]) -> Pa
 
 fn left_out(p: Packing) -> Packing {
     let mut q = p;
-    q.left_out = sum(p.left_out, 1);
+    q.left_out = sum(q.left_out, 1);
     q
 }
 
 // A file that was read whole, or not.
 fn taken(
+    rt: &HostRuntime,
     program: &[u8],
     p: Packing,
     whole: bool,
@@ -132,14 +145,15 @@ fn taken(
     if !whole {
         return left_out(p);
     }
-    if !is_whole(program, name, s) {
+    if !is_whole(rt, program, name, s) {
         return left_out(p);
     }
-    put(program, p, dir, s, block)
+    put(rt, program, p, dir, s, block)
 }
 
 // The next file, where there is one.
 fn packed(
+    rt: &HostRuntime,
     program: &[u8],
     p: Packing,
     dir: &[u8],
@@ -148,21 +162,20 @@ fn packed(
     s: &mut [u8],
     block: &mut [u8],
 ) -> Packing {
-    let w = p.walk;
-    let r = cli_files::step(program, w, piece, name, s);
-    let v = r.walk;
+    let mut q = p;
+    let r = cli_files::step(rt, program, q.walk, piece, name, s);
+    q.walk = r.walk;
     let k = r.name;
     let n = r.count;
-    let mut q = p;
-    q.walk = v;
     q.over = !r.found;
     if !r.found {
         return q;
     }
-    taken(program, q, r.whole, dir, &name[..k], &s[..n], block)
+    taken(rt, program, q, r.whole, dir, &name[..k], &s[..n], block)
 }
 
 fn all_packed(
+    rt: &HostRuntime,
     program: &[u8],
     first: Packing,
     dir: &[u8],
@@ -174,7 +187,7 @@ fn all_packed(
     let mut p = first;
     let mut left = MOST_FILES;
     while left > 0 {
-        p = packed(program, p, dir, piece, name, s, block);
+        p = packed(rt, program, p, dir, piece, name, s, block);
         if p.over {
             break;
         }
@@ -184,30 +197,35 @@ fn all_packed(
 }
 
 // The last block. What was left out, and that there is more, is said.
-fn finish(program: &[u8], p: Packing, dir: &[u8], block: &[u8]) {
-    let w = p.walk;
-    progress::ended(w);
+fn finish(rt: &HostRuntime, program: &[u8], p: Packing, dir: &[u8], block: &[u8]) {
     let mut q = p;
-    let at = p.at;
-    if !p.failed && at <= block.len() {
-        q = written(program, p, dir, &block[0..at]);
+    progress::ended(&mut q.walk);
+    let at = q.at;
+    if !q.failed && at <= block.len() {
+        q = written(rt, program, q, dir, &block[0..at]);
     }
-    if p.left_out > 0 {
-        cli_files::say_some(program, p.left_out, w.named, b"files were left out");
+    if q.left_out > 0 {
+        cli_files::say_some(
+            rt,
+            program,
+            q.left_out,
+            q.walk.named,
+            b"files were left out",
+        );
     }
-    if q.failed || w.failed {
-        cli::say(program, b"stopped: not every file is packed");
+    if q.failed || q.walk.failed {
+        cli::say(rt, program, b"stopped: not every file is packed");
         return;
     }
-    cli::finish(program);
+    cli::finish(rt, program);
 }
 
-fn run(program: &[u8], walk: Walk, dir: &[u8]) {
-    let mut piece = io::buffer();
-    let mut name = io::buffer();
+fn run(rt: &HostRuntime, program: &[u8], walk: Walk, dir: &[u8]) {
+    let mut piece = [0u8; 4096];
+    let mut name = [0u8; 4096];
     // One byte more than the longest scene tells that a file is too long.
     let mut s = [0u8; Scene::LONGEST + 1];
-    let mut block = io::large_buffer();
+    let mut block = [0u8; 65536];
     let first = Packing {
         walk,
         number: 1,
@@ -218,43 +236,47 @@ fn run(program: &[u8], walk: Walk, dir: &[u8]) {
         failed: false,
     };
     let p = all_packed(
-        program, first, dir, &mut piece, &mut name, &mut s, &mut block,
+        rt, program, first, dir, &mut piece, &mut name, &mut s, &mut block,
     );
-    finish(program, p, dir, &block);
+    finish(rt, program, p, dir, &block);
+}
+
+fn make_folder(rt: &HostRuntime, name: &[u8]) -> io::Result<()> {
+    fs::create_dir(rt, cli::path(name)?)
 }
 
 // The folder that word i names, made where it is missing.
-fn run_in(program: &[u8], walk: Walk, i: usize) {
-    let mut dir = io::buffer();
-    let n = os::arg(i, &mut dir);
-    if os::errno() != 0 {
-        cli::fail(program, b"the name of the folder");
+fn run_in(rt: &HostRuntime, program: &[u8], walk: Walk, i: usize) {
+    let mut dir = [0u8; 4096];
+    let Ok(n) = rt.arg(i, &mut dir) else {
+        cli::fail_long(rt, program, b"the name of the folder");
         return;
-    }
-    if os::mkdir(&dir[..n]) < 0 {
-        if os::errno() != libc::EEXIST {
-            cli::fail(program, &dir[..n]);
+    };
+    if let Err(e) = make_folder(rt, &dir[..n]) {
+        if e.kind() != ErrorKind::AlreadyExists {
+            cli::fail(rt, program, &dir[..n], e);
             return;
         }
     }
-    run(program, walk, &dir[..n]);
+    run(rt, program, walk, &dir[..n]);
 }
 
-fn start(program: &[u8], usage: &[u8]) {
-    let w = cli_files::begin(program, 1, usage);
+fn start(rt: &HostRuntime, program: &[u8], usage: &[u8]) {
+    let w = cli_files::begin(rt, program, 1, usage);
     if w.failed {
         return;
     }
-    let i = cli_files::first_word();
-    if cli::is_option(i) {
-        cli_files::refuse(program, b"the first word is the blocks' folder", usage);
+    let i = cli_files::first_word(rt);
+    if cli::is_option(rt, i) {
+        cli_files::refuse(rt, program, b"the first word is the blocks' folder", usage);
         return;
     }
-    run_in(program, w, i);
+    run_in(rt, program, w, i);
 }
 
-fn main() {
+fn main(rt: HostRuntime) {
     start(
+        &rt,
         b"pack",
         b"usage: pack [--progress] DIR FILE...\n       pack [--progress] DIR --names LIST\n\
           Puts the scenes end to end into blocks DIR/00001.block and so on, each of whole scenes and at most 65,536 bytes. Prints a\n\

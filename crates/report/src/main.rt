@@ -1,4 +1,6 @@
 // report [FILE] prints the report of a scene: it is read, judged and surveyed once, rendered part by part, and written.
+#![tactic(auto)]
+
 ghost use Rattle.std.specs.Prelude.{◌≡◌};
 ghost use Rattle.scene.specs.View.{view_of};
 ghost use Rattle.judge.specs.Judge.{judged};
@@ -17,13 +19,13 @@ use survey::Survey;
 use survey_edges::{ENDS, Ends, Masks};
 use survey_scene::survey_of;
 
-// What is held at once, 64 KiB: the 4,096 bytes that `io` takes to write; the scene, where one byte more than the longest tells that the
+// What is held at once, 64 KiB: 4,096 bytes to spare; the scene, where one byte more than the longest tells that the
 // input is too long; the survey's tables, two bytes for an end and eight for a word, of both solids; a sixth of the longest listing, two
-// bytes for each number; and the text. (A file's name, of as many bytes as `io` takes, is held a few times while the scene is read; of
-// the rest only the scene is held then.)
+// bytes for each number; and the text. (A file's name, of 4,096 bytes, is held a few times while the scene is read; of the rest only the
+// scene is held then.)
 const HELD: usize = 65536;
 
-const IO: usize = 4096;
+const SPARE: usize = 4096;
 
 const SCENE: usize = Scene::LONGEST + 1;
 
@@ -31,18 +33,19 @@ const TABLES: usize = 2 * (2 + 8) * ENDS;
 
 const NUMBERS: usize = 3 * (MOST_PAIRS / 6 + 1);
 
-const TEXT: usize = HELD - IO - SCENE - TABLES - 2 * NUMBERS;
+const TEXT: usize = HELD - SPARE - SCENE - TABLES - 2 * NUMBERS;
 
-fn write(text: &[u8]) -> bool {
-    cli::write(b"report", text)
+fn write(rt: &HostRuntime, text: &[u8]) -> bool {
+    cli::write(rt, b"report", text)
 }
 
-fn finish() {
-    cli::finish(b"report");
+fn finish(rt: &HostRuntime) {
+    cli::finish(rt, b"report");
 }
 
 // The n rows of the listing. A write that fails is the last.
 fn write_rows(
+    rt: &HostRuntime,
     t: Survey,
     s: &[u8],
     aends: &Ends,
@@ -63,16 +66,17 @@ fn write_rows(
         if r.count == 0 {
             return;
         }
-        if !write(&out[..end]) {
+        if !write(rt, &out[..end]) {
             return;
         }
         from += least(n - from, r.count);
     }
-    finish();
+    finish(rt);
 }
 
 // The head, and then the rows.
 fn write_read(
+    rt: &HostRuntime,
     t: Survey,
     s: &[u8],
     aends: &Ends,
@@ -86,12 +90,12 @@ fn write_read(
 {
     let top = head_read(t, s, aends, amasks, bends, bmasks, out);
     let end = top.end;
-    if write(&out[..end]) {
-        write_rows(t, s, aends, amasks, bends, bmasks, top.rows, out);
+    if write(rt, &out[..end]) {
+        write_rows(rt, t, s, aends, amasks, bends, bmasks, top.rows, out);
     }
 }
 
-fn write_accepted(s: &[u8], out: &mut [u8])
+fn write_accepted(rt: &HostRuntime, s: &[u8], out: &mut [u8])
     requires { judged s.now ≡ Accepted }
 {
     let mut aends: Ends = [0; ENDS];
@@ -106,27 +110,28 @@ fn write_accepted(s: &[u8], out: &mut [u8])
         &mut bends,
         &mut bmasks,
     );
-    write_read(t, s, &aends, &amasks, &bends, &bmasks, out);
+    write_read(rt, t, s, &aends, &amasks, &bends, &bmasks, out);
 }
 
-fn write_refused(r: Refusal, out: &mut [u8]) {
+fn write_refused(rt: &HostRuntime, r: Refusal, out: &mut [u8]) {
     let end = refused(out, 0, r);
-    if write(&out[..end]) {
-        finish();
+    if write(rt, &out[..end]) {
+        finish(rt);
     }
 }
 
-fn write_report(s: &[u8]) {
+fn write_report(rt: &HostRuntime, s: &[u8]) {
     let mut out = [0u8; TEXT];
     let j = judge::judge(s);
     match j {
-        Judged::Refused(r) => write_refused(r, &mut out),
-        Judged::Accepted => write_accepted(s, &mut out),
+        Judged::Refused(r) => write_refused(rt, r, &mut out),
+        Judged::Accepted => write_accepted(rt, s, &mut out),
     }
 }
 
-fn help() -> bool {
+fn help(rt: &HostRuntime) -> bool {
     cli::tells(
+        rt,
         b"report",
         b"report [FILE]
 
@@ -146,36 +151,42 @@ Of a refused scene it prints `refused N P`, the refusal's number and place; `ask
     )
 }
 
-fn usage() {
-    cli::say(b"report", b"usage: report [FILE]");
+fn usage(rt: &HostRuntime) {
+    cli::say(rt, b"report", b"usage: report [FILE]");
 }
 
 // Whether the words are an option that there is not, or too many, which is then said.
-fn are_wrong() -> bool {
-    if is_option(1) {
-        cli::say_word(b"report", b"there is no option ", 1, b"");
-        usage();
+fn are_wrong(rt: &HostRuntime) -> bool {
+    if is_option(rt, 1) {
+        cli::say_word(rt, b"report", b"there is no option ", 1, b"");
+        usage(rt);
         return true;
     }
-    if os::arg_count() > 2 {
-        cli::say_word(b"report", b"nothing may stand behind the file: ", 2, b"");
-        usage();
+    if cli::has_word(rt, 2) {
+        cli::say_word(
+            rt,
+            b"report",
+            b"nothing may stand behind the file: ",
+            2,
+            b"",
+        );
+        usage(rt);
         return true;
     }
     false
 }
 
-fn main() {
-    if help() {
+fn main(rt: HostRuntime) {
+    if help(&rt) {
         return;
     }
-    if are_wrong() {
+    if are_wrong(&rt) {
         return;
     }
     let mut s = [0u8; SCENE];
-    let r = cli::read_at(b"report", 1, &mut s);
+    let r = cli::read_at(&rt, b"report", 1, &mut s);
     let n = r.count;
     if r.whole {
-        write_report(&s[..n]);
+        write_report(&rt, &s[..n]);
     }
 }

@@ -1,4 +1,6 @@
 // Prints a table of files, a row each with tabs between its fields: what an office opens in a spreadsheet.
+#![tactic(auto)]
+
 use cli_files::{MOST_FILES, Walk, progress};
 use scene::Scene;
 
@@ -16,6 +18,7 @@ struct Turn {
 
 // The next file's row, where there is one. Behind a row that can't be written there is none.
 fn next_row(
+    rt: &HostRuntime,
     program: &[u8],
     w: Walk,
     piece: &mut [u8],
@@ -23,7 +26,7 @@ fn next_row(
     s: &mut [u8],
     out: &mut [u8],
 ) -> Turn {
-    let r = cli_files::step(program, w, piece, name, s);
+    let r = cli_files::step(rt, program, w, piece, name, s);
     let v = r.walk;
     let k = r.name;
     let n = r.count;
@@ -36,11 +39,12 @@ fn next_row(
     let e = row::row(out, &name[..k], r.whole, &s[..n]);
     Turn {
         walk: v,
-        over: !cli::write(program, &out[0..e]),
+        over: !cli::write(rt, program, &out[0..e]),
     }
 }
 
 fn all_told(
+    rt: &HostRuntime,
     program: &[u8],
     first: Walk,
     piece: &mut [u8],
@@ -51,7 +55,7 @@ fn all_told(
     let mut w = first;
     let mut left = MOST_FILES;
     while left > 0 {
-        let t = next_row(program, w, piece, name, s, out);
+        let t = next_row(rt, program, w, piece, name, s, out);
         let v = t.walk;
         w = v;
         if t.over {
@@ -62,19 +66,20 @@ fn all_told(
     w
 }
 
-fn run(program: &[u8], first: Walk) {
-    let mut piece = io::buffer();
-    let mut name = io::buffer();
+fn run(rt: &HostRuntime, program: &[u8], first: Walk) {
+    let mut piece = [0u8; 4096];
+    let mut name = [0u8; 4096];
     // One byte more than the longest scene tells that a file is too long.
     let mut s = [0u8; Scene::LONGEST + 1];
     let mut out = [0u8; TEXT];
-    let w = all_told(program, first, &mut piece, &mut name, &mut s, &mut out);
-    progress::ended(w);
-    cli::finish(program);
+    let mut w = all_told(rt, program, first, &mut piece, &mut name, &mut s, &mut out);
+    progress::ended(&mut w);
+    cli::finish(rt, program);
 }
 
-fn main() {
+fn main(rt: HostRuntime) {
     let w = cli_files::begin(
+        &rt,
         b"table",
         0,
         b"usage: table [--progress] FILE...\n       table [--progress] --names LIST\n\
@@ -86,7 +91,11 @@ fn main() {
     if w.failed {
         return;
     }
-    if cli::write(b"table", b"name\tverdict\tA in B\tB in A\tpairs\twhy\n") {
-        run(b"table", w);
+    if cli::write(
+        &rt,
+        b"table",
+        b"name\tverdict\tA in B\tB in A\tpairs\twhy\n",
+    ) {
+        run(&rt, b"table", w);
     }
 }

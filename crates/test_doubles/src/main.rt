@@ -1,13 +1,15 @@
 // Takes the vertices on standard input, four to an entry, and prints each as it is taken or refused; of four that are taken also c0 in
 // doubles, by its bits. An entry is sixteen doubles of eight bytes, low byte first.
+#![tactic(auto)]
+
 ghost use Rattle.std.specs.Prelude.{◌<◌, ◌≤◌, length};
 
 use doubles::determinant::c0;
 use doubles::{Fault, Taken, Vertex, take};
-use libc::{STDIN_FILENO, STDOUT_FILENO};
 use print::{newline, next_number, next_signed, word};
 use scene::Row;
 use scene::read::two;
+use std::io::{Print, Write};
 
 const ENTRY: usize = 128;
 
@@ -83,52 +85,60 @@ fn bits_line(bits: u64, out: &mut [u8]) -> usize
     ensures { result ≤ length out.new }
 {
     let mut digits = [0u8; 16];
-    let k = io::hex(bits, 16, &mut digits);
+    let mut rest: &mut [u8] = &mut digits;
+    write!(rest, "{bits:016x}").is_ok();
     let p = word(out, 0, b"c0 ");
-    let q = word(out, p, &digits[..k]);
+    let q = word(out, p, &digits);
     newline(out, q)
 }
 
 // Whether it was written, as each of the two below.
-fn write_c0(t: f64, out: &mut [u8]) -> bool {
+fn write_c0(rt: &HostRuntime, t: f64, out: &mut [u8]) -> bool {
     if t == t {
         let end = bits_line(f64::to_bits(t), out);
-        return io::write_all(STDOUT_FILENO, &out[..end]);
+        return rt.stdout().write_all(&out[..end]).is_ok();
     }
     true
 }
 
-fn write_vertices(a: Vertex, b: Vertex, c: Vertex, d: Vertex, out: &mut [u8]) -> bool {
+fn write_vertices(
+    rt: &HostRuntime,
+    a: Vertex,
+    b: Vertex,
+    c: Vertex,
+    d: Vertex,
+    out: &mut [u8],
+) -> bool {
     let p = vertex(a, out, 0);
     let q = vertex(b, out, p);
     let r = vertex(c, out, q);
     let end = vertex(d, out, r);
-    io::write_all(STDOUT_FILENO, &out[..end])
+    rt.stdout().write_all(&out[..end]).is_ok()
 }
 
-fn write_entry(s: &[u8]) -> bool {
+fn write_entry(rt: &HostRuntime, s: &[u8]) -> bool {
     let a = vertex_at(s, 0);
     let b = vertex_at(s, 32);
     let c = vertex_at(s, 64);
     let d = vertex_at(s, 96);
     let mut out = [0u8; TEXT];
-    if !write_vertices(a, b, c, d, &mut out) {
+    if !write_vertices(rt, a, b, c, d, &mut out) {
         return false;
     }
     if is_taken(a) & is_taken(b) & is_taken(c) & is_taken(d) {
-        return write_c0(c0(a, b, c, d), &mut out);
+        return write_c0(rt, c0(a, b, c, d), &mut out);
     }
     true
 }
 
-fn main() {
+fn main(rt: HostRuntime) {
     let mut n: usize = 0;
     while n < 18446744073709551615 {
         let mut s = [0u8; ENTRY];
-        if io::read_full(STDIN_FILENO, &mut s) < ENTRY {
+        if cli::read(&mut rt.stdin(), &mut s).count < ENTRY {
             return;
         }
-        if !write_entry(&s) {
+        if !write_entry(&rt, &s) {
             return;
         }
         n += 1;

@@ -1,13 +1,15 @@
 // Puts random byte strings, and mutations of the scene on standard input, through the judge and every question, all in one process, and
 // prints for each question how often it was answered and how often refused with which number.
+#![tactic(auto)]
+
 ghost use Rattle.std.specs.Prelude.{◌≤◌, length};
 
 use crate::asked::{ROWS, ask_points, ask_rest};
 use crate::chance::next;
 use crate::strings::{Bytes, make};
-use libc::{STDIN_FILENO, STDOUT_FILENO};
 use print::{newline, next_number, word};
 use scene::Scene;
+use std::io::Print;
 
 mod asked;
 mod chance;
@@ -96,18 +98,18 @@ fn rest(tally: &[u64; ROWS], out: &mut [u8], at: usize) -> usize
 }
 
 // All in one write, the last thing that the program does.
-fn write_table(tally: &[u64; ROWS], out: &mut [u8]) {
+fn write_table(rt: &HostRuntime, tally: &[u64; ROWS], out: &mut [u8]) {
     let p = head(out);
     let q = points(tally, out, p);
     let end = rest(tally, out, q);
-    io::write_all(STDOUT_FILENO, &out[..end]);
+    rt.stdout().write_all(&out[..end]).is_ok();
 }
 
-fn main() {
+fn main(rt: HostRuntime) {
     let mut s = [0u8; Scene::LONGEST];
-    let n = io::read_full(STDIN_FILENO, &mut s);
+    let n = cli::read(&mut rt.stdin(), &mut s).count;
     let mut tally = [0u64; ROWS];
     turns(&s[..n], &mut tally);
     let mut out = [0u8; TEXT];
-    write_table(&tally, &mut out);
+    write_table(&rt, &tally, &mut out);
 }

@@ -5,7 +5,7 @@ use crate::chance::{byte_of, next, pick};
 use scene::Scene;
 
 // A string's length, and the next random number.
-#[derive(Drop)]
+#[derive(Clone, Copy)]
 pub struct Made {
     pub len: usize,
     pub seed: u64,

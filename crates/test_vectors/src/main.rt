@@ -1,13 +1,15 @@
 // Prints the report of each scene on standard input and, where it is accepted, the answers to ten questions about it: by the plain engine,
 // and again by the formula.
+#![tactic(auto)]
+
 ghost use Rattle.std.specs.Prelude.{◌≤◌, length};
 
 use judge::Judged;
-use libc::STDOUT_FILENO;
 use pierce_engine::Engine;
 use print_answers::lent::{PLACES, TEXT};
 use print_answers::{lent, reports};
 use scene::{offsets, read};
+use std::io::Print;
 
 // The remainder of n by m; 0 where m is 0, as no count of an accepted scene is.
 fn rest(n: usize, m: usize) -> usize
@@ -69,58 +71,71 @@ fn others(engine: Engine, s: &[u8], n: usize, out: &mut [u8], at: usize) -> usiz
 }
 
 // All but the last, the listing into up to 99 lent places. Whether it was written, as each of those below.
-fn write_answers(engine: Engine, s: &[u8], n: usize, out: &mut [u8]) -> bool {
+fn write_answers(rt: &HostRuntime, engine: Engine, s: &[u8], n: usize, out: &mut [u8]) -> bool {
     let p = signs(s, n, out, 0);
     let q = edges(engine, s, n, out, p);
     let r = masks(engine, s, n, out, q);
     let end = others(engine, s, n, out, r);
-    io::write_all(STDOUT_FILENO, &out[..end])
+    rt.stdout().write_all(&out[..end]).is_ok()
 }
 
-fn write_lent(engine: Engine, s: &[u8], n: usize, list: &mut [u16], out: &mut [u8]) -> bool {
+fn write_lent(
+    rt: &HostRuntime,
+    engine: Engine,
+    s: &[u8],
+    n: usize,
+    list: &mut [u16],
+    out: &mut [u8],
+) -> bool {
     let a = lent::lend(engine, s, n % 100, list);
     let end = lent::listed(a, list, out, 0);
-    io::write_all(STDOUT_FILENO, &out[..end])
+    rt.stdout().write_all(&out[..end]).is_ok()
 }
 
-fn write_report(engine: Engine, s: &[u8], list: &mut [u16], out: &mut [u8]) -> bool {
+fn write_report(
+    rt: &HostRuntime,
+    engine: Engine,
+    s: &[u8],
+    list: &mut [u16],
+    out: &mut [u8],
+) -> bool {
     let top = reports::head(engine, s, out);
     let end = top.end;
-    if !io::write_all(STDOUT_FILENO, &out[..end]) {
+    if !rt.stdout().write_all(&out[..end]).is_ok() {
         return false;
     }
     let r = reports::part(engine, s, 0, list, out);
     let all = r.end;
-    io::write_all(STDOUT_FILENO, &out[..all])
+    rt.stdout().write_all(&out[..all]).is_ok()
 }
 
-fn write_scene(engine: Engine, s: &[u8], n: usize) -> bool {
+fn write_scene(rt: &HostRuntime, engine: Engine, s: &[u8], n: usize) -> bool {
     let mut list = [0u16; PLACES];
     let mut out = [0u8; TEXT];
-    if !write_report(engine, s, &mut list, &mut out) {
+    if !write_report(rt, engine, s, &mut list, &mut out) {
         return false;
     }
     if let Judged::Refused(_) = judge::judge(s) {
         return true;
     }
-    write_answers(engine, s, n, &mut out) && write_lent(engine, s, n, &mut list, &mut out)
+    write_answers(rt, engine, s, n, &mut out) && write_lent(rt, engine, s, n, &mut list, &mut out)
 }
 
 // Whether there was one more, and its answers were written.
-fn write_next(n: usize) -> bool {
-    let mut s = io::large_buffer();
-    let e = test_entries::next(&mut s);
+fn write_next(rt: &HostRuntime, n: usize) -> bool {
+    let mut s = [0u8; 65536];
+    let e = test_entries::next(rt, &mut s);
     if e.is_end {
         return false;
     }
     let len = e.len;
-    write_scene(Engine::Plain, &s[..len], n) && write_scene(Engine::Formula, &s[..len], n)
+    write_scene(rt, Engine::Plain, &s[..len], n) && write_scene(rt, Engine::Formula, &s[..len], n)
 }
 
-fn main() {
+fn main(rt: HostRuntime) {
     let mut n = 0;
     while n < usize::MAX {
-        if !write_next(n) {
+        if !write_next(&rt, n) {
             return;
         }
         n += 1;
