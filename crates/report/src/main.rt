@@ -19,10 +19,9 @@ use survey::Survey;
 use survey_edges::{ENDS, Ends, Masks};
 use survey_scene::survey_of;
 
-// What is held at once, 64 KiB: 4,096 bytes to spare; the scene, where one byte more than the longest tells that the
-// input is too long; the survey's tables, two bytes for an end and eight for a word, of both solids; a sixth of the longest listing, two
-// bytes for each number; and the text. (A file's name, of 4,096 bytes, is held a few times while the scene is read; of the rest only the
-// scene is held then.)
+// What is held at once, 64 KiB: 4,096 bytes to spare; the scene, where one byte more than the longest tells that the input is too long; the
+// survey's tables, two bytes for an end and eight for a word, of both solids; a sixth of the longest listing, two bytes for each number;
+// and the text. (A file's name, of 4,096 bytes, is held a few times while the scene is read; of the rest only the scene is held then.)
 const HELD: usize = 65536;
 
 const SPARE: usize = 4096;
