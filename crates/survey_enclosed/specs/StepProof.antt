@@ -139,7 +139,7 @@ module _ (s : PierceView) (k : Solid) (ready : Ready s k) (links odds : List ℕ
   step_reached =
       record {
         inside_in_law =
-            or_lt k.verts t.inside (flipped new (bit_and new (get_or odds u 0)) (test_bit t.inside i)) r.inside-in
+            or_lt k.verts t.inside (flipped new (bit_and new (get_or odds u 0)) (test_bit t.inside i)) r.inside_in_law
             (flipped_small k.verts new (bit_and new (get_or odds u 0)) (test_bit t.inside i) new_small odd_small);
         known_in = or_lt k.verts t.known new r.known_in new_small;
         left_in = xor_lt k.verts t.left (2 ^ i) r.left_in (pow-lt here);

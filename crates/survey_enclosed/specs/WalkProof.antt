@@ -74,7 +74,7 @@ module _ (s : PierceView) (k : Solid) where
   pub reached_all : {t : Spread} → Reached s k t → t.left ≡ 0 → t.inside ≡ inside_word s k
   unfolding inside_word
   reached_all {t} r e =
-      sym (word_bits k.verts r.inside-in)
+      sym (word_bits k.verts r.inside_in_law)
       ∙ mask_same (test_bit t.inside) (λ m. enclosed_vertex s k (k.vert0 + 1 + m)) k.verts
       (λ m h. r.right m h ∙ ap (λ (b : Bool). b && enclosed_vertex s k (k.vert0 + 1 + m)) (known m h (test_bit t.known m) refl))
     where
@@ -121,8 +121,8 @@ module _ (s : PierceView) (k : Solid) where
       or_right false = refl
 
       asked_small : (o : Bool) → b < 2 ^ k.verts → cond o (bit_or t.inside b) t.inside < 2 ^ k.verts
-      asked_small true h = or_lt k.verts t.inside b r.inside-in h
-      asked_small false h = r.inside-in
+      asked_small true h = or_lt k.verts t.inside b r.inside_in_law h
+      asked_small false h = r.inside_in_law
 
       asked_bit : (o : Bool) (m : ℕ) → test_bit (cond o (bit_or t.inside b) t.inside) m ≡ (test_bit t.inside m || (o && test_bit b m))
       asked_bit true m = test_or t.inside b m

@@ -1,5 +1,7 @@
 // The vertices of a solid that the other one encloses, along its edges: one mask toward the far point for each part, and the rest by the
 // oddness of the edges' masks.
+#![tactic(auto)]
+
 ghost use Rattle.std.specs.Prelude.{◌≡◌, ◌+◌, ◌-◌, ◌^◌, ◌<◌};
 ghost use Rattle.laws.specs.Mask.{test_bit};
 ghost use Rattle.scene.specs.Faces.{Vertex};
@@ -20,7 +22,7 @@ use survey_sides::mask;
 pub mod odds;
 
 // What is enclosed of what is known so far, what is known, and what is not yet passed: words of the solid's vertices.
-#[derive(Drop)]
+#[derive(Clone, Copy)]
 pub struct Spread {
     pub inside: u64,
     pub known: u64,
