@@ -38,6 +38,8 @@ either false = refl
 
 eq_zero : (v : Float) (s : Bool) → HasValue v s 0 1 → eq v ZERO ≡ true
 unfolding eq
+eq_zero nan s v = elim v [ ]
+eq_zero (inf _) s v = elim v [ ]
 eq_zero (fin t m e) s v =
     let a : m * up e * 1 ≡ 0 = v.1 ∙ zero-mul (down e) in
     ap₂ (λ (i j : ℕ). (i == j) && (beq t false || i == 0)) a (zero-mul (down e)) ∙ either (beq t false)
@@ -167,6 +169,8 @@ module _ (t s : Bool) (n m : ℕ) (d e : ℤ) (v : Is (fin t n d) (signed s (m *
 
 eq_cut : (y : Float) (s : Bool) (m : ℕ) (e : ℤ) → Is y (signed s (m * up e / down e)) → eq y (fin s m e) ≡ (m * up e % down e == 0)
 unfolding eq
+eq_cut nan s m e v = elim v [ ]
+eq_cut (inf _) s m e v = elim v [ ]
 eq_cut (fin t n d) s m e v = level_is t s n m d e v (m * up e % down e == 0) (eqb→eq (m * up e % down e) 0) refl
 
 cut_is : (s : Bool) (m : ℕ) (e : ℤ) → m * up e / down e < 2 ^ 53 → to_signed 63 (fin s m e) ≡ signed s (m * up e / down e)
@@ -189,7 +193,7 @@ pub by_cut : (x : Float) {n : ℤ} {r : Float} → lt x LARGE ≡ true → lt (n
     r ≡ of_int binary64 (to_z w64 (of_z w64 n)) → eq r x ≡ is_whole x
 by_cut x {n} h g p q =
     ap (λ (y : Float). eq y x)
-    (q ∙ ap (λ (z : ℤ). of_int binary64 (to_z w64 (of_z w64 z))) p ∙ ap (of_int binary64) (to_z-of_z (record { sfits = to_signed_in 63 x })))
+    (q ∙ ap (λ (z : ℤ). of_int binary64 (to_z w64 (of_z w64 z))) p ∙ ap (of_int binary64) (to_z-of_z {w = w64} (record { sfits = to_signed_in 63 x })))
     ∙ cut_test x h g
 
 -- ---- from 2 ^ 53 on

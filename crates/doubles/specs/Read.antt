@@ -89,13 +89,13 @@ module _ (x : Float) (most : ℕ) (h : most < 2 ^ 53) {test : Bool} (f : test �
     pub as_cast : Within (to_z w64 (of_z w64 (to_signed 63 (add binary64 x (fin false 0 (pos 0)))))) ≡ reading_of x most
     as_cast =
         ap (λ (z : ℤ). Within (to_z w64 (of_z w64 z))) (ap (λ (y : Float). to_signed 63 y) settled ∙ (back (value_of x) low).1)
-        ∙ ap (λ (z : ℤ). Within z) (to_z-of_z (record { sfits = small_mag (value_of x) low }))
+        ∙ ap (λ (z : ℤ). Within z) (to_z-of_z {w = w64} (record { sfits = small_mag (value_of x) low }))
         ∙ sym (is (whole t) (le-leb (unsigned_abs (value_of x)) most small))
 
 -- ---- a number of an i64, read back from its bits
 
 pub held : (d : ℤ) → mag d < 2 ^ 63 → to_z w64 (of_z w64 d) ≡ d
-held d h = to_z-of_z (record { sfits = h })
+held d h = to_z-of_z {w = w64} (record { sfits = h })
 
 -- a weight whose bits are 0 is outside, and any other is itself
 pub nothing : (d : ℤ) → mag d < 2 ^ 63 → of_z w64 d ≡ 0 → Outside ≡ weighed (Within d)

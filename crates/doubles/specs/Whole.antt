@@ -37,6 +37,8 @@ signed_not true n = sym (neg_ℤ-neg_ℤ (pos n))
 -- ---- rounding a fraction that is a whole number
 
 of_value : (x : Float) (s : Bool) (n : ℕ) → HasValue x s n 1 → Is x (signed s n)
+of_value nan s n v = elim v [ ]
+of_value (inf _) s n v = elim v [ ]
 of_value (fin t m e) s n v = (n, sym (mul-one (m * up e)) ∙ v.1, ap (λ (b : Bool). signed b n) v.0)
 
 pub rounded : (s : Bool) (num den n : ℕ) → 0 < den → num ≡ n * den → n ≤ 2 ^ 53 → Is (round binary64 s num den) (signed s n)
@@ -58,6 +60,10 @@ signed_mul true true p q =
 
 pub mul_is : (x y : Float) (a b : ℤ) → Is x a → Is y b → unsigned_abs (a *ℤ b) ≤ 2 ^ 53 → Is (mul binary64 x y) (a *ℤ b)
 unfolding mul
+mul_is nan y a b v w l = elim v [ ]
+mul_is (inf _) y a b v w l = elim v [ ]
+mul_is (fin s m e) nan a b v w l = elim w [ ]
+mul_is (fin s m e) (inf _) a b v w l = elim w [ ]
 mul_is (fin s m e) (fin t n d) a b v w l =
     let p = v.0 in
     let q = w.0 in
@@ -138,6 +144,10 @@ sum_is true false p q c h l = apart false p q c h l
 
 pub add_is : (x y : Float) (a b : ℤ) → Is x a → Is y b → unsigned_abs (a +ℤ b) ≤ 2 ^ 53 → Is (add binary64 x y) (a +ℤ b)
 unfolding add
+add_is nan y a b v w l = elim v [ ]
+add_is (inf _) y a b v w l = elim v [ ]
+add_is (fin s m e) nan a b v w l = elim w [ ]
+add_is (fin s m e) (inf _) a b v w l = elim w [ ]
 add_is (fin s m e) (fin t n d) a b v w l =
     let p = v.0 in
     let q = w.0 in
@@ -153,6 +163,8 @@ add_is (fin s m e) (fin t n d) a b v w l =
 
 pub neg_is : (x : Float) (a : ℤ) → Is x a → Is (neg x) (neg_ℤ a)
 unfolding neg
+neg_is nan a v = elim v [ ]
+neg_is (inf _) a v = elim v [ ]
 neg_is (fin s m e) a v = (v.0, v.1, signed_not s v.0 ∙ ap neg_ℤ v.2)
 
 pub sub_is : (x y : Float) (a b : ℤ) → Is x a → Is y b → unsigned_abs (a -ℤ b) ≤ 2 ^ 53 → Is (sub binary64 x y) (a -ℤ b)
@@ -183,6 +195,8 @@ settle true (suc p) c h =
 
 pub plus_zero : (x : Float) (z : ℤ) → Is x z → add binary64 x (fin false 0 (pos 0)) ≡ of_int binary64 z
 unfolding add
+plus_zero nan z v = elim v [ ]
+plus_zero (inf _) z v = elim v [ ]
 plus_zero (fin s m e) z v =
     let p = v.0 in
     let c = down e * 1 in
@@ -220,6 +234,10 @@ below_is true true (suc p) (suc q) c h = scaled_lt (suc q) (suc p) c h ∙ lt_su
 
 pub lt_is : (x y : Float) (a b : ℤ) → Is x a → Is y b → lt x y ≡ int_lt a b
 unfolding lt
+lt_is nan y a b v w = elim v [ ]
+lt_is (inf _) y a b v w = elim v [ ]
+lt_is (fin s m e) nan a b v w = elim w [ ]
+lt_is (fin s m e) (inf _) a b v w = elim w [ ]
 lt_is (fin s m e) (fin t n d) a b v w =
     let p = v.0 in
     let q = w.0 in
@@ -243,6 +261,8 @@ value_of (fin s m e) = signed s (m * up e / down e)
 
 -- the test passes exactly at the whole numbers
 pub whole_is : (x : Float) → T (is_whole x) → Is x (value_of x)
+whole_is nan t = elim t [ ]
+whole_is (inf _) t = elim t [ ]
 whole_is (fin s m e) t =
     let k = m * up e in (
       k / down e,
@@ -252,6 +272,8 @@ whole_is (fin s m e) t =
     )
 
 pub is_whole_law : (x : Float) (z : ℤ) → Is x z → (is_whole x ≡ true) × (value_of x ≡ z)
+is_whole_law nan z v = elim v [ ]
+is_whole_law (inf _) z v = elim v [ ]
 is_whole_law (fin s m e) z v = (
   ap (λ (k : ℕ). nat_eq (k % down e) 0) v.1 ∙ ap (λ (k : ℕ). nat_eq k 0) (mul-mod_left v.0 (down e)),
   ap (λ (k : ℕ). signed s (k / down e)) v.1 ∙ ap (λ (k : ℕ). signed s k) (mul-div_cancel v.0 (down_pos e)) ∙ v.2,

@@ -1,4 +1,6 @@
 // A vertex in doubles: taken as a scene's row, or refused.
+#![tactic(auto)]
+
 ghost use Rattle.std.specs.Prelude.{◌≡◌};
 ghost use Rattle.doubles.specs.Taken.{fault_number, fault_place, taken_by, taken_of};
 
