@@ -1,4 +1,6 @@
 // Whether a scene is clean: no four different points of it lie in one plane.
+#![tactic(auto)]
+
 ghost use Rattle.std.specs.Prelude.{◌≡◌, ◌+◌, ◌≤◌};
 ghost use Rattle.laws.specs.Range.{any_of};
 ghost use Rattle.scene.specs.Limits.{limits, most_points};
