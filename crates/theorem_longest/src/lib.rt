@@ -1,1 +1,3 @@
+#![tactic(auto)]
+
 // How long a listing can be, stated and proved: theorems only, so nothing runs here.
