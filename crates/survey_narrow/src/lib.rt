@@ -1,5 +1,7 @@
 // The mask of an edge by fewer questions still: a face whose corners lie on one side of a face at the edge is not pierced, and is not asked
 // about.
+#![tactic(auto)]
+
 ghost use Rattle.std.specs.Prelude.{◌≡◌, ◌+◌, ◌*◌, ◌≤◌};
 ghost use Rattle.scene.specs.Limits.{limits, most_points};
 ghost use Rattle.scene.specs.Arrays.{row_in, face_in, AllWithin, FacesWithin};
