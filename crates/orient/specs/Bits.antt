@@ -10,9 +10,8 @@ use Rattle.scene.specs.declared.Row.{Row}
 use Rattle.orient.specs.Terms.{factor, is_plus, tied, orientation, point_at, c0_at, c1_at, positive_at}
 use Rattle.orient.specs.Minors.{minor_of, alternating_of, det_of_lines}
 use Rattle.orient.specs.Laws.{factor_weight}
-use Rattle.orient.specs.Columns.{part_of}
 use Rattle.orient.specs.Formed.{most_formed, times_size, sum_size, minor_size, alternating_size, det_of_lines_size}
-use Rattle.orient.specs.Sizes.{Within, AreWithin, part_size, part_size_law, part_fits, factor_size}
+use Rattle.orient.specs.Sizes.{Within, factor_size}
 use Rattle.orient.specs.declared.minors.Line.{Line}
 use Rattle.orient.specs.declared.Point.{Point}
 
@@ -140,28 +139,10 @@ module _ {p : Point} (v : Within limits p) where
     pub factor_held : Held limits.most_weight r (factor p.w)
     factor_held = formed (e ∙ ap factor (reads v.w (lit< tt))) (factor_size (lit≤ tt) v.w) (lit< tt)
 
-    module _ {s : ℤ} (es : s ≡ reread r *ℤ reread p.n) where
-      pub shift1 : Held (limits.most_weight * most_points limits) s (factor p.w *ℤ p.n)
-      shift1 = multiplied factor_held number (lit≤ tt) es
-
-      module _ {t : ℤ} (et : t ≡ reread s *ℤ reread p.n) where
-        pub shift2 : Held (limits.most_weight * most_points limits * most_points limits) t (factor p.w *ℤ p.n *ℤ p.n)
-        shift2 = multiplied shift1 number (lit≤ tt) et
-
-        pub shift3 : {u : ℤ} → u ≡ reread t *ℤ reread p.n →
-            Held (limits.most_weight * most_points limits * most_points limits * most_points limits) u (factor p.w *ℤ p.n *ℤ p.n *ℤ p.n)
-        shift3 = multiplied shift2 number (lit≤ tt)
-
 -- ---- a test of two numbers, by their bits
 
 pub less_read : {x y : ℤ} {b : Bool} → SFits w64 x → SFits w64 y → lt_z (reread x) (reread y) ≡ b → b ≡ lt_z x y
 less_read p q e = sym e ∙ (λ i. lt_z (read p i) (read q i))
-
--- ---- a determinant that `part` gave
-
-pub part_held : {r : ℤ} {a b c d : Point} (sx sy sz : Bool) → AreWithin limits a b c d → r ≡ part_of a b c d sx sy sz →
-    Held (part_size limits sx sy sz) r (part_of a b c d sx sy sz)
-part_held sx sy sz v e = formed e (part_size_law limits (lit≤ tt) v sx sy sz) (room (part_fits sx sy sz))
 
 -- ---- the tests of a sign
 

@@ -1,14 +1,13 @@
 -- How large the four terms are, and each number formed on the way to them: over the limits as symbols, and read off at the limits of a
 -- scene. Assumes nothing.
-use Rattle.std.specs.Prelude.{◌≡◌, Bool, true, false, cond, ℕ, zero, suc, ◌+◌, ◌*◌, ◌^◌, ◌≤◌, ℤ, pos, negsuc}
-use Rattle.std.proofs.Common.{mul-le-mul, pow-suc, arith, lit≤}
-use Rattle.std.proofs.Math.Nat.{pow-zero}
-use Rattle.laws.specs.Size.{Small, ◌⊗◌, ◌⊕◌, below}
+use Rattle.std.specs.Prelude.{Bool, true, false, cond, ℕ, zero, suc, ◌+◌, ◌*◌, ◌^◌, ◌≤◌, ℤ, pos, negsuc}
+use Rattle.std.proofs.Common.{mul-le-mul, arith, lit≤}
+use Rattle.laws.specs.Size.{Small, ◌⊗◌}
 use Rattle.scene.specs.Limits.{Limits, limits, most_points}
 use Rattle.scene.specs.Arrays.{RowWithin, AllWithin}
 use Rattle.scene.specs.declared.Row.{Row}
-use Rattle.orient.specs.Terms.{factor, c0, c1, c2, c3, point_at}
-use Rattle.orient.specs.Columns.{row_of, part_of, c0_parts, c1_parts, c2_parts, c3_parts}
+use Rattle.orient.specs.Terms.{factor, point_at}
+use Rattle.orient.specs.Columns.{row_of, part_of}
 use Rattle.orient.specs.Formed.{most_formed, DetWithin, RowSize, Some, det_size, det_within, det_size_law}
 use Rattle.orient.specs.declared.Point.{Point}
 
@@ -39,38 +38,6 @@ cond_small false p q = q
 cond_some : {A B : ℕ} (s : Bool) → 1 ≤ A → 1 ≤ B → 1 ≤ cond s A B
 cond_some true p q = p
 cond_some false p q = q
-
-module _ (n : ℕ) where
-  square : n ^ 2 ≡ n * n
-  square = rw (pow-suc n 1, pow-suc n 0, pow-zero n) (omega arith)
-
-  cube : n ^ 3 ≡ n * n * n
-  cube = rw (pow-suc n 2, square)
-
-  fourth : n ^ 4 ≡ n * n * n * n
-  fourth = rw (pow-suc n 3, cube)
-
-  fifth : n ^ 5 ≡ n * n * n * n * n
-  fifth = rw (pow-suc n 4, fourth)
-
-  sixth : n ^ 6 ≡ n * n * n * n * n * n
-  sixth = rw (pow-suc n 5, fifth)
-
-module _ (C W n : ℕ) where
-  powers0 : 24 * (C * C * C * W) ≡ 24 * (C ^ 3 * W)
-  powers0 = rw cube (omega arith)
-
-  powers1 : 24 * (W * n * C * C * W) + 24 * (C * (W * n * n) * C * W) + 24 * (C * C * (W * n * n * n) * W)
-      ≡ 24 * (C ^ 2 * W ^ 2 * (n ^ 3 + n ^ 2 + n))
-  powers1 = simp (square, cube) (omega arith)
-
-  powers2 :
-      24 * (W * n * (W * n * n) * C * W) + 24 * (W * n * C * (W * n * n * n) * W) + 24 * (C * (W * n * n) * (W * n * n * n) * W)
-      ≡ 24 * (C * W ^ 3 * (n ^ 5 + n ^ 4 + n ^ 3))
-  powers2 = simp (cube, fourth, fifth) (omega arith)
-
-  powers3 : 24 * (W * n * (W * n * n) * (W * n * n * n) * W) ≡ 24 * (W ^ 4 * n ^ 6)
-  powers3 = simp (fourth, sixth) (omega arith)
 
 module _ (l : Limits) where
   abbrev C : ℕ
@@ -106,18 +73,6 @@ module _ (l : Limits) where
 
   abbrev pub size3 : ℕ
   size3 = 24 * (W ^ 4 * n ^ 6)
-
-  of_size0 : part_size false false false ≡ size0
-  of_size0 = powers0 C W n
-
-  of_size1 : part_size true false false + part_size false true false + part_size false false true ≡ size1
-  of_size1 = powers1 C W n
-
-  of_size2 : part_size true true false + part_size true false true + part_size false true true ≡ size2
-  of_size2 = powers2 C W n
-
-  of_size3 : part_size true true true ≡ size3
-  of_size3 = powers3 C W n
 
   pub row_size : {p : Point} (sx sy sz : Bool) → 1 ≤ W → Within l p → RowSize (X sx) (Y sy) (Z sz) W (row_of p sx sy sz)
   row_size sx sy sz hw v =
@@ -155,18 +110,6 @@ module _ (l : Limits) where
         det_size_law _ _ _ _ (row_size sx sy sz hw v.0) (row_size sx sy sz hw v.1) (row_size sx sy sz hw v.2)
         (row_size sx sy sz hw v.3)
 
-    pub c0_size : Small size0 (c0 a b c d)
-    c0_size = rw (c0_parts, ← of_size0) (part_size_law false false false)
-
-    pub c1_size : Small size1 (c1 a b c d)
-    c1_size = rw (c1_parts, ← of_size1) (part_size_law true false false ⊕ part_size_law false true false ⊕ part_size_law false false true)
-
-    pub c2_size : Small size2 (c2 a b c d)
-    c2_size = rw (c2_parts, ← of_size2) (part_size_law true true false ⊕ part_size_law true false true ⊕ part_size_law false true true)
-
-    pub c3_size : Small size3 (c3 a b c d)
-    c3_size = rw (c3_parts, ← of_size3) (part_size_law true true true)
-
 -- ---- at the limits of a scene
 
 pub part_fits : (sx sy sz : Bool) → part_size limits sx sy sz ≤ most_formed
@@ -178,22 +121,6 @@ part_fits false true true = lit≤ tt
 part_fits false true false = lit≤ tt
 part_fits false false true = lit≤ tt
 part_fits false false false = lit≤ tt
-
-pub terms_formed : {a b c d : Point} → AreWithin limits a b c d →
-    Small most_formed (c0 a b c d) × Small most_formed (c1 a b c d) × Small most_formed (c2 a b c d) × Small most_formed (c3 a b c d)
-terms_formed v = (
-  below (c0_size limits (lit≤ tt) v) (lit≤ tt),
-  below (c1_size limits (lit≤ tt) v) (lit≤ tt),
-  below (c2_size limits (lit≤ tt) v) (lit≤ tt),
-  below (c3_size limits (lit≤ tt) v) (lit≤ tt),
-)
-
-det_below : {j k : ℕ} {a b c d : Row} → j ≤ k → DetWithin j a b c d → DetWithin k a b c d
-det_below h v = omega arith
-
-pub part_formed : {a b c d : Point} (sx sy sz : Bool) → AreWithin limits a b c d →
-    DetWithin most_formed (row_of a sx sy sz) (row_of b sx sy sz) (row_of c sx sy sz) (row_of d sx sy sz)
-part_formed sx sy sz v = det_below (part_fits sx sy sz) (part_within limits (lit≤ tt) v sx sy sz (lit≤ tt))
 
 pub point_within : (l : Limits) (row : ℕ → Row) (i : ℕ) → RowWithin l (row i) → i ≤ most_points l → Within l (point_at row i)
 point_within l row i h k = omega arith

@@ -1,13 +1,11 @@
 -- The shift with a whole number in place of the infinitesimal: where e is 1/N, the shifted row times N in its coordinates is a row of whole
 -- numbers, and the determinant of four such rows is N³c0 + N²c1 + N·c2 + c3. Assumes nothing.
-use Rattle.std.specs.Prelude.{◌≡◌, [], ◌∷◌, ℕ, suc, ◌≤◌, ℤ, pos, nat_abs, ◌+ℤ◌, ◌*ℤ◌}
-use Rattle.laws.specs.Ring.{Expr, ring, env}
+use Rattle.std.specs.Prelude.{◌≡◌, [], ◌∷◌, ℕ, ◌≤◌, ℤ, nat_abs, ◌+ℤ◌, ◌*ℤ◌}
+use Rattle.laws.specs.Ring.{Expr, ring}
 use Rattle.laws.specs.Ring.Expr.{var, ◌⊕◌, ◌⊗◌}
-use Rattle.laws.specs.Sign.{sign}
-use Rattle.laws.specs.Sign as signs
 use Rattle.scene.specs.declared.Row.{Row}
 use Rattle.orient.specs.Determinant.{Entries, det4}
-use Rattle.orient.specs.Terms.{Numbered, numbered, terms, c0, c1, c2, c3, orientation}
+use Rattle.orient.specs.Terms.{Numbered, numbered, terms, c0, c1, c2, c3}
 use Rattle.orient.specs.Variables.{P, Q, S, U, points, det, t_of}
 use Rattle.orient.specs.declared.Point.{Point}
 
@@ -42,19 +40,8 @@ by_powers N a b c d =
     ring (points a b c d (N ∷ [])) (M ⊗ M ⊗ M ⊗ t.e0 ⊕ M ⊗ M ⊗ t.e1 ⊕ M ⊗ t.e2 ⊕ t.e3)
     (det (multiple ◌⊕◌ ◌⊗◌ M P) (multiple ◌⊕◌ ◌⊗◌ M Q) (multiple ◌⊕◌ ◌⊗◌ M S) (multiple ◌⊕◌ ◌⊗◌ M U)) tt
 
-nested : (N p q r s : ℤ) → ((p *ℤ N +ℤ q) *ℤ N +ℤ r) *ℤ N +ℤ s ≡ N *ℤ N *ℤ N *ℤ p +ℤ N *ℤ N *ℤ q +ℤ N *ℤ r +ℤ s
-nested N p q r s =
-    ring (env (N ∷ p ∷ q ∷ r ∷ s ∷ [])) (((var 1 ⊗ var 0 ⊕ var 2) ⊗ var 0 ⊕ var 3) ⊗ var 0 ⊕ var 4)
-    (var 0 ⊗ var 0 ⊗ var 0 ⊗ var 1 ⊕ var 0 ⊗ var 0 ⊗ var 2 ⊕ var 0 ⊗ var 3 ⊕ var 4) tt
-
 -- no term but the first exceeds m
 pub record TermsUpto (m : ℕ) (a b c d : Point) : Type 0 where
   pub c1 : nat_abs (c1 a b c d) ≤ m
   pub c2 : nat_abs (c2 a b c d) ≤ m
   pub c3 : nat_abs (c3 a b c d) ≤ m
-
--- above them, the determinant has the sign of the terms
-pub whole_sign : (m : ℕ) (a b c d : Point) → TermsUpto m a b c d → sign (whole_det (pos (suc m)) a b c d) ≡ orientation a b c d
-unfolding orientation
-whole_sign m a b c d h =
-    rw (← by_powers, ← nested) (signs.shifted m (c0 a b c d) (c1 a b c d) (c2 a b c d) (c3 a b c d) h.c1 h.c2 h.c3)

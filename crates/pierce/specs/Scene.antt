@@ -8,7 +8,7 @@ use Rattle.scene.specs.declared.Row.{Row}
 use Rattle.scene.specs.declared.Face.{Face}
 use Rattle.orient.specs.Terms.{positive_at}
 use Rattle.orient.specs.Weighted.{Weighted}
-use Rattle.orient.specs.Rules.{rules}
+use Rattle.orient.proofs.Rules.{rules}
 use Rattle.orient.specs.Signs.{Upto}
 use Rattle.pierce.specs.Formula.{pierced}
 use Rattle.pierce.specs.Helper.{Five}

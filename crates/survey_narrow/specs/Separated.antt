@@ -9,7 +9,7 @@ use Rattle.laws.specs.Bools.{◌⊕◌, all, ◌⇒◌, ◌≐◌, law, right}
 use Rattle.scene.specs.Faces.{Corner, Vertex, FaceOf}
 use Rattle.scene.specs.declared.Row.{Row}
 use Rattle.scene.specs.declared.Face.{Face}
-use Rattle.orient.specs.Rules.{rules}
+use Rattle.orient.proofs.Rules.{rules}
 use Rattle.orient.specs.Signs.{Upto, mixed, ne_sym}
 use Rattle.orient.specs.Terms.{positive_at}
 use Rattle.orient.specs.Weighted.{Weighted}

@@ -11,7 +11,7 @@ use Rattle.laws.specs.Mask.{mask_of, xor_masks, mask_same}
 use Rattle.scene.specs.Limits.{limits}
 use Rattle.scene.specs.declared.Row.{Row}
 use Rattle.scene.specs.declared.Face.{Face}
-use Rattle.orient.specs.Rules.{rules}
+use Rattle.orient.proofs.Rules.{rules}
 use Rattle.orient.specs.Signs.{mixed, ne_sym}
 use Rattle.orient.specs.Terms.{positive_at}
 use Rattle.orient.specs.Weighted.{Weighted, SignDefined}

@@ -11,7 +11,7 @@ use Rattle.scene.specs.declared.Row.{Row}
 use Rattle.scene.specs.declared.Face.{Face}
 use Rattle.orient.specs.Determinant.{det4}
 use Rattle.orient.specs.Signs.{Upto, Four, ne_sym, mixed}
-use Rattle.orient.specs.Rules.{rules}
+use Rattle.orient.proofs.Rules.{rules}
 use Rattle.orient.specs.Terms.{c0, is_plus, point_at, positive_at}
 use Rattle.orient.specs.Weighted.{Weighted}
 use Rattle.pierce.specs.Beside.{Beside}

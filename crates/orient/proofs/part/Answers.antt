@@ -3,7 +3,7 @@ use mathlib.Core.Path.{◌∙◌}
 use Rattle.laws.specs.Size.{called}
 use Rattle.orient.specs.Determinant.{det4}
 use Rattle.orient.specs.Columns.{part_of}
-use Rattle.orient.specs.Sizes.{part_formed}
+use Rattle.orient.proofs.Sizes.{part_formed}
 use Rattle.orient.proofs.part.Goals as goal
 
 pub det-requires : goal.det-requires

@@ -4,7 +4,8 @@ use mathlib.Core.Path.{◌∙◌}
 use mathlib.Core.Bool.{cond}
 use lib.Dec.{lit<, lit≤}
 use Rattle.laws.specs.Size.{kept, reads, called}
-use Rattle.orient.specs.Bits.{times_ask, number, factor_held, shift1, shift2, shift3}
+use Rattle.orient.specs.Bits.{times_ask, number, factor_held}
+use Rattle.orient.proofs.Bits.{shift1, shift2, shift3}
 use Rattle.orient.proofs.shifted.Goals as goal
 
 pub times-s-requires : goal.times-s-requires

@@ -4,7 +4,7 @@ use mathlib.Core.Bool.{false}
 use Rattle.laws.specs.Size.{called}
 use Rattle.orient.specs.Determinant.{det4}
 use Rattle.orient.specs.Columns.{part_of, c0_parts}
-use Rattle.orient.specs.Sizes.{part_formed}
+use Rattle.orient.proofs.Sizes.{part_formed}
 use Rattle.orient.proofs.term0.Goals as goal
 
 pub det-requires : goal.det-requires

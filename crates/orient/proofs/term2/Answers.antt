@@ -5,7 +5,8 @@ use mathlib.Core.Bool.{true, false}
 use lib.Dec.{lit≤}
 use Rattle.orient.specs.Ones.{ones_are}
 use Rattle.orient.specs.Columns.{c2_parts}
-use Rattle.orient.specs.Bits.{part_held, sum_ask, summed}
+use Rattle.orient.specs.Bits.{sum_ask, summed}
+use Rattle.orient.proofs.Bits.{part_held}
 use Rattle.orient.proofs.term2.Goals as goal
 
 pub term2-requires : goal.term2-requires

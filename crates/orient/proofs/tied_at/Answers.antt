@@ -2,7 +2,7 @@
 use Rattle.scene.specs.Limits.{limits}
 use Rattle.scene.specs.Arrays.{row_in}
 use Rattle.orient.specs.Sizes.{points_within}
-use Rattle.orient.specs.Weighted.{slide_tells}
+use Rattle.orient.proofs.Weighted.{slide_tells}
 use Rattle.orient.specs.Bits.{tie_tells}
 use Rattle.orient.proofs.tied_at.Goals as goal
 

@@ -7,7 +7,7 @@ use Rattle.scene.specs.Tables.{tables_of, row}
 use Rattle.judge.specs.Judge.{judged}
 use Rattle.judge.specs.declared.Judged.TheVariants.{Accepted}
 use Rattle.rules.proofs.Given.{counts}
-use Rattle.orient.specs.Rules.{rules}
+use Rattle.orient.proofs.Rules.{rules}
 use Rattle.orient.specs.Signs.{Upto, Rules}
 use Rattle.pierce.specs.Five.{any_helper, by_helper}
 use Rattle.pierce.specs.Formula.{pierces}

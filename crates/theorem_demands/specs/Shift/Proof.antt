@@ -14,10 +14,12 @@ use Rattle.rules.proofs.Given.{rows_within}
 use Rattle.orient.specs.Columns.{part_of, c0_parts}
 use Rattle.orient.specs.Formed.{most_formed}
 use Rattle.orient.specs.Signs.{Upto, Four}
-use Rattle.orient.specs.Sizes.{points_within, terms_formed}
+use Rattle.orient.specs.Sizes.{points_within}
+use Rattle.orient.proofs.Sizes.{terms_formed}
 use Rattle.orient.specs.Terms.{tied, orientation, is_plus, point_at, positive_at}
-use Rattle.orient.specs.Weighted.{oriented}
-use Rattle.orient.specs.Whole.{whole_det, TermsUpto, whole_sign}
+use Rattle.orient.proofs.Weighted.{oriented}
+use Rattle.orient.specs.Whole.{whole_det, TermsUpto}
+use Rattle.orient.proofs.Whole.{whole_sign}
 use Rattle.questions.specs.Answers.{mask_in}
 use Rattle.survey_scene.specs.Ready.{rows_fit, scene_weighted, outside_beside, sound}
 use Rattle.theorem_demands.specs.Words.Solids.{vertex_of}

@@ -9,7 +9,7 @@ use Rattle.scene.specs.View.{view_of, points}
 use Rattle.orient.specs.Laws.{psi, c3_psi}
 use Rattle.orient.specs.Signs.{Upto, Four}
 use Rattle.orient.specs.Terms.{is_plus, orientation, terms, point_at, positive_at, terms_at}
-use Rattle.orient.specs.Weighted.{c3_nonzero, slide_tells}
+use Rattle.orient.proofs.Weighted.{c3_nonzero, slide_tells}
 use Rattle.survey_scene.specs.Ready.{scene_weighted}
 use Rattle.theorem_demands.specs.Sign as said
 use Rattle.theorem_demands.specs.Sign.{Positive, Negative}

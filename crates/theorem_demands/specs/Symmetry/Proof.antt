@@ -4,7 +4,7 @@ use Rattle.std.proofs.Common.{sym, ◌∙◌}
 use Rattle.laws.specs.Bools.{all, ◌≐◌, law}
 use Rattle.scene.specs.View.{view_of, points}
 use Rattle.scene.specs.declared.Face.{Face}
-use Rattle.orient.specs.Rules.{rules}
+use Rattle.orient.proofs.Rules.{rules}
 use Rattle.orient.specs.Signs.{Upto, Rules, ne_sym}
 use Rattle.orient.specs.Terms.{positive_at}
 use Rattle.pierce.specs.Beside.{Beside}

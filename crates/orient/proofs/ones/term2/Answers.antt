@@ -3,7 +3,7 @@ use mathlib.Core.Path.{◌∙◌}
 use mathlib.Core.Bool.{true, false}
 use lib.Dec.{lit≤}
 use Rattle.orient.specs.Bits.{sum_ask, summed}
-use Rattle.orient.specs.Ones.{c2_seen}
+use Rattle.orient.proofs.OnesTerms.{c2_seen}
 use Rattle.orient.specs.OnesSizes.{seen_held}
 use Rattle.orient.proofs.ones.term2.Goals as goal
 
