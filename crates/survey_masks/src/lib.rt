@@ -1,4 +1,6 @@
 // The edges of a solid in the order of the listing, each with its mask against the other solid, worked out once into a lent table.
+#![tactic(auto)]
+
 ghost use Rattle.std.specs.Prelude.{◌≡◌, ◌+◌, ◌*◌, ◌<◌, ◌≤◌, length};
 ghost use Rattle.pierce_masks.specs.Faces.{value_of};
 ghost use Rattle.scene.specs.Faces.{Vertex};
