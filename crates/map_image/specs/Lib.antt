@@ -4,4 +4,3 @@ pub mod Columns
 pub mod Tests
 pub mod Ready
 pub mod Filling
-pub mod Faults

@@ -1,4 +1,6 @@
 // Scenes mapped by a 4×4 table of whole numbers.
+#![tactic(auto)]
+
 ghost use Rattle.std.specs.Prelude.{◌≡◌};
 ghost use Rattle.map_image.specs.Image.{fault_number, fault_place};
 
@@ -8,7 +10,7 @@ pub mod image;
 mod rows;
 
 // The table: the row that x is multiplied with, then those of y, of z and of w.
-#[derive(Drop)]
+#[derive(Clone, Copy)]
 pub struct Map {
     pub x: Row,
     pub y: Row,
@@ -22,7 +24,7 @@ impl Map {
 }
 
 // Why there is no image: a refusal of the scene or of its image, 17 for an entry of the table, 18 for its determinant.
-#[derive(Drop)]
+#[derive(Clone, Copy)]
 pub enum Fault {
     Scene(Refusal),
     Entry,
