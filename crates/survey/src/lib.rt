@@ -1,4 +1,6 @@
 // The survey of a scene: everything of it is worked out once, and all answers are read off tables.
+#![tactic(auto)]
+
 ghost use Rattle.survey_sides.specs.Lent.{SidesFilled};
 ghost use Rattle.survey_narrow.specs.Lent.{Separated};
 ghost use Rattle.questions.specs.Hits.{view_in};
@@ -19,14 +21,14 @@ use survey_sides::planes::Planes;
 pub mod answers;
 
 // Of one solid: how many edges it has, and the word of its enclosed vertices.
-#[derive(Drop)]
+#[derive(Clone, Copy)]
 pub struct SolidSurvey {
     pub edges: usize,
     pub inside: u64,
 }
 
 // Of both.
-#[derive(Drop)]
+#[derive(Clone, Copy)]
 pub struct Survey {
     pub a: SolidSurvey,
     pub b: SolidSurvey,
