@@ -1,1 +1,2 @@
 // That a drawing reads back: theorems only.
+#![tactic(auto)]

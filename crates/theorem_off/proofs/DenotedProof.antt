@@ -40,7 +40,7 @@ use Rattle.off_scene.specs.declared.Made.TheVariants.{Scene, Refused}
 use Rattle.off_scene.proofs.scene_of.Reads as scene-of
 use Rattle.theorem_off.specs.Denoted.{long_in, CountsIn, GroundsIn, Lacks, Fits, Formed, IsScene}
 use Rattle.theorem_off.specs.Capped.{tables_kept}
-use Rattle.theorem_off.specs.Grounds.{file_of, va, vb, fa, fb, judged_accepted, judged_refused}
+use Rattle.theorem_off.proofs.Grounds.{file_of, va, vb, fa, fb, judged_accepted, judged_refused}
 
 -- ---- a text's reading comes first
 

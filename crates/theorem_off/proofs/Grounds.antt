@@ -8,7 +8,7 @@ use Rattle.std.proofs.Math.ListN.{get_or}
 use Rattle.std.proofs.lemmas.List.{length-map}
 use Rattle.laws.specs.Lists.{Each, Some, run_each}
 use Rattle.scene.specs.Limits.{limits, least_weight}
-use Rattle.scene.specs.Records.{verts_a, verts_b, faces_in_a, faces_in_b, faces, face_record}
+use Rattle.scene.specs.Records.{verts_a, verts_b, faces_in_a, faces_in_b, face_record}
 use Rattle.scene.specs.Tables.{Tables, size, no_face, row_at, face_at, tables_of}
 use Rattle.scene.specs.Faces.{Corner, FaceOf, Sides, EdgeOk}
 use Rattle.scene.specs.declared.Face.{Face}
