@@ -4,7 +4,7 @@ pub mod Numbers
 pub mod Exact
 pub mod Parity
 pub mod Said
-pub mod Contracts
+pub mod Promised
 pub mod Surveys
 pub mod Once
 pub mod Sign

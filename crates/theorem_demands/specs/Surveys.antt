@@ -1,5 +1,5 @@
--- The demands speak of the code (`Contracts`), of the functions too that survey a scene once and read answers off its tables: what each
--- one's own contract says, in the demands' words. Arguments are written as in `Contracts`. The statement is `Surveys`, at the end; its
+-- The demands speak of the code (`Promised`), of the functions too that survey a scene once and read answers off its tables: what each
+-- one's own contract says, in the demands' words. Arguments are written as in `Promised`. The statement is `Surveys`, at the end; its
 -- proof is `Surveys.Proof.surveys`. Assumes nothing.
 pub mod Edges
 pub mod Inside

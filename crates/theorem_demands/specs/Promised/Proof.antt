@@ -17,7 +17,7 @@ use Rattle.questions.specs.declared.Surveyed.{Surveyed}
 use Rattle.questions.specs.declared.Surveyed.TheVariants as surveyed
 use Rattle.questions.specs.declared.Verdict.TheVariants as verdicts
 use Rattle.survey_scene.specs.Facts.{facts_in, IsSurvey}
-use Rattle.theorem_demands.specs.Contracts.{AtOnce, Contracts, SaysSame}
+use Rattle.theorem_demands.specs.Promised.{AtOnce, Contracts, SaysSame}
 use Rattle.theorem_demands.specs.Surveys.Inside.{are_words}
 
 -- ---- everything at once
