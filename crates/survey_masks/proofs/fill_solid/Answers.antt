@@ -2,7 +2,7 @@ use mathlib.Core.Path.{◌≡◌}
 use native.Mathlib.Omega.{arith}
 use Rattle.questions.specs.Hits.{view_in}
 use Rattle.survey_edges.specs.Edges.{solid_edges}
-use Rattle.survey_edges.specs.Room.{room}
+use Rattle.survey_edges.proofs.Room.{room}
 use Rattle.survey_masks.specs.Store.{filled_none, filled_more}
 use Rattle.survey_masks.proofs.fill_solid.Goals as goal
 
