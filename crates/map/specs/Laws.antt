@@ -9,7 +9,7 @@ use Rattle.scene.specs.declared.Row.{Row}
 use Rattle.map_image.specs.declared.Map.{Map}
 use Rattle.map_image.specs.declared.Imaged.{Imaged}
 use Rattle.map_image.specs.declared.Imaged.TheVariants.{Written}
-use Rattle.map_image.specs.Faults.{wrote}
+use Rattle.map_image.proofs.Faults.{wrote}
 use Rattle.map_image.specs.Image.{IsImage, image_bytes, image_row}
 use Rattle.map_image.specs.Filling.{filled_length}
 use Rattle.cli_words.specs.declared.Word.{Word}

@@ -27,7 +27,7 @@ use Rattle.map_image.specs.declared.Fault.{Fault}
 use Rattle.map_image.specs.declared.Imaged.TheVariants as imaged
 use Rattle.map_image.specs.Mapped.{mapped, determinant_of}
 use Rattle.map_image.specs.Image.{fault_number, entries_ok, row_fault, point_fault, rows_fault, image_fault, said_of}
-use Rattle.map_image.specs.Faults.{fault_entry, fault_singular, fault_row, fault_room, fault_none}
+use Rattle.map_image.proofs.Faults.{fault_entry, fault_singular, fault_row, fault_room, fault_none}
 use Rattle.theorem_lecture.specs.Lecture.{rows_of, points_of, MappedBy, Fourteen}
 use Rattle.theorem_lecture.specs.Somewhere.{image_somewhere}
 

@@ -29,7 +29,7 @@ use Rattle.map_image.specs.Mapped.{mapped, determinant_of}
 use Rattle.map_image.specs.Image.{image_row, image_bytes}
 use Rattle.map_image.specs.Filling.{filled_length}
 use Rattle.map_image.specs.Ready.{point_room, rows_in, row_fits}
-use Rattle.map_image.specs.Faults.{Passed, regular_is}
+use Rattle.map_image.proofs.Faults.{Passed, regular_is}
 use Rattle.theorem_lecture.specs.Lecture.{MappedBy}
 use Rattle.theorem_lecture.specs.Rerowed.{same_shape}
 use Rattle.theorem_lecture.specs.Somewhere.{image_somewhere}

@@ -23,7 +23,7 @@ use Rattle.clean.specs.Answers.{clean_exactly}
 use Rattle.clean.specs.Clean.{Clean}
 use Rattle.map_image.specs.Mapped.{determinant_of}
 use Rattle.map_image.specs.Image.{image_bytes}
-use Rattle.map_image.specs.Faults.{wrote, regular_is}
+use Rattle.map_image.proofs.Faults.{wrote, regular_is}
 use Rattle.theorem_lecture.specs.Turned.{pierced_turned}
 use Rattle.theorem_lecture.specs.Signs.{image_clean, image_turned}
 use Rattle.theorem_lecture.specs.Scaled.{sign_scaled}
