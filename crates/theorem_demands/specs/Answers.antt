@@ -2,8 +2,6 @@
 -- 12)", "11 comes before 12", and "Each number carries its place and nothing else": for each question, the refusals that it can give and
 -- for each of them exactly when, nothing earlier in the order being at fault. The statement is `Answers`; its proof is
 -- `Answers.Proof.answers`. In numbers and places it is `Numbers`. Assumes nothing.
-pub mod Tests
-pub mod Proof
 use Rattle.std.specs.Prelude.{◌≡◌, ◌⊎◌, ◌↔◌, List, [], ℕ, ◌*◌, ◌<◌, length}
 use Rattle.scene.specs.Limits.{limits}
 use Rattle.scene.specs.Refusal.{number_of}

@@ -2,7 +2,6 @@
 -- signs answer as the formula does, and the formula answers alike for every helper. The contract of `pierce_plain::pierces` is the five
 -- signs. By the contracts of all that is asked of either engine, two calls about the same bytes, each by its own engine, have one answer
 -- (`OneAnswer`). Assumes nothing.
-pub mod Proof
 use Rattle.std.specs.Prelude.{◌≡◌, Bool, List, ℕ, ◌+◌}
 use Rattle.scene.specs.Records.{verts}
 use Rattle.scene.specs.Tables.{tables_of, row}

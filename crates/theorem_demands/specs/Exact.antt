@@ -1,11 +1,6 @@
 -- Demand 2: "acceptance, verdict, list and counts equal the definition". Accepted exactly when the written rules hold; the sign, piercing,
 -- the mask, enclosure, the verdict, the listing and the counts exactly as document 01 says them, over all edges, faces and vertices of both
 -- solids. The statement is `Exact`, at the end; its proof is `Exact.Proof.exact`. Assumes nothing.
-pub mod Listing
-pub mod Pairs
-pub mod Mask
-pub mod Verdict
-pub mod Proof
 use Rattle.std.specs.Prelude.{◌≡◌, ◌⊎◌, ◌↔◌, Bool, true, cond, List, ◌∷◌, ◌++◌, ℕ, ◌+◌, ◌-◌, ◌*◌, ◌^◌, ◌%◌, ◌≤◌, ◌<◌, leb, length, drop}
 use Rattle.laws.specs.Lists.{Some, Number, run}
 use Rattle.laws.specs.Mask.{test_bit}

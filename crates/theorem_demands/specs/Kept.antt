@@ -1,7 +1,6 @@
 -- What the change requests left as it was: scenes accepted before, by what the definitions were, are accepted still, with the same answers.
 -- Assumes nothing.
 pub mod Before
-pub mod Proof
 use Rattle.std.specs.Prelude.{◌≡◌, Bool, List, ℕ, ◌+◌, ◌≤◌, ◌<◌, ℤ, pos, ◌+ℤ◌, ◌-ℤ◌, ◌*ℤ◌, length}
 use Rattle.laws.specs.Lists.{Number}
 use Rattle.scene.specs.Limits.{limits, limits_before}

@@ -2,7 +2,6 @@
 -- 6, each has two faces on the same three corners, and the far point is 7. Assumes nothing.
 pub mod Scenes
 pub mod Computing
-pub mod Proof
 use Rattle.std.specs.Prelude.{◌≡◌, Bool, true, false, List, [], ◌∷◌, ℕ, zero, suc, ℤ, pos, negsuc}
 use Rattle.scene.specs.Tables.{tables_of, face}
 use Rattle.scene.specs.declared.Row.{Row}

@@ -1,7 +1,5 @@
 -- Demand 1, in numbers and places: the refusal numbers of each question, the scene's and its own. No other is given, and each of these is,
 -- for some bytes and some numbers. And the places of a question's own. The proof is `Numbers.Proof`. Assumes nothing.
-pub mod Given
-pub mod Proof
 use Rattle.std.specs.Prelude.{◌≡◌, List, [], ◌∷◌, ◌++◌, ℕ}
 use Rattle.laws.specs.Lists.{Each, Some}
 use Rattle.scene.specs.Refusal.{number_of, place_of}

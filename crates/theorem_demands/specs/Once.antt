@@ -2,7 +2,6 @@
 -- second answer, nor second contents of a lent place. Bytes that are shown are said by what they hold, an array is as long as its type
 -- says, and the words of a mask are below 2 ^ 64 as theirs says. The tables lent to a survey are determined up to the edges that it counts.
 -- `limits_agree` answers nothing. Assumes nothing.
-pub mod Proof
 use Rattle.std.specs.Prelude.{◌≡◌, Bool, List, ℕ, ◌*◌, ◌^◌, ◌<◌, ℤ, length, get_or}
 use Rattle.std.specs.Int.Count.{ones}
 use Rattle.laws.specs.Unique.{Once}

@@ -2,7 +2,6 @@
 -- of that solid: the ones of the three masks add up to an even number. And the route: the oddness from u to v is that from u to w plus that
 -- from v to w. The same is said of the numbers of pierced faces. It holds with any limits; with this kernel's, the masks are those of the
 -- public question. Assumes nothing.
-pub mod Proof
 use Rattle.std.specs.Prelude.{◌≡◌, ◌≢◌, List, [], ◌∷◌, ℕ, ◌+◌, ◌%◌}
 use Rattle.std.specs.Int.Count.{ones}
 use Rattle.laws.specs.Bools.{◌⊕◌}

@@ -3,7 +3,6 @@
 -- `Exact`, `Parity` and `Once` are about. A contract that says less does not give it. The arguments are in the function's own order and by
 -- its own names, those with ' as they are at the exit; κs are its lifetimes, r is the answer, and e stands for all arguments at the exit.
 -- The statement is `Contracts`, at the end; its proof is `Promised.Proof.contracts`. Assumes nothing.
-pub mod Proof
 use Rattle.std.specs.Prelude.{◌≡◌, true, List, ◌↔◌, ℕ}
 use Rattle.scene.specs.declared.Refusal.{Refusal}
 use Rattle.judge.specs.Judge.{judged}

@@ -1,6 +1,5 @@
 -- What each answer enum says: the number of each of its cases, in the order of document 01's words with a refusal last, and the case's
 -- values. A refusal's values are its own number and its place. Assumes nothing.
-pub mod Proof
 use Rattle.std.specs.Prelude.{◌≡◌, cond, List, [], ◌∷◌, map, ℕ, ℤ, pos, negsuc}
 use Rattle.scene.specs.Refusal.{number_of, place_of}
 use Rattle.scene.specs.declared.Refusal.{Refusal}

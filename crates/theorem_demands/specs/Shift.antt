@@ -1,8 +1,6 @@
 -- The shift is real. For every accepted scene and every whole N above 3.5 × 10^18 the rows (N·x + k·i, N·y + k·i², N·z + k·i³, w), k the
 -- factor of the shift, have no zero determinant of four different points, and with the sign of that determinant they give the same signs,
 -- masks, enclosed vertices, listing and verdict as the scene does. Assumes nothing.
-pub mod Same
-pub mod Proof
 use Rattle.std.specs.Prelude.{◌≡◌, ◌≢◌, List, ℕ, ◌<◌, ℤ, pos, ◌+ℤ◌, ◌*ℤ◌}
 use Rattle.laws.specs.Sign.{sign}
 use Rattle.scene.specs.View.{View, view_of, points}

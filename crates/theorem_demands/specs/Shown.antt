@@ -1,7 +1,6 @@
 -- "Any one record can be shown: the answer is the part of the caller's own bytes from its mark to its last byte." Of every accepted scene:
 -- its records, end to end, are the file, and each has its kind's length and begins with its kind's mark. The statement is `Records`; its
 -- proof is `Shown.Proof.records`. Assumes nothing.
-pub mod Proof
 use Rattle.std.specs.Prelude.{◌≡◌, List, [], ◌++◌, ℕ, zero, suc, ◌+◌, ◌≤◌, ◌<◌, length}
 use Rattle.scene.specs.Bytes.{two_at}
 use Rattle.scene.specs.Records.{verts, last_record, marksc, markfp, markvx, markfc, marken}

@@ -1,7 +1,6 @@
 -- "The answer is the four terms and the sign of the first that is not zero", "c3 is the product of the four weights times Psi, and Psi =
 -- -(product of (later number - earlier number) over the six pairs), never 0", and the slide's rule for the last term: of every accepted
 -- scene and four different points of it. The statement is `Sign`; its proof is `Sign.Proof.signs`. Assumes nothing.
-pub mod Proof
 use Rattle.std.specs.Prelude.{◌≡◌, ◌≢◌, ◌⊎◌, ◌↔◌, true, false, List, [], ◌∷◌, ℕ, suc, ◌+◌, ◌%◌, ℤ, pos, negsuc, neg_ℤ, ◌-ℤ◌, ◌*ℤ◌}
 use Rattle.scene.specs.View.{view_of}
 use Rattle.scene.specs.declared.Row.{Row}

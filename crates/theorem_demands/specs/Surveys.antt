@@ -1,9 +1,6 @@
 -- The demands speak of the code (`Promised`), of the functions too that survey a scene once and read answers off its tables: what each
 -- one's own contract says, in the demands' words. Arguments are written as in `Promised`. The statement is `Surveys`, at the end; its
 -- proof is `Surveys.Proof.surveys`. Assumes nothing.
-pub mod Edges
-pub mod Inside
-pub mod Proof
 use Rattle.std.specs.Prelude.{◌≡◌, ◌↔◌, Bool, true, cond, ◌&&◌, List, [], ◌∷◌, ℕ, ◌+◌, ◌/◌, ◌^◌, ◌<◌, ltb, length}
 use Rattle.laws.specs.Lists.{Some}
 use Rattle.laws.specs.Mask.{test_bit}

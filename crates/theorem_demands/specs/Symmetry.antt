@@ -1,6 +1,5 @@
 -- Piercing is of an edge and a face, however they are named: it does not change when the ends are exchanged, when the corners are taken
 -- round, or when they are taken the other way. The statement is `Symmetry`; its proof is `Symmetry.Proof.symmetry`. Assumes nothing.
-pub mod Proof
 use Rattle.std.specs.Prelude.{◌≡◌, List, ℕ}
 use Rattle.scene.specs.View.{View, view_of, points}
 use Rattle.scene.specs.declared.Face.{Face}

@@ -1,6 +1,5 @@
 -- One accepted scene for each verdict, so that no demand is about nothing: the printed scene, which crosses, and a small solid beside,
 -- within and around another; and the printed scene with a direction as far point, and with an edge of A in four faces. Assumes nothing.
-pub mod Proof
 use Rattle.std.specs.Prelude.{◌≡◌, List, [], ◌∷◌, ℕ, pos, length}
 use Rattle.scene.specs.Tables.{Table}
 use Rattle.judge.specs.Judge.{judged}

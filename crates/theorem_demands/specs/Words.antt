@@ -1,7 +1,6 @@
 -- The words of document 01 that the demands use, as facts about the numbers of a scene: its points, vertices, faces, solids and records,
 -- the edges of a solid, an edge that pierces a face, and a vertex that is enclosed; and how a function's arguments are written. Assumes
 -- nothing.
-pub mod Solids
 use Rattle.std.specs.Prelude.{◌≡◌, ◌⊎◌, true, List, ℕ, ◌+◌, ◌≤◌, ◌<◌}
 use Rattle.scene.specs.Records.{verts_a, faces_in_a, verts, faces, last_record}
 use Rattle.scene.specs.View.{view_of}

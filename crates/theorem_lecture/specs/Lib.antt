@@ -1,29 +1,20 @@
--- Lecture, Exchange and Numbered are what a reader must believe; the rest are laws about them, and their proofs.
+-- Lecture, Exchange and Numbered are what a reader must believe; the rest are laws about them, and, with what is in proofs/, their proofs.
 pub mod Lecture
 pub mod Exchange
 pub mod Numbered
 pub mod Turned
 pub mod Alike
 pub mod Signs
-pub mod Scaled
 pub mod Scenes
 pub mod Somewhere
 pub mod Rerowed
 pub mod Imaged
-pub mod FourteenProof
-pub mod LectureProof
 pub mod Renumbered
-pub mod Numbers
-pub mod Written
 pub mod Shifted
 pub mod Carried
 pub mod Counterpart
 pub mod Asked
 pub mod Word
-pub mod ExchangeSolids
-pub mod ExchangeAsked
-pub mod ExchangeProof
 pub mod Fewer
 pub mod Pairs
-pub mod NumberedProof
 pub mod Ties

@@ -24,8 +24,8 @@ use Rattle.questions.specs.WritePairs.{three}
 use Rattle.questions.specs.Answers.{listing_in}
 use Rattle.theorem_demands.specs.Words.{FaceOfA, FaceOfB, FaceNumber, Point, CornerOf, Edge, Pierces}
 use Rattle.theorem_demands.specs.Exact.{PiercedPair, Before, solid_of}
-use Rattle.theorem_demands.specs.Exact.Proof.{exact}
-use Rattle.theorem_demands.specs.Symmetry.Proof.{symmetry}
+use Rattle.theorem_demands.proofs.Exact.Proof.{exact}
+use Rattle.theorem_demands.proofs.Symmetry.Proof.{symmetry}
 use Rattle.theorem_lecture.specs.Lecture.{points_of}
 use Rattle.theorem_lecture.specs.Fewer.{In, no_more}
 use Rattle.theorem_lecture.specs.Numbered.{NumberedBy, InListing, carried}

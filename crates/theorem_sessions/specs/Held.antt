@@ -18,9 +18,9 @@ use Rattle.bench_moves.specs.declared.Group.{Group}
 use Rattle.theorem_bench.specs.Kept as bench
 use Rattle.theorem_demands.specs.Words.{SolidNumber}
 use Rattle.theorem_demands.specs.Exact.{Exact}
-use Rattle.theorem_demands.specs.Exact.Proof.{exact}
+use Rattle.theorem_demands.proofs.Exact.Proof.{exact}
 use Rattle.theorem_demands.specs.Parity.{Outside}
-use Rattle.theorem_demands.specs.Parity.Proof.{kernel_parity}
+use Rattle.theorem_demands.proofs.Parity.Proof.{kernel_parity}
 
 pub record Held (s : Session) : Type 0 where
   pub rules : FileOk limits (scene s)

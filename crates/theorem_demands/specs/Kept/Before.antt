@@ -1,6 +1,5 @@
 -- The judge of document 01 as it was before the requests: counts up to 32 and 64, no weight 0 and no refusal 14, an edge in exactly two
 -- faces. Assumes nothing.
-pub mod Proof
 use Rattle.std.specs.Prelude.{Bool, cond, ◌&&◌, List, ℕ, ◌+◌, ◌-◌, eqb, ltb, nat_abs}
 use Rattle.laws.specs.Range.{count_of}
 use Rattle.scene.specs.Limits.{limits_before, within}

@@ -1,0 +1,17 @@
+pub mod Words
+pub mod Answers
+pub mod Numbers
+pub mod Exact
+pub mod Parity
+pub mod Said
+pub mod Promised
+pub mod Surveys
+pub mod Once
+pub mod Sign
+pub mod Symmetry
+pub mod Shown
+pub mod Shift
+pub mod Engines
+pub mod Kept
+pub mod Marked
+pub mod Witnesses

@@ -1,0 +1,9 @@
+pub mod Scaled
+pub mod FourteenProof
+pub mod LectureProof
+pub mod Numbers
+pub mod Written
+pub mod ExchangeSolids
+pub mod ExchangeAsked
+pub mod ExchangeProof
+pub mod NumberedProof
