@@ -1,5 +1,7 @@
 // The first pierced pair of a scene, and where there is none the words of enclosed vertices: all that a verdict asks. No table of edges is
 // made.
+#![tactic(auto)]
+
 ghost use Rattle.std.specs.Prelude.{◌≡◌, []};
 ghost use Rattle.survey_edges.specs.Edges.{AreLinks};
 ghost use Rattle.scene.specs.Arrays.{row_in, face_in};
@@ -27,7 +29,7 @@ mod first;
 mod first_look;
 
 // The first pair; where there is none, the words of A's vertices that B encloses and of B's that A does.
-#[derive(Drop)]
+#[derive(Clone, Copy)]
 pub struct FirstOrEnclosed {
     pub first: Found,
     pub a: u64,
