@@ -11,7 +11,7 @@ pub mod determinant;
 pub mod record;
 mod whole;
 
-#[derive(Drop)]
+#[derive(Clone, Copy)]
 pub struct Vertex {
     pub x: f64,
     pub y: f64,
@@ -20,13 +20,13 @@ pub struct Vertex {
 }
 
 // Why a vertex is not taken: one of its numbers is not whole, or it is what a scene refuses too. The place is 1 to 4: x, y, z, weight.
-#[derive(Drop)]
+#[derive(Clone, Copy)]
 pub enum Fault {
     NotWhole(usize),
     OfScene(Refusal),
 }
 
-#[derive(Drop)]
+#[derive(Clone, Copy)]
 pub enum Taken {
     At(Row),
     Refused(Fault),

@@ -7,7 +7,7 @@ ghost use Rattle.doubles.specs.Record.{unsigned, vertex_bytes, IsRecord};
 use crate::{Fault, Taken, Vertex, take};
 use scene::{Refusal, Row, Scene};
 
-#[derive(Drop)]
+#[derive(Clone, Copy)]
 pub enum Recorded {
     Written,
     Refused(Fault),

@@ -7,7 +7,7 @@ ghost use Rattle.doubles.specs.Taken.{reading_of, weight_of};
 use scene::Scene;
 
 // What a double is, against a limit: no whole number, one outside the limit, or this one.
-#[derive(Drop)]
+#[derive(Clone, Copy)]
 pub enum Reading {
     NotWhole,
     Outside,
