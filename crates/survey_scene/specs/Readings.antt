@@ -22,7 +22,8 @@ use Rattle.survey_first.specs.declared.FirstOrEnclosed.{FirstOrEnclosed}
 use Rattle.questions.specs.Answers.{pierce_view, listing_in, inside_in, counts_in, verdict_in}
 use Rattle.questions.specs.Both.{counts_are, cross_is, none_cross, a_in_b_law, b_in_a_law, all_apart}
 use Rattle.survey_scene.specs.Facts.{Gathered, facts_in}
-use Rattle.questions.specs.Listings.{lacks_room, PouredIf, poured_none, poured_some, poured_held}
+use Rattle.questions.specs.Listings.{lacks_room, PouredIf, poured_none, poured_some}
+use Rattle.questions.proofs.Listings.{poured_held}
 use Rattle.survey_scene.specs.Ready.{sound}
 use Rattle.survey_scene.specs.Surveys.{SurveyIs, EnoughForVerdict}
 use Rattle.questions.specs.declared.Counts.{Counts}

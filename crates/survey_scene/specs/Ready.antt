@@ -116,7 +116,7 @@ module _ (s : List ℕ) (ok : judged s ≡ Accepted) where
   pub outside_beside : {u w k n : ℕ} {o : Solid} {corners : ℕ → Face} → Outside v u w k → n ≡ points v → corners ≡ v.face → o ≡ solid v k →
       BesideAll n u w corners o.face0 o.faces
   outside_beside {k} h is-n are-corners is-o =
-      rw (is-n, are-corners, is-o) (beside_solid (placed k) h.u-point h.w-point h.differ h.u_out h.w_out)
+      rw (is-n, are-corners, is-o) (beside_solid (placed k) h.u_point h.w_point h.differ h.u_out h.w_out)
 
   -- the mask of an edge outside a solid
   pub mask_fits : {u w k n : ℕ} {o : Solid} {rows : ℕ → Row} {corners : ℕ → Face} →
@@ -129,7 +129,7 @@ module _ (s : List ℕ) (ok : judged s ≡ Accepted) where
       let t = far_fits is-n in (
         (rows_are r, rw f (faces_within limits s ok)),
         (
-          (t.0, t.1, point_fits h.u-point, point_fits h.w-point),
+          (t.0, t.1, point_fits h.u_point, point_fits h.w_point),
           (rw is-o (placed k).fits, (weighted_are is-n r, outside_beside h is-n f is-o)),
         ),
       )
@@ -153,11 +153,11 @@ module _ (s : List ℕ) (ok : judged s ≡ Accepted) where
   pierces_fit {n} {u} {w} f {g} h r is-n is-g =
       let e = pierces_ends v u w f h in
       let t = far_fits is-n in
-      let c = face_of_law f e.is-face in
+      let c = face_of_law f e.is_face_law in
       let a = not_corner e.u_out in
       let b = not_corner e.w_out in
       let beside : Beside n u w g = rw (is-n, is-g) (search (ne_sym, in_scene)) in
-      ((rows_are r, t.0, t.1, point_fits e.u-point, point_fits e.w-point, face_fits f is-g), (weighted_are is-n r, beside))
+      ((rows_are r, t.0, t.1, point_fits e.u_point, point_fits e.w_point, face_fits f is-g), (weighted_are is-n r, beside))
 
   -- ---- both solids are ready, in the arrays too
 

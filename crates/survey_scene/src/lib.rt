@@ -1,4 +1,6 @@
 // An accepted scene is decoded and surveyed once; the verdict, the counts and the listing are read off its tables.
+#![tactic(auto)]
+
 ghost use Rattle.std.specs.Prelude.{◌≡◌};
 ghost use Rattle.judge.specs.Judge.{judged};
 ghost use Rattle.judge.specs.declared.Judged.TheVariants.{Accepted};
