@@ -52,15 +52,15 @@ module _ (s t : List ℕ) (ok : judged s ≡ Accepted) (ok' : judged t ≡ Accep
   mask_a u w o =
       rw to_b
       (mask_same (seen_of s) (seen_of t) (to s) (face_to s) (renumbered s t ok ok' h ties) (in_b s) (in_a t) 0 (verts_a s)
-      (b_is_a s t ok ok' h ties) u w (record { point = o.u-point; out = λ x. o.u_out (omega arith) })
-      (record { point = o.w-point; out = λ x. o.w_out (omega arith) }) o.differ)
+      (b_is_a s t ok ok' h ties) u w (record { point = o.u_point; out = λ x. o.u_out (omega arith) })
+      (record { point = o.w_point; out = λ x. o.w_out (omega arith) }) o.differ)
 
   mask_b : (u w : ℕ) → Outside (view_of s) u w 2 → mask_in (view_of t) (to s u) (to s w) (solid_to 2) ≡ mask_in (view_of s) u w 2
   unfolding mask_in solid
   mask_b u w o =
       rw to_a
       (mask_same (seen_of s) (seen_of t) (to s) (face_to s) (renumbered s t ok ok' h ties) (in_a s) (in_b t) (verts_a s) (verts s)
-      (a_is_b s t ok ok' h ties) u w (record { point = o.u-point; out = o.u_out }) (record { point = o.w-point; out = o.w_out })
+      (a_is_b s t ok ok' h ties) u w (record { point = o.u_point; out = o.u_out }) (record { point = o.w_point; out = o.w_out })
       o.differ)
 
   mask : (u w k : ℕ) → is_solid k ≡ true → Outside (view_of s) u w k →

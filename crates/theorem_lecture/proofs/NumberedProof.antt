@@ -127,15 +127,15 @@ module _ (to back : ℕ → ℕ) (s t : List ℕ) (ok : judged s ≡ Accepted) (
   mask_a u v o =
       ap (mask_against (points_of t) (rows_of t) (face (tables_of t)) (to u) (to v) 0) h.there.faces_a_law
       ∙ mask_same 0 (verts_a s) 0 (faces_in_a s) (omega arith) (omega arith) corners_a ties_a u v
-      (record { point = o.u-point; out = λ x. o.u_out (omega arith) })
-      (record { point = o.w-point; out = λ x. o.w_out (omega arith) }) o.differ
+      (record { point = o.u_point; out = λ x. o.u_out (omega arith) })
+      (record { point = o.w_point; out = λ x. o.w_out (omega arith) }) o.differ
 
   mask_b : (u v : ℕ) → Outside (view_of s) u v 2 → mask_in (view_of t) (to u) (to v) 2 ≡ mask_in (view_of s) u v 2
   unfolding mask_in solid
   mask_b u v o =
       ap₂ (mask_against (points_of t) (rows_of t) (face (tables_of t)) (to u) (to v)) h.there.faces_a_law h.there.faces_b_law
       ∙ mask_same (verts_a s) (verts s) (faces_in_a s) (faces_in_b s) (omega arith) (omega arith) corners_b ties_b u v
-      (record { point = o.u-point; out = o.u_out }) (record { point = o.w-point; out = o.w_out }) o.differ
+      (record { point = o.u_point; out = o.u_out }) (record { point = o.w_point; out = o.w_out }) o.differ
 
   mask : (u v k : ℕ) → is_solid k ≡ true → Outside (view_of s) u v k → mask_in (view_of t) (to u) (to v) k ≡ mask_in (view_of s) u v k
   mask u v =

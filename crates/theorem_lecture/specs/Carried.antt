@@ -46,7 +46,7 @@ module _ (o o' : PierceView) (k k' : Solid) (carry : Hit → Hit) where
     face_carried : (i m j : ℕ) → i < k.verts → m < k.verts → i ≢ m → j < k.others →
         face_hits o' k' (vertex k' i) (vertex k' m) j ≡ map carry (face_hits o k (vertex k i) (vertex k m) j)
     unfolding face_hits
-    face_carried i m j a b d c = rw (h.pierced-same i m j a b d c) (by (pierces o k i m j))
+    face_carried i m j a b d c = rw (h.pierced_same i m j a b d c) (by (pierces o k i m j))
       where
         by : (t : Bool) → cond t (pair k' i m j ∷ []) [] ≡ map carry (cond t (pair k i m j ∷ []) [])
         by true = ap (λ (x : Hit). x ∷ []) (sym (h.pairs i m j a b c))

@@ -21,16 +21,19 @@ module _ {A : Type 0} where
 
   -- the list without one entry
   without : (x : A) (l : List A) → In x l → List A
+  without x [] p = elim p [ ]
   without x (y ∷ l) (inl e) = l
   without x (y ∷ l) (inr p) = y ∷ without x l p
 
   one_less : (x : A) (l : List A) (p : In x l) → suc (length (without x l p)) ≡ length l
   unfolding without
+  one_less x [] p = elim p [ ]
   one_less x (y ∷ l) (inl e) = refl
   one_less x (y ∷ l) (inr p) = ap suc (one_less x l p)
 
   still_in : (x z : A) → z ≢ x → (l : List A) (p : In x l) → In z l → In z (without x l p)
   unfolding without
+  still_in x z d [] p q = elim p [ ]
   still_in x z d (y ∷ l) (inl e) (inl f) = absurd (d (sym f ∙ e))
   still_in x z d (y ∷ l) (inl e) (inr q) = q
   still_in x z d (y ∷ l) (inr p) (inl f) = inl f
@@ -67,6 +70,7 @@ module _ (p : ℕ → Bool) where
 
   in_picked : (i : ℕ) → p i ≡ true → (l : List ℕ) → In i l → In i (picked p l)
   unfolding picked
+  in_picked i t [] h = elim h [ ]
   in_picked i t (j ∷ l) (inl e) = rw (ap p e ∙ t) (inl e)
   in_picked i t (j ∷ l) (inr h) = by (p j) (in_picked i t l h)
     where

@@ -99,7 +99,7 @@ module _ (to : ℕ → ℕ) (s t : List ℕ) (ok : judged s ≡ Accepted) (ok' :
         v_on = corner_carried v g there.0 edge.on.3
 
         differ : u ≢ v
-        differ e = omega (arith, edge.lower-first, e)
+        differ e = omega (arith, edge.lower_first, e)
 
         pierces : Pierces t (to u) (to v) x.face
         pierces = same u v x.face u_in v_in differ f p
@@ -169,8 +169,8 @@ each_in P (x ∷ l) h = (h x (inl refl), each_in P l (λ y k. h y (inr k)))
 -- ---- pairs: one that is carried there and back is the same, so no two are carried to one, and there are no more here than there
 
 lower_first : (s : List ℕ) (x : Hit) → PiercedPair s x → x.low < x.high
-lower_first s x (inl p) = p.0.lower-first
-lower_first s x (inr p) = p.0.lower-first
+lower_first s x (inl p) = p.0.lower_first
+lower_first s x (inr p) = p.0.lower_first
 
 module _ (to back : ℕ → ℕ) where
   there_and_back : (x : Hit) → x.low < x.high → back (to x.low) ≡ x.low → back (to x.high) ≡ x.high →

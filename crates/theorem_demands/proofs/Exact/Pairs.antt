@@ -100,7 +100,7 @@ module _ (v : PierceView) (k : Solid) where
         let w : ℕ = k.vert0 + 1 + m in
         let eu : h.low ≡ u = omega (arith, ends.0) in
         let ew : h.high ≡ w = omega (arith, ends.1) in
-        let ef : h.face ≡ k.other0 + 1 + j = omega (arith, p.other-face) in
+        let ef : h.face ≡ k.other0 + 1 + j = omega (arith, p.other_face) in
         let same : h ≡ hit_at i m j = λ t. record { low = eu t; high = ew t; face = ef t } in
         let q : IsHit (hit_at i m j) = subst IsHit same p in
         (some_up_to Is (λ i. vertex_hits v k (k.vert0 + 1 + i)) k.verts).1 (
@@ -110,10 +110,10 @@ module _ (v : PierceView) (k : Solid) where
             m,
             omega (arith, ends.1),
             (some_only Is (ltb u w && joined v.face k u w) (edge_hits v k u w)).1 (
-              (and_iff (ltb u w) (joined v.face k u w)).1 (lt-ltb u w q.lower-first, (joined_iff u w).1 q.on),
+              (and_iff (ltb u w) (joined v.face k u w)).1 (lt-ltb u w q.lower_first, (joined_iff u w).1 q.on),
               (some_up_to Is (face_hits v k u w) k.others).1 (
                 j,
-                omega (arith, p.other-face),
+                omega (arith, p.other_face),
                 (some_only Is (pierced v.points v.row u w (v.face (k.other0 + 1 + j))) (hit_at i m j ∷ [])).1
                     (q.pierces, inl (sym same)),
               ),
@@ -135,12 +135,12 @@ module _ (s : List ℕ) where
     pub edge_in : {i j : ℕ} → ((i < j) × Joined (pierce_view (view_of s)) k i j) ↔ Edge s Faces i j
     edge_in = (
       λ p. let o = p.1 in record { lower_first = p.0; on = (o.0, (w.faces o.0).0 o.1, o.2.0, o.2.1) },
-      λ p. let o = p.on in (p.lower-first, (o.0, (w.faces o.0).1 o.1, (o.2, o.3))),
+      λ p. let o = p.on in (p.lower_first, (o.0, (w.faces o.0).1 o.1, (o.2, o.3))),
     )
 
     crossing_iff : (h : Hit) → IsHit (pierce_view (view_of s)) k h ↔ Crossing s Faces Other h
     crossing_iff h = (
-      λ p. (edge_in.0 (p.lower-first, p.on), (w.others h.face).0 p.other-face, p.pierces),
+      λ p. (edge_in.0 (p.lower_first, p.on), (w.others h.face).0 p.other_face, p.pierces),
       λ p.
           let e = edge_in.1 p.0 in
           record { lower_first = e.0; on = e.1; other_face = (w.others h.face).1 p.1; pierces = p.2 },

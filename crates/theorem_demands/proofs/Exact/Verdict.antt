@@ -41,7 +41,7 @@ module _ (s : List ℕ) where
   first_pair [] m h p = absurd ((m.1 h).1 p.pierced)
   first_pair (x ∷ l) m h p =
       ⊎_elim (λ e. ap (λ (h : Hit). Pair h.low h.high h.face) e)
-      (λ t. absurd (p.none-earlier x ((m.1 x).0 (inl refl)) (each_of (Before s x) l m.0.0 h t))) ((m.1 h).1 p.pierced)
+      (λ t. absurd (p.none_earlier x ((m.1 x).0 (inl refl)) (each_of (Before s x) l m.0.0 h t))) ((m.1 h).1 p.pierced)
 
   none_first : (l : List Hit) → Lists l → NonePierced s → first_of l ≡ Nothing
   unfolding first_of
@@ -89,8 +89,8 @@ module _ (s : List ℕ) where
       where
         same : LowestEnclosed s Of lowest → lowest ≡ p
         same q =
-            let a : ¬ (lowest < p) = λ b. h.none-lower lowest q.of b q.enclosed in
-            let b : ¬ (p < lowest) = λ b. q.none-lower p h.of b h.enclosed in
+            let a : ¬ (lowest < p) = λ b. h.none_lower lowest q.of b q.enclosed in
+            let b : ¬ (p < lowest) = λ b. q.none_lower p h.of b h.enclosed in
             omega arith
 
     lowest_none : NoneEnclosed s Of → lowest ≡ k.vert0 + 1 + k.verts

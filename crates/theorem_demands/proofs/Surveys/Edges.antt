@@ -76,7 +76,7 @@ module _ (v : PierceView) (k : Solid) where
             m,
             omega (arith, ends.1),
             (some_only Is (is_edge u w) (entry v k u w ∷ [])).1 (
-              (and_iff (ltb u w) (joined v.face k u w)).1 (lt-ltb u w q.lower-first, (joined_iff v k u w).1 q.on),
+              (and_iff (ltb u w) (joined v.face k u w)).1 (lt-ltb u w q.lower_first, (joined_iff v k u w).1 q.on),
               inl (sym same),
             ),
           ),
@@ -117,7 +117,7 @@ module _ (s : List ℕ) where
       (against : (u w : ℕ) → edge_mask v k u w ≡ mask_in (view_of s) u w m) (corners : Corners v.face k) where
     entered : (e : Entry) → IsEntry v k e ↔ (Edge s Own e.low e.high × (e.mask ≡ mask_in (view_of s) e.low e.high m))
     entered e = (
-      λ p. ((edge_in s named).0 (p.lower-first, p.on), p.masked ∙ against e.low e.high),
+      λ p. ((edge_in s named).0 (p.lower_first, p.on), p.masked ∙ against e.low e.high),
       λ p.
           let o = (edge_in s named).1 p.0 in
           record { lower_first = o.0; on = o.1; masked = p.1 ∙ sym (against e.low e.high) },
