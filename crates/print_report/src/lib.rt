@@ -1,4 +1,6 @@
 // The report of an accepted scene, read off its survey: so one survey serves the head and every part of the listing.
+#![tactic(auto)]
+
 ghost use Rattle.std.specs.Prelude.{◌≡◌, ◌/◌, length};
 ghost use Rattle.scene.specs.View.{view_of};
 ghost use Rattle.judge.specs.Judge.{judged};
