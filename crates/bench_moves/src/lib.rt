@@ -1,5 +1,7 @@
 // A bench: two groups at one fixture. Each group has its scene, whose solid B and far point are shared; each operation hands the bench
 // back.
+#![tactic(auto)]
+
 ghost use Rattle.std.specs.Prelude.{◌≡◌};
 ghost use Rattle.session.specs.Session.{empty};
 ghost use Rattle.bench_moves.specs.Bench.{fault_number, fault_place, session_of, with_session, open_fault};
@@ -13,13 +15,13 @@ mod fixture;
 mod moves;
 
 // The two groups' sessions; both are empty where the bench is.
-#[derive(Drop)]
+#[derive(Clone, Copy)]
 pub struct Bench {
     one: Session,
     two: Session,
 }
 
-#[derive(Drop)]
+#[derive(Clone, Copy)]
 pub enum Group {
     One,
     Two,

@@ -12,7 +12,7 @@ use session::save::save;
 use session::{Changed, Session};
 
 // Whether a session holds a scene, and the vertices of its two solids.
-#[derive(Drop)]
+#[derive(Clone, Copy)]
 pub struct Solids {
     pub held: bool,
     pub own: usize,

@@ -156,17 +156,3 @@ module _ (s : Session) where
       let g : Face = reversed_face (face_at (scene s) i) in
       changed_holds (turn_fault (scene s) f) (reversed_in s.bytes (scene s) i) h (λ q. corners_in k g (face_room f q))
       (λ q. sym (corners_length (scene s) k g)) (λ q. turned_accepted (scene s) i (face_room f q) (full h (turn_free (scene s) f q).whole))
-
-pub step_holds : (s : Session) (o : Operation) → Holds s → Holds (step s o).session
-step_holds s (reopen b) h = opened_holds b
-step_holds s (move p v) h = moved_holds s p v h
-step_holds s (far v) h = far_holds s v h
-step_holds s (reverse f) h = reversed_holds s f h
-
-pub after_holds : (s : Session) (os : List Operation) → Holds s → Holds (after s os)
-after_holds s [] h = h
-after_holds s (o ∷ os) h = after_holds (step s o).session os (step_holds s o h)
-
--- any operations whatever, from any string of bytes
-pub sessions_hold : (b : List ℕ) (os : List Operation) → Holds (after (opened b).session os)
-sessions_hold b os = after_holds (opened b).session os (opened_holds b)

@@ -6,7 +6,7 @@ use judge::Judged;
 use scene::{Refusal, Row, Scene, is_within, offsets};
 
 // The sizes of a row's four numbers.
-#[derive(Drop)]
+#[derive(Clone, Copy)]
 pub struct Sizes {
     pub x: usize,
     pub y: usize,

@@ -1,4 +1,6 @@
 // A session: an accepted scene and its counts, held and changed by value. Each operation hands the session back.
+#![tactic(auto)]
+
 ghost use Rattle.std.specs.Prelude.{◌≡◌, ◌+◌, ◌≤◌, ◌<◌, take};
 ghost use Rattle.scene.specs.Limits.{limits, longest};
 ghost use Rattle.scene.specs.Records.{point_start, face_start};
@@ -22,7 +24,7 @@ pub mod save;
 
 // The scene's bytes with zeros behind them, how many they are, and what a fresh count of them gives; no bytes and zero counts where it is
 // empty.
-#[derive(Drop)]
+#[derive(Clone, Copy)]
 pub struct Session {
     bytes: [u8; Scene::LONGEST],
     len: usize,

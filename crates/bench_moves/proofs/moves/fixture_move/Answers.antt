@@ -1,0 +1,12 @@
+-- The number decides; else the session's move does, in the lecturer's number.
+use Rattle.bench_moves.specs.Laws.{fixture_refused, fixture_moved}
+use Rattle.bench_moves.proofs.moves.fixture_move.Goals as goal
+
+pub returns-in-Refused : goal.returns-in-Refused
+returns-in-Refused c =
+    fixture_refused _ _ _ c.solids_of-k.ensures.0 c.number_fault.ensures c.in-Refused.is
+
+pub returns : goal.returns
+returns c =
+    fixture_moved _ _ _ c.solids_of-k.ensures.0 c.number_fault.ensures
+    c.in_default.is c.scene_move-c.ensures c.placed_in.ensures

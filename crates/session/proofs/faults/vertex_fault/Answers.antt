@@ -1,0 +1,26 @@
+-- Each rule that fails decides.
+use Rattle.std.specs.Prelude.{not}
+use mathlib.Core.Path.{ap, ◌∙◌}
+use Prim.Native.Nat.{ℕ}
+use Rattle.scene.specs.Limits.{within}
+use Rattle.judge.specs.Laws.{rules as laws, rule_refused, rule_passed}
+use Rattle.session.specs.Session.{row_fault, vertex_fault}
+use Rattle.session.proofs.faults.vertex_fault.Goals as goal
+
+pub returns-then-not-is_whole : goal.returns-then-not-is_whole
+unfolding vertex_fault
+returns-then-not-is_whole c = search laws depth 16
+
+pub returns-then-not-is_within : goal.returns-then-not-is_within
+unfolding vertex_fault
+returns-then-not-is_within c =
+    rule_passed _ c.is_whole.ensures (ap not c.if-not-is_whole.false)
+    (rule_refused _ (c.is_within.ensures ∙ ap (λ (n : ℕ). within 1 n c.args.p) c.vertices.ensures.0)
+    (ap not c.if-not-is_within.true))
+
+pub returns : goal.returns
+unfolding vertex_fault
+returns c =
+    rule_passed _ c.is_whole.ensures (ap not c.if-not-is_whole.false)
+    (rule_passed _ (c.is_within.ensures ∙ ap (λ (n : ℕ). within 1 n c.args.p) c.vertices.ensures.0)
+    (ap not c.if-not-is_within.false) (c.row_fault.ensures ∙ ap (row_fault 1 _) c.sizes_of.ensures))

@@ -1,0 +1,15 @@
+-- The fault decides; what is not refused is written.
+use mathlib.Core.Path.{sym, ◌∙◌}
+use Rattle.session.specs.Place.{move_room, kept_so, put_so}
+use Rattle.session.proofs.place.move_vertex.Goals as goal
+
+pub put_row-requires : goal.put_row-requires
+put_row-requires c =
+    let m = move_room _ _ _ (sym c.move_fault-j.ensures ∙ c.in-Accepted.is) in (m.fits, m.room)
+
+pub returns-in-Refused : goal.returns-in-Refused
+returns-in-Refused c = kept_so _ _ c.move_fault-j.ensures c.in-Refused.is
+
+pub returns-in-Accepted : goal.returns-in-Accepted
+returns-in-Accepted c =
+    put_so _ _ c.move_fault-j.ensures c.in-Accepted.is c.put_row.ensures
