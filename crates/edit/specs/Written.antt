@@ -15,7 +15,8 @@ use Rattle.judge.specs.declared.Judged.{Judged}
 use Rattle.judge.specs.declared.Judged.TheVariants.{Accepted, Refused}
 use Rattle.session.specs.Session.{scene, is_whole, opened}
 use Rattle.session.specs.Laws.{accepted_short}
-use Rattle.session.specs.Kept.{Empty, Full, Holds, Operation, after, sessions_hold}
+use Rattle.session.specs.Kept.{Empty, Full, Holds, Operation, after}
+use Rattle.session.proofs.Sessions.{sessions_hold}
 use Rattle.session.specs.Saved.{save_fault, saved_by, IsSaved, save_room, save_full}
 use Rattle.session.specs.declared.Session.{Session}
 use Rattle.edit.specs.Steps.{scene_within}

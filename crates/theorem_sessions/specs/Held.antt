@@ -12,6 +12,7 @@ use Rattle.questions.specs.declared.Counted.TheVariants.{Counts}
 use Rattle.session.specs.Session.{scene, opened}
 use Rattle.session.specs.Kept as session
 use Rattle.session.specs.Kept.{Empty, Full}
+use Rattle.session.proofs.Sessions.{sessions_hold}
 use Rattle.session.specs.declared.Session.{Session}
 use Rattle.bench_moves.specs.Bench.{opened_of, session_of}
 use Rattle.bench_moves.specs.declared.Group.{Group}
@@ -49,7 +50,7 @@ held s h = go h.state
     go (inr f) = inr (full_held f)
 
 pub sessions : (b : List ℕ) (os : List session.Operation) → EmptyOrHeld (session.after (opened b).session os)
-sessions b os = held _ (session.sessions_hold b os)
+sessions b os = held _ (sessions_hold b os)
 
 pub benches : (s t : List ℕ) (os : List bench.Operation) (g : Group) → EmptyOrHeld (session_of (bench.after (opened_of s t).bench os) g)
 benches s t os g = held _ (bench.holds_of _ (bench.benches_hold s t os) g)
