@@ -1,7 +1,6 @@
 -- The counts that were answered, or none.
 use mathlib.Core.Path.{sym, ap, ◌∙◌}
 use Rattle.session.specs.Session.{counts_by}
-use borrow.Author.Rules.{rules}
 use Rattle.session.proofs.counts_of.Goals as goal
 
 pub returns-in-Counts : goal.returns-in-Counts
