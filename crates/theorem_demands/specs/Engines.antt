@@ -3,6 +3,8 @@
 -- signs. By the contracts of all that is asked of either engine, two calls about the same bytes, each by its own engine, have one answer
 -- (`OneAnswer`). Assumes nothing.
 use Rattle.std.specs.Prelude.{◌≡◌, Bool, List, ℕ, ◌+◌}
+use denote.Bor.{now}
+use denote.MutBor as lent
 use Rattle.scene.specs.Records.{verts}
 use Rattle.scene.specs.Tables.{tables_of, row}
 use Rattle.scene.specs.declared.Face.{Face}
@@ -45,17 +47,17 @@ AnyHelper =
 
 -- two calls with the same bytes: g and h are the engines, r and q the answers; of the listing also the lent lists, which held the same
 pub record OneAnswer : Type 0 where
-  pub pierces : (κs λs g h s t u v f r q e d : _) → s.now ≡ t.now →
+  pub pierces : (κs λs g h s t u v f r q e d : _) → now s ≡ now t →
       pierces.Post κs (g ▸ s ▸ u ▸ v ▸ f ▸ tt) r e → pierces.Post λs (h ▸ t ▸ u ▸ v ▸ f ▸ tt) q d → r ≡ q
-  pub mask : (κs λs g h s t u v k r q e d : _) → s.now ≡ t.now →
+  pub mask : (κs λs g h s t u v k r q e d : _) → now s ≡ now t →
       mask.Post κs (g ▸ s ▸ u ▸ v ▸ k ▸ tt) r e → mask.Post λs (h ▸ t ▸ u ▸ v ▸ k ▸ tt) q d → said_mask r ≡ said_mask q
-  pub enclosed : (κs λs g h s t i r q e d : _) → s.now ≡ t.now →
+  pub enclosed : (κs λs g h s t i r q e d : _) → now s ≡ now t →
       enclosed.Post κs (g ▸ s ▸ i ▸ tt) r e → enclosed.Post λs (h ▸ t ▸ i ▸ tt) q d → r ≡ q
-  pub counts : (κs λs g h s t r q e d : _) → s.now ≡ t.now → count.Post κs (g ▸ s ▸ tt) r e → count.Post λs (h ▸ t ▸ tt) q d → r ≡ q
-  pub inside : (κs λs g h s t k r q e d : _) → s.now ≡ t.now →
+  pub counts : (κs λs g h s t r q e d : _) → now s ≡ now t → count.Post κs (g ▸ s ▸ tt) r e → count.Post λs (h ▸ t ▸ tt) q d → r ≡ q
+  pub inside : (κs λs g h s t k r q e d : _) → now s ≡ now t →
       inside.Post κs (g ▸ s ▸ k ▸ tt) r e → inside.Post λs (h ▸ t ▸ k ▸ tt) q d → r ≡ q
-  pub verdict : (κs λs g h s t r q e d : _) → s.now ≡ t.now →
+  pub verdict : (κs λs g h s t r q e d : _) → now s ≡ now t →
       verdict.Post κs (g ▸ s ▸ tt) r e → verdict.Post λs (h ▸ t ▸ tt) q d → r ≡ q
-  pub listing : (κs λs g h s t out list r q g' h' s' t' out' list' : _) → s.now ≡ t.now → out.now ≡ list.now →
+  pub listing : (κs λs g h s t out list r q g' h' s' t' out' list' : _) → now s ≡ now t → lent.now out ≡ lent.now list →
       listing.Post κs (g ▸ s ▸ out ▸ tt) r (g' ▸ s' ▸ out' ▸ tt) → listing.Post λs (h ▸ t ▸ list ▸ tt) q (h' ▸ t' ▸ list' ▸ tt) →
       (r ≡ q) × (out'.now ≡ list'.now)

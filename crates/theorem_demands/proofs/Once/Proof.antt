@@ -3,7 +3,6 @@
 use Rattle.std.specs.Prelude.{◌≡◌, List, ℕ, zero, suc, ◌+◌, ◌*◌, ◌/◌, ◌%◌, ◌<◌, ℤ, pos, length, get_or}
 use Rattle.std.proofs.Math.Path.{sym}
 use Rattle.std.proofs.Common.{ap, ◌∙◌, arith, ext_get_or}
-use Rattle.std.proofs.Math.Pow.{low, high}
 use Rattle.laws.specs.Unique.{once}
 use Rattle.laws.specs.Parts.{parts_once}
 use Rattle.laws.specs.Runs.{run_once}
