@@ -13,7 +13,7 @@ use Rattle.off_items.specs.Laws.{at_most_low, at_most_high}
 use Rattle.class_tally.specs.Tally.{mean_of, in_line, pairs_of, tally_of, marks_of, report_of}
 use Rattle.class_tally.specs.Counting.{report_tallied}
 use Rattle.class_tally.specs.Merging.{plus, tally, Counted}
-use Rattle.class_tally.specs.MergingProof.{merging}
+use Rattle.class_tally.proofs.MergingProof.{merging}
 use Rattle.class_tally.specs.declared.Tally.{Tally}
 use Rattle.class_tally.specs.declared.Report.{Report}
 use Rattle.class_tally.specs.declared.Report.TheVariants.{Longer, Tallied}

@@ -63,11 +63,11 @@ pub record Counting (l : List ℕ) (k : ℕ) : Type 0 where
 -- ---- a mark is in a line of its own
 
 refused_line_law : (n : ℕ) → (1 ≤ refused_line n) × (refused_line n < lines)
-refused_line_law n = go (leb n 9) refl
+refused_line_law n = go _ (leb n 9) refl (lit< tt) (lit< tt)
   where
-    go : (b : Bool) → leb n 9 ≡ b → (1 ≤ cond b (n + 4) 14) × (cond b (n + 4) 14 < lines)
-    go true e = let l = leb-true n 9 e in (omega arith, omega arith)
-    go false e = (omega arith, omega arith)
+    go : (last : ℕ) (b : Bool) → leb n 9 ≡ b → 0 < last → last < lines → (1 ≤ cond b (n + 4) last) × (cond b (n + 4) last < lines)
+    go last true e x y = let l = leb-true n 9 e in (omega arith, omega arith)
+    go last false e x y = (omega arith, y)
 
 line_within : (v : Verdict) → (1 ≤ line_of v) × (line_of v < lines)
 line_within (verdict.Cross u v f) = (omega arith, omega arith)

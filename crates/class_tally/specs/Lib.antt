@@ -7,5 +7,3 @@ pub mod Refusals
 pub mod Words
 pub mod Files
 pub mod Merging
-pub mod MergingProof
-pub mod FilesProof

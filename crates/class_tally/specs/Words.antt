@@ -4,7 +4,7 @@ use Rattle.std.proofs.Common.{arith, leb-true}
 use Rattle.laws.specs.Lists.{Each}
 use Rattle.class_block.specs.Block.{most_bytes, scenes_of}
 use Rattle.class_block.specs.Scenes.{scenes_few}
-use Rattle.class_tally.specs.Tally.{in_line, pairs_of, tally_of, marks_of, report_of}
+use Rattle.class_tally.specs.Tally.{in_line, tally_of, marks_of, report_of}
 use Rattle.class_tally.specs.Counting.{in_line_most, pairs_sum_most, marks_few}
 use Rattle.class_tally.specs.declared.Tally.{Tally}
 use Rattle.class_tally.specs.declared.Report.{Report}

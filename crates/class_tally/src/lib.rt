@@ -1,4 +1,6 @@
 // Marking a whole class: the scenes of a block, end to end, and the report that tallies them.
+#![tactic(auto)]
+
 ghost use Rattle.std.specs.Prelude.{◌≡◌};
 ghost use Rattle.class_tally.specs.Tally.{report_of, number_in, place_in, mean_of};
 
@@ -6,7 +8,7 @@ pub mod files;
 mod marks;
 
 // How many scenes count in each line of the report, how many were accepted, and the pierced pairs of these.
-#[derive(Drop)]
+#[derive(Clone, Copy)]
 pub struct Tally {
     pub scenes: usize,
     pub cross: usize,
@@ -36,14 +38,14 @@ impl Tally {
 }
 
 // One scene: the line of the report that it counts in, and its pierced pairs.
-#[derive(Drop)]
+#[derive(Clone, Copy)]
 pub struct Mark {
     pub line: usize,
     pub pairs: usize,
 }
 
 // The mean of pierced pairs over accepted scenes.
-#[derive(Drop)]
+#[derive(Clone, Copy)]
 pub struct Mean {
     pub whole: usize,
     pub remainder: usize,
@@ -51,7 +53,7 @@ pub struct Mean {
 }
 
 // A block that is longer than it may be is refused with 23.
-#[derive(Drop)]
+#[derive(Clone, Copy)]
 pub enum Report {
     Longer,
     Tallied(Tally),

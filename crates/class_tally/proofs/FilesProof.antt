@@ -1,20 +1,19 @@
 -- The proofs of `Tallying`: what is held after so many scenes. Assumes nothing.
-use Rattle.std.specs.Prelude.{◌≡◌, refl, Bool, true, false, ◌||◌, ℕ, zero, suc, ◌+◌, ◌*◌, ◌≤◌, ◌<◌, eqb, set, replicate}
+use Rattle.std.specs.Prelude.{◌≡◌, refl, Bool, true, false, ℕ, suc, ◌+◌, ◌*◌, ◌≤◌, ◌<◌, eqb, set}
 use Rattle.std.proofs.Math.Path.{sym, ap}
 use Rattle.std.proofs.Common.{ap₂, ◌∙◌, subst, arith, suc-mul, lit<}
 use mathlib.Core.List.{List, [], ◌∷◌, ◌++◌, map, map-append, append_assoc, append-nil}
 use Rattle.std.proofs.Math.ListN.{length, get_or, length-append}
 use Rattle.std.proofs.lemmas.List.{get_or-replicate, length-map}
 use Rattle.laws.specs.Range.{more}
-use Rattle.class_tally.specs.Tally.{mark_of, counts, in_line, pairs_of, made, tally_of}
+use Rattle.class_tally.specs.Tally.{mark_of, counts, in_line, pairs_of, tally_of}
 use Rattle.class_tally.specs.Most.{most_pairs}
 use Rattle.class_tally.specs.Sums.{largest, sum_of, raised}
 use Rattle.class_tally.specs.Merge.{made_same}
-use Rattle.class_tally.specs.MergingProof.{in_line_sum, pairs_sum}
+use Rattle.class_tally.proofs.MergingProof.{in_line_sum, pairs_sum}
 use Rattle.class_tally.specs.Counting.{lines, up, up_size, up_at, both_at, in_line_most, pairs_sum_most, line_of_law, told_made}
-use Rattle.class_tally.specs.Files.{none, with_mark, with_scene, with_scenes, tallied, Few, Tallying}
+use Rattle.class_tally.specs.Files.{none, with_scene, with_scenes, tallied, Few, Tallying}
 use Rattle.class_tally.specs.declared.Mark.{Mark}
-use Rattle.class_tally.specs.declared.Tally.{Tally}
 use Rattle.class_tally.specs.declared.files.Files.{Files}
 
 -- ---- a step, from the calls' answers

@@ -1,0 +1,4 @@
+pub mod MeanProof
+pub mod MergingProof
+pub mod FilesProof
+pub mod RefusalsProof
