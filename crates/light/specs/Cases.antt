@@ -1,14 +1,12 @@
--- What a call answers and leaves, by the cases of its tests. Assumes nothing.
+-- What the tests of a call say, and a colour's number. What a call answers and leaves by them stands in `CasesProof`. Assumes nothing.
 use Rattle.std.specs.Prelude.{◌≡◌, refl, Bool, true, false, not, ◌||◌, List, ℕ, ◌<◌, eqb, leb, length}
 use Rattle.std.proofs.Common.{sym, ◌∙◌, arith, eq-eqb, ne_eqb, eqb-true}
 use Rattle.std.proofs.Math.Path.{ap}
-use Rattle.std.proofs.Math.Bool.{cond}
 use Rattle.questions.specs.Answers.{verdict_of}
 use Rattle.questions.specs.declared.Verdict.{Verdict}
 use Rattle.questions.specs.declared.Verdict.TheVariants as verdict
-use Rattle.light.specs.Light.{light_number, colour_of, total, is_full, more, light_of, left_of, IsLight}
+use Rattle.light.specs.Light.{light_number, colour_of, total, is_full}
 use Rattle.light.specs.declared.Light.{Light}
-use Rattle.light.specs.declared.Light.TheVariants.{Uncounted}
 
 -- a call's answer o, which is j, by the case x that it came out as
 pub by_case : {A B : Type 0} (f : A → B) {o j x : A} {y : B} → o ≡ j → o ≡ x → y ≡ f x → y ≡ f j
@@ -42,23 +40,3 @@ colour_lt (verdict.Refused r) = omega arith
 pub counts_one : (s l : List ℕ) {b : Bool} {r : Light} {k : ℕ} → b ≡ is_full l → b ≡ false → r ≡ colour_of (verdict_of s) → k ≡ light_number r →
     (length l ≡ 16) × (k < 4)
 counts_one s l e p q n = (sixteen l e p, rw (n, q) (colour_lt (verdict_of s)))
-
-module _ (s l : List ℕ) {b : Bool} (e : b ≡ is_full l) where
-  pub uncounted : b ≡ true → IsLight s l l Uncounted
-  unfolding light_of left_of
-  uncounted p =
-      record {
-        answer = ap (λ (b : Bool). cond b Uncounted (colour_of (verdict_of s))) (sym p ∙ e);
-        held = ap (λ (b : Bool). cond b l (more l (light_number (colour_of (verdict_of s))))) (sym p ∙ e);
-      }
-
-  pub counted : {r : Light} {k : ℕ} {l' : List ℕ} → b ≡ false → r ≡ colour_of (verdict_of s) → k ≡ light_number r → l' ≡ more l k →
-      IsLight s l l' r
-  unfolding light_of left_of
-  counted p q n w =
-      record {
-        answer = q ∙ ap (λ (b : Bool). cond b Uncounted (colour_of (verdict_of s))) (sym p ∙ e);
-        held =
-            w ∙ ap (more l) (n ∙ ap light_number q)
-            ∙ ap (λ (b : Bool). cond b l (more l (light_number (colour_of (verdict_of s))))) (sym p ∙ e);
-      }

@@ -1,4 +1,6 @@
 // The fit light: the colour of a scene's verdict, and sixteen lent bytes in which the colours are counted.
+#![tactic(auto)]
+
 ghost use Rattle.std.specs.Prelude.{◌≡◌, ◌+◌, ◌%◌, ◌<◌, ◌≤◌, length};
 ghost use Rattle.questions.specs.Answers.{verdict_of};
 ghost use Rattle.light.specs.Light.{light_number, colour_of, word, put, total, is_full, more, IsLight};
@@ -10,7 +12,7 @@ use questions::Verdict;
 pub const MOST: u64 = 1000000;
 
 // The colours, and the one refusal of the light's own: the counts are not sixteen bytes, or are full.
-#[derive(Drop)]
+#[derive(Clone, Copy)]
 pub enum Light {
     Green,
     Amber,
