@@ -1,5 +1,7 @@
 // What each question about a scene is answered with, as a line in a lent buffer at a place; the answer is the place behind. Every byte is
 // told by the scene and the question.
+#![tactic(auto)]
+
 ghost use Rattle.print.specs.Text.{ascii, line};
 ghost use Rattle.print.specs.Put.{Put};
 ghost use Rattle.judge.specs.Judge.{judged};

@@ -1,0 +1,10 @@
+-- The line of what the kernel answers.
+use mathlib.Core.Path.{sym}
+use Rattle.print_lines.specs.Laws.{by_case}
+use Rattle.print_lines.specs.Lines.{answer_line}
+use Rattle.print.specs.Text.{ascii}
+use Rattle.print_answers.proofs.enclosed.Goals as goal
+
+pub returns : goal.returns
+returns c =
+    by_case (answer_line (ascii "enclosed")) (sym c.enclosed-x.ensures) c.enclosed.ensures
