@@ -1,4 +1,6 @@
 // The class report as text, rendered into a lent buffer at a place; the answer is the place behind.
+#![tactic(auto)]
+
 ghost use Rattle.std.specs.Prelude.{◌≡◌, [], ◌∷◌};
 ghost use Rattle.print.specs.Put.{Put};
 ghost use Rattle.print.specs.Text.{decimal, line};
