@@ -2,8 +2,7 @@
 ghost use Rattle.bodhranhaze.specs.Colours.{IsShown};
 
 // Shows the light of a scene, and counts its colour in the sixteen lent bytes.
-#[unsafe(no_mangle)]
-pub extern "C" fn bodhranhaze_light(s: &[u8], counts: &mut [u8]) -> usize
+pub fn bodhranhaze_light(s: &[u8], counts: &mut [u8]) -> usize
     ensures { IsShown s.now counts.old counts.new result }
 {
     light::number(light::light_of(s, counts))

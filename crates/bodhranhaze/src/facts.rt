@@ -31,8 +31,9 @@ fn say(facts: &mut [u64], j: Judged, f: Facts) -> usize
     requires { 8 ≤ length facts.old }
     ensures { FactsPut j f facts.old facts.new result }
 {
+    let place = place_of(&j);
     let n = number_of(j);
-    tell(facts, n, place_of(j), f);
+    tell(facts, n, place, f);
     n
 }
 
@@ -64,8 +65,7 @@ fn room_for(n: usize, places: usize) -> Judged
 
 // The number of the refusal: 13 before all others where there are not eight places for facts; the scene's own; or 10, with all facts told,
 // where the list has no room. What has no room keeps its contents.
-#[unsafe(no_mangle)]
-pub extern "C" fn bodhranhaze_survey(s: &[u8], list: &mut [u16], facts: &mut [u64]) -> usize
+pub fn bodhranhaze_survey(s: &[u8], list: &mut [u16], facts: &mut [u64]) -> usize
     ensures { IsFacts s.now list.old list.new facts.old facts.new result }
 {
     if facts.len() < 8 {

@@ -1,5 +1,7 @@
 // The questions to a scene, for C, asked of the plain engine: numbers for the answers, and 0 where a refused scene has none.
 // include/bodhranhaze.h declares them and says what the caller must keep.
+#![tactic(auto)]
+
 ghost use Rattle.std.specs.Prelude.{◌≡◌};
 ghost use Rattle.judge.specs.Judge.{judged};
 ghost use Rattle.questions.specs.Answers.{verdict_number, verdict_of};
@@ -24,12 +26,12 @@ fn number_of(j: Judged) -> usize
     }
 }
 
-fn place_of(j: Judged) -> usize
-    ensures { result ≡ refusal_place j }
+fn place_of(j: &Judged) -> usize
+    ensures { result ≡ refusal_place j.now }
 {
     match j {
         Judged::Accepted => 0,
-        Judged::Refused(r) => scene::place(r),
+        Judged::Refused(r) => scene::place(*r),
     }
 }
 
@@ -46,32 +48,28 @@ fn verdict_number(v: Verdict) -> usize
 }
 
 // The number of the scene's refusal, 0 for an accepted scene.
-#[unsafe(no_mangle)]
-pub extern "C" fn bodhranhaze_refusal(s: &[u8]) -> usize
+pub fn bodhranhaze_refusal(s: &[u8]) -> usize
     ensures { result ≡ refusal_number (judged s.now) }
 {
     number_of(judge::judge(s))
 }
 
 // Its place, 0 for an accepted scene.
-#[unsafe(no_mangle)]
-pub extern "C" fn bodhranhaze_place(s: &[u8]) -> usize
+pub fn bodhranhaze_place(s: &[u8]) -> usize
     ensures { result ≡ refusal_place (judged s.now) }
 {
-    place_of(judge::judge(s))
+    place_of(&judge::judge(s))
 }
 
 // 0 cross, 1 a-in-b, 2 b-in-a, 3 apart, 4 refused.
-#[unsafe(no_mangle)]
-pub extern "C" fn bodhranhaze_verdict(s: &[u8]) -> usize
+pub fn bodhranhaze_verdict(s: &[u8]) -> usize
     ensures { result ≡ verdict_number (verdict_of s.now) }
 {
     verdict_number(kernel::verdict::verdict_of(Engine::Plain, s))
 }
 
 // How many pierced pairs there are.
-#[unsafe(no_mangle)]
-pub extern "C" fn bodhranhaze_pairs(s: &[u8]) -> usize
+pub fn bodhranhaze_pairs(s: &[u8]) -> usize
     ensures { result ≡ pairs_of s.now }
 {
     let mut none = [0u16; 1];
@@ -83,8 +81,7 @@ pub extern "C" fn bodhranhaze_pairs(s: &[u8]) -> usize
 }
 
 // How many vertices of the solid, 1 for A and 2 for B, the other one encloses.
-#[unsafe(no_mangle)]
-pub extern "C" fn bodhranhaze_inside(s: &[u8], solid: usize) -> usize
+pub fn bodhranhaze_inside(s: &[u8], solid: usize) -> usize
     ensures { result ≡ inside_of s.now solid }
 {
     let e = kernel::inside::inside(Engine::Plain, s, solid);
@@ -95,8 +92,7 @@ pub extern "C" fn bodhranhaze_inside(s: &[u8], solid: usize) -> usize
 }
 
 // The pairs, where the list has room for all; how many there are in any case.
-#[unsafe(no_mangle)]
-pub extern "C" fn bodhranhaze_listing(s: &[u8], list: &mut [u16]) -> usize
+pub fn bodhranhaze_listing(s: &[u8], list: &mut [u16]) -> usize
     ensures { IsListing s.now list.old list.new result }
 {
     if let Listed::Count(n) = kernel::lists::listing(Engine::Plain, s, list) {

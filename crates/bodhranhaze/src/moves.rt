@@ -11,8 +11,7 @@ use scene::Row;
 use session::place;
 
 // A vertex, by its point number.
-#[unsafe(no_mangle)]
-pub extern "C" fn bodhranhaze_move(s: &mut [u8], p: usize, x: i64, y: i64, z: i64, w: i64) -> usize
+pub fn bodhranhaze_move(s: &mut [u8], p: usize, x: i64, y: i64, z: i64, w: i64) -> usize
     ensures { IsAnswered (move_fault s.old p (row_of x y z w)) s.old (row_put s.old p (row_of x y z w))
         s.new result }
 {
@@ -30,8 +29,7 @@ pub extern "C" fn bodhranhaze_move(s: &mut [u8], p: usize, x: i64, y: i64, z: i6
 }
 
 // The far point.
-#[unsafe(no_mangle)]
-pub extern "C" fn bodhranhaze_move_far(s: &mut [u8], x: i64, y: i64, z: i64, w: i64) -> usize
+pub fn bodhranhaze_move_far(s: &mut [u8], x: i64, y: i64, z: i64, w: i64) -> usize
     ensures { IsAnswered (move_far_fault s.old (row_of x y z w)) s.old (row_put s.old 0 (row_of x y z w))
         s.new result }
 {
@@ -49,8 +47,7 @@ pub extern "C" fn bodhranhaze_move_far(s: &mut [u8], x: i64, y: i64, z: i64, w: 
 }
 
 // A face, its first and third corners swapped.
-#[unsafe(no_mangle)]
-pub extern "C" fn bodhranhaze_reverse(s: &mut [u8], f: usize) -> usize
+pub fn bodhranhaze_reverse(s: &mut [u8], f: usize) -> usize
     ensures { IsAnswered (reverse_fault s.old f) s.old (reversed_in s.old s.old (f - 1))
         s.new result }
 {

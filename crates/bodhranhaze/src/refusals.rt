@@ -7,8 +7,7 @@ use pierce_engine::Engine;
 use questions::Enclosing;
 
 // The scene's own refusal, or 11 for a solid that is neither 1 nor 2.
-#[unsafe(no_mangle)]
-pub extern "C" fn bodhranhaze_inside_refusal(s: &[u8], solid: usize) -> usize
+pub fn bodhranhaze_inside_refusal(s: &[u8], solid: usize) -> usize
     ensures { result ≡ inside_refusal s.now solid }
 {
     let e = kernel::inside::inside(Engine::Plain, s, solid);
@@ -19,8 +18,7 @@ pub extern "C" fn bodhranhaze_inside_refusal(s: &[u8], solid: usize) -> usize
 }
 
 // The scene's own refusal, or 10 where a list of so many places has no room for the listing.
-#[unsafe(no_mangle)]
-pub extern "C" fn bodhranhaze_listing_refusal(s: &[u8], places: usize) -> usize
+pub fn bodhranhaze_listing_refusal(s: &[u8], places: usize) -> usize
     ensures { result ≡ listing_refusal s.now places }
 {
     if let Judged::Refused(r) = judge::judge(s) {

@@ -7,8 +7,7 @@ use doubles::record::Recorded;
 use doubles::{Taken, Vertex};
 
 // Writes the nine bytes of the vertex's record and answers 0; or the refusal's number, and nothing is written.
-#[unsafe(no_mangle)]
-pub extern "C" fn bodhranhaze_take(x: f64, y: f64, z: f64, w: f64, out: &mut [u8]) -> usize
+pub fn bodhranhaze_take(x: f64, y: f64, z: f64, w: f64, out: &mut [u8]) -> usize
     ensures { IsTake (vertex x y z w) out.old out.new result }
 {
     let r = doubles::record::record_of(Vertex { x, y, z, w }, out);
@@ -19,8 +18,7 @@ pub extern "C" fn bodhranhaze_take(x: f64, y: f64, z: f64, w: f64, out: &mut [u8
 }
 
 // The place of the vertex's own refusal, 1 to 4; 0 where it is taken.
-#[unsafe(no_mangle)]
-pub extern "C" fn bodhranhaze_take_place(x: f64, y: f64, z: f64, w: f64) -> usize
+pub fn bodhranhaze_take_place(x: f64, y: f64, z: f64, w: f64) -> usize
     ensures { result ≡ taken_place (taken_of (vertex x y z w)) }
 {
     let t = doubles::take(Vertex { x, y, z, w });
