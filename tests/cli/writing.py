@@ -70,9 +70,9 @@ def a_program_alone_tells_that_standard_output_is_closed(title):
         holds(f"{words[0]}: standard output: Bad file descriptor" in ended.err, ended.err)
 
 
-@each("write", "close")
+@each("write", "fsync")
 def a_disk_that_is_full_only_later_is_told(call):
-    """At the second write, or only where the file is closed, as some file servers tell it."""
+    """At the second write, or only where the file is handed to the disk, as some file servers tell it."""
     needs("strace")
     with folder() as room:
         path = f"{room}/answer"
