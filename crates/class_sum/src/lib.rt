@@ -1,4 +1,6 @@
 // The report of all blocks whose reports were read.
+#![tactic(auto)]
+
 ghost use Rattle.std.specs.Prelude.{◌≡◌};
 ghost use Rattle.class_sum.specs.Merged.{nothing, tally_in, reaches, sum_of};
 
