@@ -1,14 +1,14 @@
 -- What acceptance gives to the floors above: the rows, the faces and the edges of an accepted scene, by the scene's own numbers.
 -- Assumes nothing.
 use Rattle.std.specs.Prelude.{◌≡◌, refl, ◌≢◌, ◌↔◌, List, map, ℕ, zero, suc, ◌+◌, ◌≤◌, ◌<◌, pos, nat_abs}
-use Rattle.std.proofs.Common.{sym, ap, ◌∙◌, subst, inl, inr, arith}
+use Rattle.std.proofs.Common.{sym, ap, subst, inl, inr, arith}
 use Rattle.std.proofs.Math.Decide.{dec_lt}
 use Rattle.laws.specs.Lists.{Each, run, each_run}
-use Rattle.laws.specs.Mapped.{each_mapped, number_mapped, map_run, run_from}
+use Rattle.laws.specs.Mapped.{each_mapped, number_mapped}
 use Rattle.scene.specs.Limits.{Limits}
 use Rattle.scene.specs.Records.{verts_a, verts_b, faces_in_a, faces_in_b, verts, faces}
-use Rattle.scene.specs.Tables.{points, row, raise, face, row_at, face_at, tables_of}
-use Rattle.scene.specs.Read.{size_a, size_b, points_are, row_is, far_is, row_zero, row_none, face_zero, face_a, face_b, face_none}
+use Rattle.scene.specs.Tables.{points, row, raise, face, row_at, tables_of}
+use Rattle.scene.specs.Read.{size_a, size_b, points_are, row_is, far_is, row_zero, row_none, face_zero, face_none}
 use Rattle.scene.specs.Arrays.{RowWithin, AllWithin, FaceWithin, FacesWithin}
 use Rattle.scene.specs.Faces.{Corner, Both, FaceOf, Sides, EdgeOk, EdgesOk}
 use Rattle.scene.specs.declared.Row.{Row}
@@ -18,6 +18,7 @@ use Rattle.judge.specs.declared.Judged.TheVariants.{Accepted}
 use Rattle.rules.specs.Rules.{Between, CountsOk, RecordOk, FileOk}
 use Rattle.rules.specs.TableRules.{TablesOk}
 use Rattle.rules.proofs.Bridge.{by_tables}
+use Rattle.rules.proofs.Raised.{faces_a_law, faces_b_law}
 use Rattle.rules.proofs.Accepted.{accepted}
 
 -- ---- faces raised to the scene's numbers
@@ -52,20 +53,6 @@ module _ (m : ℕ) where
   edges_raised fs =
       each_mapped (Sides (EdgeOk fs)) (Sides (EdgeOk (map (raise m) fs))) (raise m)
       (λ f h. (edge_raised fs f.p f.q h.0, edge_raised fs f.q f.r h.1, edge_raised fs f.r f.p h.2)) fs
-
--- ---- the faces of A and of B, by the scene's numbers
-
-module _ (s : List ℕ) where
-  pub faces_a_law : run (face (tables_of s)) 1 (faces_in_a s) ≡ (tables_of s).a.faces
-  faces_a_law =
-      run_from (face (tables_of s)) (face_at s) 1 0 (faces_in_a s)
-      (λ i b. face_a s (1 + i) (omega arith) (omega arith) ∙ ap (face_at s) (omega arith))
-
-  pub faces_b_law : run (face (tables_of s)) (faces_in_a s + 1) (faces_in_b s) ≡ map (raise (verts_a s)) (tables_of s).b.faces
-  faces_b_law =
-      run_from (face (tables_of s)) (λ i. raise (verts_a s) (face_at s i)) (faces_in_a s + 1) (faces_in_a s) (faces_in_b s)
-      (λ i b. face_b s (faces_in_a s + 1 + i) (omega arith) (omega arith) ∙ ap (λ (i : ℕ). raise (verts_a s) (face_at s i)) (omega arith))
-      ∙ sym (map_run (raise (verts_a s)) (face_at s) (faces_in_a s) (faces_in_b s))
 
 module _ (l : Limits) (s : List ℕ) (ok : judged_at l s ≡ Accepted) where
   abbrev rules : FileOk l s

@@ -8,4 +8,5 @@ pub mod Bridge
 pub mod Written
 pub mod Files
 pub mod Rerowed
+pub mod Raised
 pub mod Given

@@ -13,7 +13,8 @@ use Rattle.scene.specs.View.Laws.{solid_a_law, solid_b_law}
 use Rattle.scene.specs.declared.Face.{Face}
 use Rattle.judge.specs.Judge.{judged}
 use Rattle.judge.specs.declared.Judged.TheVariants.{Accepted}
-use Rattle.rules.proofs.Given.{faces_a_law, faces_b_law, tables_ok}
+use Rattle.rules.proofs.Given.{tables_ok}
+use Rattle.rules.proofs.Raised.{faces_a_law, faces_b_law}
 use Rattle.off_write.specs.Drawing.{lowered, table_in, drawn, drawn_of}
 use Rattle.theorem_off.specs.Redrawn.{Cornered, Denotes}
 use Rattle.theorem_off.specs.Drawn.{drawing_back}
