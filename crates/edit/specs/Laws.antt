@@ -5,6 +5,7 @@ use Rattle.std.proofs.Common.{ap, ◌∙◌, arith, eq-eqb, eqb-true, SFits}
 use Rattle.std.proofs.Math.Bool.{and-eq-true_iff}
 use Rattle.std.specs.Int.Signed.{lt_z}
 use Rattle.std.specs.Int.{w64}
+use mir.ValLaws.{to_z-of_z}
 use Rattle.print.specs.Size.{reread, cast_size}
 use Rattle.scene.specs.Negative.{below, above}
 use Rattle.scene.specs.declared.Row.{Row}
@@ -91,6 +92,14 @@ module _ (i : ℕ) (x y z w : Word) where
   unfolding row_of
   row_four p q r t = rw (p, q, r, t)
 
+  -- each number is read from its bits
+  pub row_read : {a b c d : ℤ} → SFits w64 a → SFits w64 b → SFits w64 c → SFits w64 d → x ≡ Number a → y ≡ Number b →
+      z ≡ Number c → w ≡ Number d → four.Row (record { x = reread a; y = reread b; z = reread c; w = reread d }) ≡ row_of i x y z w
+  unfolding row_of
+  row_read {a} {b} {c} {d} fa fb fc fd p q r t =
+      rw (p, q, r, t)
+      (λ j. four.Row (record { x = to_z-of_z w64 a fa j; y = to_z-of_z w64 b fb j; z = to_z-of_z w64 c fc j; w = to_z-of_z w64 d fd j }))
+
 -- o is the row that the words behind give
 module _ (i : ℕ) (p : Word) (v : Four) where
   pub move_none : p ≡ None → asked.Wrong (i + 1) ≡ move_by i p v
@@ -105,6 +114,10 @@ module _ (i : ℕ) (p : Word) (v : Four) where
       asked.Operation (operation.Move k t) ≡ move_by i p v
   unfolding move_by
   move_row {t = t} e q m r = rw (q, sym e ∙ r) (ap (λ (k : ℕ). asked.Operation (operation.Move k t)) m)
+
+  pub move_read : {o : Four} {n : ℤ} {k : ℕ} {t : Row} → SFits w64 n → o ≡ v → p ≡ Number n → k ≡ named (reread n) →
+      o ≡ four.Row t → asked.Operation (operation.Move k t) ≡ move_by i p v
+  move_read {n = n} f e q m r = move_row e q (m ∙ ap named (to_z-of_z w64 n f)) r
 
 module _ {o v : Four} (e : o ≡ v) where
   pub far_wrong : {k : ℕ} → o ≡ four.Wrong k → asked.Wrong k ≡ far_by v
@@ -123,6 +136,10 @@ module _ (i : ℕ) {f : Word} where
   pub reverse_so : {n : ℤ} {k : ℕ} → f ≡ Number n → k ≡ named n → asked.Operation (operation.Reverse k) ≡ reverse_of i f
   unfolding reverse_of
   reverse_so p m = rw p (ap (λ (k : ℕ). asked.Operation (operation.Reverse k)) m)
+
+  pub reverse_read : {n : ℤ} {k : ℕ} → SFits w64 n → f ≡ Number n → k ≡ named (reread n) →
+      asked.Operation (operation.Reverse k) ≡ reverse_of i f
+  reverse_read {n} g p m = reverse_so p (m ∙ ap named (to_z-of_z w64 n g))
 
 -- ---- steps
 

@@ -1,7 +1,6 @@
 -- What the words of an operation denote: `move P X Y Z W`, `far X Y Z W`, `reverse F`. Assumes nothing.
 use Rattle.std.specs.Prelude.{ℕ, ◌+◌, Bool, true, false, cond, ◌&&◌, List, [], ◌∷◌, eqb, ℤ, pos, negsuc}
 use Rattle.print.specs.Text.{ascii}
-use Rattle.scene.specs.declared.Row.{Row}
 use Rattle.cli_words.specs.declared.Word.{Word}
 use Rattle.cli_words.specs.declared.Word.TheVariants.{Number, None}
 use Rattle.edit.specs.declared.operations.Operation.{Operation}

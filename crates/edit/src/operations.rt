@@ -64,6 +64,7 @@ fn row_of(i: usize, x: Word, y: Word, z: Word, w: Word) -> Four
     })
 }
 
+#[tactic(auto, using(crate::specs::Laws::move_none, crate::specs::Laws::move_wrong, crate::specs::Laws::move_read))]
 fn move_of(i: usize, a: Word, b: Word, c: Word, d: Word, e: Word) -> Asked
     requires { i < 8388608 }
     ensures { result ≡ move_of i a b c d e }
@@ -78,6 +79,7 @@ fn move_of(i: usize, a: Word, b: Word, c: Word, d: Word, e: Word) -> Asked
     }
 }
 
+#[tactic(auto, using(crate::specs::Laws::far_wrong, crate::specs::Laws::far_row))]
 fn far_of(i: usize, a: Word, b: Word, c: Word, d: Word) -> Asked
     requires { i < 8388608 }
     ensures { result ≡ far_of i a b c d }
@@ -89,6 +91,7 @@ fn far_of(i: usize, a: Word, b: Word, c: Word, d: Word) -> Asked
     }
 }
 
+#[tactic(auto, using(crate::specs::Laws::reverse_none, crate::specs::Laws::reverse_read))]
 fn reverse_of(i: usize, a: Word) -> Asked
     requires { i < 8388608 }
     ensures { result ≡ reverse_of i a }

@@ -23,6 +23,7 @@ pub fn step(s: Session, o: Operation) -> Changed
     }
 }
 
+#[tactic(auto, using(crate::specs::Laws::told_counts, crate::specs::Laws::told_refused))]
 fn told(c: Changed) -> Counted
     ensures { result ≡ told_of c }
 {
@@ -43,6 +44,7 @@ pub fn line_of(out: &mut [u8], c: Changed) -> usize
 }
 
 // The session's scene to the front of out; the answer is its length, 0 for the empty session.
+#[tactic(auto, using(crate::specs::Written::scene_none, crate::specs::Written::scene_short, crate::specs::Written::scene_fits, crate::specs::Written::scene_front))]
 pub fn scene_in(s: Session, out: &mut [u8]) -> usize
     ensures { (result ≤ length out.old) × (take result out.new ≡ scene_within (length out.old) (scene s)) }
 {
