@@ -169,6 +169,17 @@ def folders_that_do_not_fit():
 
 
 @test
+def standard_input_is_read_once():
+    scene = example("printed.scene")
+    trouble(front("class", "-", "-", stdin=scene), "class", "-: Bad file descriptor")
+    ended = front("table", "-", "-", stdin=scene)
+    same((ended.status, [line.split("\t")[:2] for line in ended.out.decode().splitlines()[1:]]), (2, [["-", "cross"], ["-", "not read"]]))
+    with folder() as room:
+        ended = front("pack", f"{room}/blocks", "-", "-", stdin=scene)
+        holds("pack: -: Bad file descriptor\n" in ended.err and ended.status == 2, ended)
+
+
+@test
 def folders_and_files_together():
     with folder() as room:
         os.mkdir(f"{room}/sub")

@@ -83,12 +83,30 @@ def a_disk_that_is_full_only_later_is_told(call):
         trouble(ended, "report", "standard output: No space left on device")
 
 
+def without_reader(*words, **more):
+    """How a run ends, and what it says, whose answer no one reads."""
+    words = [str(word) for word in (FRONT, *words)]
+    with subprocess.Popen(words, stdout=subprocess.PIPE, stderr=subprocess.PIPE, env=ENVIRONMENT, **more) as ended:
+        ended.stdout.close()
+        return ended.wait(timeout=60), ended.stderr.read()
+
+
 @each([], ["--refusals"])
 def a_reader_that_has_gone_ends_it_silently(options):
-    words = [str(word) for word in (FRONT, *options, "report", example("heaviest.scene"))]
-    with subprocess.Popen(words, stdout=subprocess.PIPE, stderr=subprocess.PIPE, env=ENVIRONMENT) as ended:
-        ended.stdout.close()
-        same((ended.wait(timeout=60), ended.stderr.read()), (141, b""))
+    same(without_reader(*options, "report", example("heaviest.scene")), (141, b""))
+
+
+@test
+def a_reader_that_has_gone_ends_a_program_that_would_say_more():
+    with folder() as room:
+        same(without_reader("pack", f"{room}/blocks", example("printed.scene")), (141, b""))
+
+
+@test
+def a_reader_that_has_gone_is_told_where_the_signal_is_ignored():
+    words = (example("heaviest.scene"),)
+    ignored = {"restore_signals": False, "preexec_fn": lambda: signal.signal(signal.SIGPIPE, signal.SIG_IGN)}
+    same(without_reader("report", *words, **ignored), (2, b"report: standard output: Broken pipe\n"))
 
 
 def room_for_none():

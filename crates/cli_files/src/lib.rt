@@ -27,6 +27,8 @@ pub struct Walk {
     pub all: usize,
     // The names can't be read: that was said, and there is no walk, or no more of it.
     pub failed: bool,
+    // Standard input was read as a file, which ends it: it can't be read once more.
+    pub input_read: bool,
     // Whether the walk is shown on the terminal, once that is open, and the time when it is next.
     pub shown: bool,
     pub terminal: Option<fs::File>,
@@ -48,6 +50,9 @@ pub const MOST_FILES: usize = 140737488355328;
 
 // The number of standard error, the last of the standard ones.
 const LAST_STANDARD: i32 = 2;
+
+// The system's error about a file that is not open.
+const BAD_FILE: i32 = 9;
 
 // Whether a file that is opened has a number of its own. Where a standard one was closed it is open now, and stays so.
 fn is_beyond_standard(rt: &HostRuntime) -> bool {
@@ -88,6 +93,7 @@ fn walk_over(list: Option<Source>, at: usize, end: usize) -> Walk {
         named: 0,
         all: 0,
         failed: false,
+        input_read: false,
         shown: false,
         terminal: None,
         due: 0,
@@ -228,26 +234,34 @@ fn next_name(
 }
 
 // A word may name standard input; a line of a list, which may be standard input itself, names a file.
-fn open(rt: &HostRuntime, listed: bool, name: &[u8]) -> io::Result<Source> {
-    if !listed {
-        if same(name, b"-") {
-            return Ok(Source::Standard(rt.stdin()));
-        }
+fn is_input(w: &Walk, name: &[u8]) -> bool {
+    if w.list.is_some() {
+        return false;
     }
-    Ok(Source::Named(cli::open(rt, name)?))
+    same(name, b"-")
+}
+
+fn open(rt: &HostRuntime, w: &Walk, name: &[u8]) -> io::Result<Source> {
+    if !is_input(w, name) {
+        return Ok(Source::Named(cli::open(rt, name)?));
+    }
+    if w.input_read {
+        return Err(io::Error::from_raw_os_error(BAD_FILE));
+    }
+    Ok(Source::Standard(rt.stdin()))
 }
 
 // Where that fails it is said, and the input is not whole.
 fn read_named(
     rt: &HostRuntime,
     program: &[u8],
-    listed: bool,
+    w: &Walk,
     name: &[u8],
     buf: &mut [u8],
 ) -> cli::Input
     ensures { IsPrefixLen result.count buf.new }
 {
-    match open(rt, listed, name) {
+    match open(rt, w, name) {
         Err(e) => {
             cli::fail(rt, program, name, e);
             cli::Input {
@@ -280,7 +294,7 @@ pub fn step(
     ensures prefix_len_2 { IsPrefixLen result.count buf.new }
 {
     let next = next_name(rt, program, w, piece, name);
-    let v = next.walk;
+    let mut v = next.walk;
     let n = next.count;
     if !next.found {
         return File {
@@ -291,8 +305,11 @@ pub fn step(
             count: 0,
         };
     }
-    let r = read_named(rt, program, v.list.is_some(), &name[..n], buf);
+    let r = read_named(rt, program, &v, &name[..n], buf);
     let k = r.count;
+    if is_input(&v, &name[..n]) {
+        v.input_read = true;
+    }
     File {
         walk: progress::told(rt, v),
         found: true,
