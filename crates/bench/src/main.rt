@@ -155,13 +155,12 @@ fn play(rt: &HostRuntime, first: Bench, count: usize) -> bool
     let mut i = FIRST;
     while i < count {
         let c = moved(rt, b, i);
-        let a = said::again(&c.answer);
-        let next = c.bench;
         if !say(rt, c) {
             return false;
         }
+        let a = c.answer;
         whys::moved(rt, a);
-        b = next;
+        b = c.bench;
         i += WORDS;
     }
     true
@@ -178,11 +177,11 @@ fn use_bench(rt: &HostRuntime, s: &[u8], t: &[u8], count: usize)
     requires { count < 4194304 }
 {
     let c = bench_moves::open(s, t);
-    let a = said::again(&c.answer);
-    let b = c.bench;
     if !say(rt, c) {
         return;
     }
+    let a = c.answer;
+    let b = c.bench;
     whys::opening(rt, a, s, t);
     if play(rt, b, count) {
         cli::finish(rt, b"bench");

@@ -1,5 +1,5 @@
 // The lines that are printed, each rendered into a lent buffer; the answer is the place behind.
-ghost use Rattle.std.specs.Prelude.{[], ◌∷◌, ◌≡◌};
+ghost use Rattle.std.specs.Prelude.{[], ◌∷◌};
 ghost use Rattle.print.specs.Put.{Put};
 ghost use Rattle.print.specs.Text.{ascii, line};
 ghost use Rattle.bench.specs.Said.{fault_line, answer_line, counts_line, usage_line};
@@ -7,27 +7,6 @@ ghost use Rattle.bench.specs.Said.{fault_line, answer_line, counts_line, usage_l
 use bench_moves::{Answer, Fault};
 use print::{newline, next_number, next_word, word};
 use questions::Counts;
-
-// A fault is read for its number and for its place.
-fn fault_again(f: &Fault) -> Fault
-    ensures { result ≡ f.now }
-{
-    match f {
-        Fault::Scene(r) => Fault::Scene(*r),
-        Fault::Shared(p) => Fault::Shared(*p),
-        Fault::Differing => Fault::Differing,
-    }
-}
-
-// An answer is printed, and read once more for what is said of it.
-pub fn again(a: &Answer) -> Answer
-    ensures { result ≡ a.now }
-{
-    match a {
-        Answer::Done => Answer::Done,
-        Answer::Refused(f) => Answer::Refused(fault_again(f)),
-    }
-}
 
 fn done(out: &mut [u8]) -> usize
     ensures { Put out.old 0 (line (ascii "done" ∷ [])) out.new result }
@@ -39,9 +18,8 @@ fn done(out: &mut [u8]) -> usize
 fn refused(out: &mut [u8], f: Fault) -> usize
     ensures { Put out.old 0 (line (fault_line f)) out.new result }
 {
-    let g = fault_again(&f);
     let p = word(out, 0, b"refused");
-    let q = next_number(out, p, bench_moves::number(g));
+    let q = next_number(out, p, bench_moves::number(f));
     let e = next_number(out, q, bench_moves::place(f));
     newline(out, e)
 }

@@ -28,21 +28,21 @@ pub enum Group {
 }
 
 // Why an operation is refused: a refusal of a scene, 19 for a point that is not the group's own, 22 for scenes that share no fixture.
-#[derive(Drop)]
+#[derive(Clone, Copy)]
 pub enum Fault {
     Scene(Refusal),
     Shared(usize),
     Differing,
 }
 
-#[derive(Drop)]
+#[derive(Clone, Copy)]
 pub enum Answer {
     Done,
     Refused(Fault),
 }
 
 // An operation's answer, and the bench after it.
-#[derive(Drop)]
+#[derive(Clone, Copy)]
 pub struct Answered {
     pub answer: Answer,
     pub bench: Bench,

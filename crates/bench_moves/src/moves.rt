@@ -20,7 +20,7 @@ pub struct Solids {
 }
 
 // A group's answer, and its session after it.
-#[derive(Drop)]
+#[derive(Clone, Copy)]
 pub struct Moved {
     pub answer: Answer,
     pub session: Session,

@@ -31,9 +31,8 @@ fn say(facts: &mut [u64], j: Judged, f: Facts) -> usize
     requires { 8 ≤ length facts.old }
     ensures { FactsPut j f facts.old facts.new result }
 {
-    let place = place_of(&j);
     let n = number_of(j);
-    tell(facts, n, place, f);
+    tell(facts, n, place_of(j), f);
     n
 }
 

@@ -1,5 +1,5 @@
-// The questions to a scene, for C, asked of the plain engine: numbers for the answers, and 0 where a refused scene has none.
-// include/bodhranhaze.h declares them and says what the caller must keep.
+// The questions to a scene as C asks them, of the plain engine: numbers for the answers, and 0 where a refused scene has none.
+// `bodhranhaze_c` exports them; include/bodhranhaze.h declares them and says what the caller must keep.
 #![tactic(auto)]
 
 ghost use Rattle.std.specs.Prelude.{◌≡◌};
@@ -26,12 +26,12 @@ fn number_of(j: Judged) -> usize
     }
 }
 
-fn place_of(j: &Judged) -> usize
-    ensures { result ≡ refusal_place j.now }
+fn place_of(j: Judged) -> usize
+    ensures { result ≡ refusal_place j }
 {
     match j {
         Judged::Accepted => 0,
-        Judged::Refused(r) => scene::place(*r),
+        Judged::Refused(r) => scene::place(r),
     }
 }
 
@@ -58,7 +58,7 @@ pub fn bodhranhaze_refusal(s: &[u8]) -> usize
 pub fn bodhranhaze_place(s: &[u8]) -> usize
     ensures { result ≡ refusal_place (judged s.now) }
 {
-    place_of(&judge::judge(s))
+    place_of(judge::judge(s))
 }
 
 // 0 cross, 1 a-in-b, 2 b-in-a, 3 apart, 4 refused.

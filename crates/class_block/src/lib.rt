@@ -55,7 +55,7 @@ fn scene_at(block: &[u8], at: usize) -> &[u8]
 }
 
 // A lent block, and the place of the next scene.
-#[derive(Drop)]
+#[derive(Clone, Copy)]
 pub struct Reader<'a> {
     block: &'a [u8],
     at: usize,

@@ -17,7 +17,7 @@ mod places;
 // What is known between two bytes: the place in the form, its end where a byte did not fit; the number that is being read; the mean's whole
 // part; the totals, which are the 15 lines that count scenes, the pierced pairs and the accepted scenes; whether a block was refused; and
 // how many whole reports were read.
-#[derive(Drop)]
+#[derive(Clone, Copy)]
 pub struct Reading {
     pub at: usize,
     pub number: usize,
@@ -28,7 +28,7 @@ pub struct Reading {
 }
 
 // What is known where the reading of a text ended.
-#[derive(Drop)]
+#[derive(Clone, Copy)]
 pub struct Fed {
     pub end: usize,
     pub reading: Reading,

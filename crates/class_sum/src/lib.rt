@@ -9,7 +9,7 @@ use class_tally::{Report, Tally};
 use off_items::numbers::LARGEST;
 
 // A text may end inside a report or not be reports, and a sum may reach the largest number of 64 bits.
-#[derive(Drop)]
+#[derive(Clone, Copy)]
 pub enum Merged {
     Sum(Report),
     TooLarge,

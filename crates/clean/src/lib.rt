@@ -21,7 +21,7 @@ use scene::decode::row_in;
 use scene::read::byte;
 use scene::{Refusal, Row, Rows, Scene, decode};
 
-#[derive(Drop)]
+#[derive(Clone, Copy)]
 pub enum Answer {
     Refused(Refusal),
     Yes,

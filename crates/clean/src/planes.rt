@@ -6,7 +6,7 @@ ghost use Rattle.clean.specs.Sizes.{most_entry, most_coefficient, RowSmall, Thre
 use scene::Row;
 
 // Three entries of a row.
-#[derive(Drop)]
+#[derive(Clone, Copy)]
 struct Three {
     x: i64,
     y: i64,

@@ -12,7 +12,7 @@ use std::rt::{Env, Stdin};
 use std::{fs, io, str};
 
 // What was read: how many bytes, and whether these are all, or as many as there was room for; else why there are no more.
-#[derive(Drop)]
+#[derive(Clone, Copy)]
 pub struct Input {
     pub whole: bool,
     pub count: usize,

@@ -10,7 +10,7 @@ use std::env::FillError;
 use std::rt::Env;
 
 // A word's number. One that is larger in size than MOST is told as MOST, which is outside every limit.
-#[derive(Drop)]
+#[derive(Clone, Copy)]
 pub enum Word {
     Number(i64),
     None,

@@ -76,8 +76,8 @@ fn play(rt: &HostRuntime, first: Session, count: usize) -> Session
             return s;
         };
         let c = steps::step(s, o);
-        s = c.session;
         said::operation(rt, c);
+        s = c.session;
         i += operations::words_of(o);
     }
     s
@@ -98,9 +98,8 @@ fn change(rt: &HostRuntime, s: &[u8], count: usize)
     requires { count < 4194304 }
 {
     let c = session::open(s);
-    let first = c.session;
     said::opening(rt, s, c);
-    write_scene(rt, play(rt, first, count));
+    write_scene(rt, play(rt, c.session, count));
 }
 
 fn run(rt: &HostRuntime, file: usize, count: usize)

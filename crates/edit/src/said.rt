@@ -29,14 +29,6 @@ nothing is written.
     )
 }
 
-// Why it is refused, where it is.
-fn refusal_of(c: &Changed) -> Option<Refusal> {
-    match c.answer {
-        Judged::Refused(r) => Some(r),
-        Judged::Accepted => None,
-    }
-}
-
 // The counts after it, or its refusal.
 fn answer(rt: &HostRuntime, c: Changed) {
     // `counts` and three numbers, each of no more than 20 digits.
@@ -55,9 +47,9 @@ fn why(rt: &HostRuntime, s: &[u8], r: Refusal) {
 }
 
 pub fn opening(rt: &HostRuntime, s: &[u8], c: Changed) {
-    let refusal = refusal_of(&c);
     answer(rt, c);
-    if let Some(r) = refusal {
+    let a = c.answer;
+    if let Judged::Refused(r) = a {
         why(rt, s, r);
     }
     if s.len() == 0 {
@@ -79,9 +71,9 @@ fn rule(rt: &HostRuntime, r: Refusal) {
 }
 
 pub fn operation(rt: &HostRuntime, c: Changed) {
-    let refusal = refusal_of(&c);
     answer(rt, c);
-    if let Some(r) = refusal {
+    let a = c.answer;
+    if let Judged::Refused(r) = a {
         rule(rt, r);
     }
 }

@@ -12,7 +12,7 @@ mod points;
 mod records;
 mod words;
 
-#[derive(Drop)]
+#[derive(Clone, Copy)]
 pub enum Judged {
     Accepted,
     Refused(Refusal),

@@ -32,13 +32,13 @@ pub enum Fault {
 }
 
 // How many bytes the image has.
-#[derive(Drop)]
+#[derive(Clone, Copy)]
 pub enum Imaged {
     Refused(Fault),
     Written(usize),
 }
 
-#[derive(Drop)]
+#[derive(Clone, Copy)]
 enum Checked {
     Fine,
     Faulty(Fault),

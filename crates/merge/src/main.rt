@@ -28,7 +28,7 @@ enum Asked {
 }
 
 // How far a text was read, why it could not be read further, and what is known there.
-#[derive(Drop)]
+#[derive(Clone, Copy)]
 struct Text {
     error: Option<io::Error>,
     bytes: usize,
@@ -36,7 +36,7 @@ struct Text {
 }
 
 // What is known behind an input, where it stands.
-#[derive(Drop)]
+#[derive(Clone, Copy)]
 struct Known {
     stands: bool,
     reading: Reading,
@@ -168,16 +168,8 @@ fn read_input(rt: &HostRuntime, i: usize, alone: bool, known: Reading) -> Known 
         };
     };
     let t = read_text(&mut file, known);
-    let totals = t.reading.totals;
-    let reading = Reading {
-        at: t.reading.at,
-        number: t.reading.number,
-        whole: t.reading.whole,
-        totals,
-        longer: t.reading.longer,
-        reports: t.reading.reports,
-    };
     let stands = text_stands(rt, &name[0..n], t, alone);
+    let reading = t.reading;
     Known { stands, reading }
 }
 

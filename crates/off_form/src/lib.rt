@@ -14,7 +14,7 @@ use off_items::{Item, next};
 use scene::read::byte;
 
 // Read up to an offset; or the first byte of the first item outside the form, or that is the size of a face and not 3.
-#[derive(Drop)]
+#[derive(Clone, Copy)]
 pub enum Reading {
     At(usize),
     Outside(usize),

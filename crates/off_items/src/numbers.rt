@@ -106,7 +106,7 @@ pub fn size(text: &[u8], i: usize, e: usize, signed: bool) -> usize
 }
 
 // A whole number below zero or not, by its size.
-#[derive(Drop)]
+#[derive(Clone, Copy)]
 pub struct Number {
     pub minus: bool,
     pub size: usize,

@@ -22,7 +22,7 @@ pub enum Fault {
 }
 
 // The length of the scene that was written, or why there is none.
-#[derive(Drop)]
+#[derive(Clone, Copy)]
 pub enum Made {
     Scene(usize),
     Refused(Fault),

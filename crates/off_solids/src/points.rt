@@ -10,7 +10,7 @@ use off_items::numbers::{Number, signed_number, size};
 use scene::Face;
 
 // A point's four numbers, the weight last.
-#[derive(Drop)]
+#[derive(Clone, Copy)]
 pub struct Point {
     pub x: Number,
     pub y: Number,

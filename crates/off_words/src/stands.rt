@@ -11,7 +11,7 @@ use scene::read::byte;
 
 // A byte order mark in front; a tab; a carriage return; a text's first item, and no keyword; a whole number, which the form has no place
 // for behind the last face alone; one with a minus sign; or no whole number.
-#[derive(Drop)]
+#[derive(Clone, Copy)]
 pub enum Stand {
     Mark,
     Tab,

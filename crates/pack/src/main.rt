@@ -58,10 +58,10 @@ fn written(rt: &HostRuntime, program: &[u8], p: Packing, dir: &[u8], block: &[u8
 }
 
 // Whether it can stand in a block: one that is refused with 1, 2 or 3 would end the block's report.
-fn passes(j: &Judged) -> bool
-    ensures { result ≡ passes j.now }
+fn passes(j: Judged) -> bool
+    ensures { result ≡ passes j }
 {
-    match *j {
+    match j {
         Judged::Accepted => true,
         Judged::Refused(r) => scene::number(r) > 3,
     }
@@ -87,7 +87,7 @@ fn is_whole(rt: &HostRuntime, program: &[u8], name: &[u8], s: &[u8]) -> bool
     ensures { result ≡ passes (judged s.now) }
 {
     let j = judge::judge(s);
-    let whole = passes(&j);
+    let whole = passes(j);
     if !whole {
         say_judged(rt, program, name, j);
     }

@@ -9,7 +9,7 @@ use questions::{Counts, Verdict};
 use scene::Scene;
 
 // The place behind the head, and how many rows follow it.
-#[derive(Drop)]
+#[derive(Clone, Copy)]
 pub struct Top {
     pub end: usize,
     pub rows: usize,

@@ -12,7 +12,7 @@ use print::{newline, next_number, word};
 pub const ROW: usize = 18;
 
 // How many rows were put, and the place behind them.
-#[derive(Drop)]
+#[derive(Clone, Copy)]
 pub struct RowsPut {
     pub count: usize,
     pub end: usize,

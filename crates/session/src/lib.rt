@@ -32,7 +32,7 @@ pub struct Session {
 }
 
 // An operation's answer, and the session after it.
-#[derive(Drop)]
+#[derive(Clone, Copy)]
 pub struct Changed {
     pub answer: Judged,
     pub session: Session,

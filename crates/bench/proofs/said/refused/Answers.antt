@@ -7,5 +7,5 @@ use Rattle.bench.proofs.said.refused.Goals as goal
 
 pub returns : goal.returns
 returns c =
-    end_to_end c.word-p.ensures (end_to_end (number_is (c.number.ensures ∙ ap fault_number c.fault_again-g.ensures) c.next_number-q.ensures)
+    end_to_end c.word-p.ensures (end_to_end (number_is c.number.ensures c.next_number-q.ensures)
     (end_to_end (number_is c.place.ensures c.next_number-e.ensures) c.newline.ensures))
