@@ -252,13 +252,7 @@ fn open(rt: &HostRuntime, w: &Walk, name: &[u8]) -> io::Result<Source> {
 }
 
 // Where that fails it is said, and the input is not whole.
-fn read_named(
-    rt: &HostRuntime,
-    program: &[u8],
-    w: &Walk,
-    name: &[u8],
-    buf: &mut [u8],
-) -> cli::Input
+fn read_named(rt: &HostRuntime, program: &[u8], w: &Walk, name: &[u8], buf: &mut [u8]) -> cli::Input
     ensures { IsPrefixLen result.count buf.new }
 {
     match open(rt, w, name) {
