@@ -2,7 +2,9 @@
 // can't be done is said on standard error behind the program's name.
 #![tactic(auto)]
 
+ghost use Rattle.std.specs.Prelude.{MatchResult, ◌≡◌};
 ghost use Rattle.cli.specs.Counts.{IsPrefixLen};
+ghost use Rattle.cli.specs.Path.{IsPath};
 
 use check::same;
 use std::env::FillError;
@@ -226,8 +228,10 @@ pub fn say_name(rt: &HostRuntime, i: usize) {
     to_error(rt, &name[..n]);
 }
 
-// A file's name, as std takes it: UTF-8 text, and no other.
-pub fn path(name: &[u8]) -> io::Result<&str> {
+// A file's name, as std takes it: UTF-8 text without the byte 0, and no other.
+pub fn path(name: &[u8]) -> io::Result<&str>
+    ensures { MatchResult result (λ text. (text.now ≡ name.now) × IsPath name.now) (λ _. ¬ (IsPath name.now)) }
+{
     if name.contains(&0) {
         return Err(io::Error::new(ErrorKind::InvalidInput, "Invalid argument"));
     }
