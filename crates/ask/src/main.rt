@@ -3,9 +3,8 @@
 
 ghost use Rattle.std.specs.Prelude.{◌≤◌, ◌<◌, length};
 
-use crate::words::{Asked, asked_at, count_at};
+use crate::words::{Question, asked_at, count_at};
 use cli::is_option;
-use judge::Judged;
 use pierce_engine::Engine;
 use print_answers::lent::{PLACES, TEXT};
 use print_answers::{lent, reports};
@@ -23,25 +22,23 @@ fn lent_listing(engine: Engine, s: &[u8], places: usize, out: &mut [u8]) -> usiz
     lent::listed(a, &list, out, 0)
 }
 
-// What is answered, but for the rows of a listing. (Words that are no question are not answered.)
-fn answer(engine: Engine, q: Asked, s: &[u8], out: &mut [u8]) -> usize
+// What is answered, but for the rows of a listing.
+fn answer(engine: Engine, q: Question, s: &[u8], out: &mut [u8]) -> usize
     ensures { result ≤ length out.new }
 {
     match q {
-        Asked::Unknown => 0,
-        Asked::NoNumber(_) => 0,
-        Asked::Judge => print_answers::judge(s, out, 0),
-        Asked::Sign(a, b, c, d) => print_answers::sign(s, a, b, c, d, out, 0),
-        Asked::Pierces(u, v, f) => print_answers::pierces(engine, s, u, v, f, out, 0),
-        Asked::Mask(u, v, k) => print_answers::mask(engine, s, u, v, k, out, 0),
-        Asked::Enclosed(i) => print_answers::enclosed(engine, s, i, out, 0),
-        Asked::Verdict => print_answers::verdict(engine, s, out, 0),
-        Asked::Record(k) => print_answers::shown(s, k, out, 0),
-        Asked::Counts => print_answers::count(engine, s, out, 0),
-        Asked::Listing => print_answers::listing(engine, s, out, 0),
-        Asked::Lent(n) => lent_listing(engine, s, n, out),
-        Asked::Why => print_why::why(s, out, 0),
-        Asked::Clean => print_answers::clean(s, out, 0),
+        Question::Judge => print_answers::judge(s, out, 0),
+        Question::Sign(a, b, c, d) => print_answers::sign(s, a, b, c, d, out, 0),
+        Question::Pierces(u, v, f) => print_answers::pierces(engine, s, u, v, f, out, 0),
+        Question::Mask(u, v, k) => print_answers::mask(engine, s, u, v, k, out, 0),
+        Question::Enclosed(i) => print_answers::enclosed(engine, s, i, out, 0),
+        Question::Verdict => print_answers::verdict(engine, s, out, 0),
+        Question::Record(k) => print_answers::shown(s, k, out, 0),
+        Question::Counts => print_answers::count(engine, s, out, 0),
+        Question::Listing => print_answers::listing(engine, s, out, 0),
+        Question::Lent(n) => lent_listing(engine, s, n, out),
+        Question::Why => print_why::why(s, out, 0),
+        Question::Clean => print_answers::clean(s, out, 0),
     }
 }
 
@@ -55,25 +52,25 @@ fn write_rows(rt: &HostRuntime, engine: Engine, s: &[u8]) -> bool {
 }
 
 // Why there is no other answer. `why` has said it.
-fn explain(rt: &HostRuntime, q: Asked, s: &[u8], answer: &[u8]) {
-    if let Asked::Why = q {
+fn explain(rt: &HostRuntime, q: Question, s: &[u8], answer: &[u8]) {
+    if let Question::Why = q {
         return;
     }
     let j = judge::judge(s);
     match j {
-        Judged::Refused(r) => said::scene(rt, s, r),
-        Judged::Accepted => said::rule(rt, answer),
+        Err(r) => said::scene(rt, s, r),
+        Ok(()) => said::rule(rt, answer),
     }
 }
 
 // A write that fails is the last.
-fn write_answer(rt: &HostRuntime, engine: Engine, q: Asked, s: &[u8]) {
+fn write_answer(rt: &HostRuntime, engine: Engine, q: Question, s: &[u8]) {
     let mut out = [0u8; TEXT];
     let end = answer(engine, q, s, &mut out);
     if !cli::write(rt, b"ask", &out[..end]) {
         return;
     }
-    if let Asked::Listing = q {
+    if let Question::Listing = q {
         if !write_rows(rt, engine, s) {
             return;
         }
@@ -83,7 +80,7 @@ fn write_answer(rt: &HostRuntime, engine: Engine, q: Asked, s: &[u8]) {
     }
 }
 
-fn reply(rt: &HostRuntime, engine: Engine, q: Asked, file: usize) {
+fn reply(rt: &HostRuntime, engine: Engine, q: Question, file: usize) {
     // One byte more than the longest scene tells that the input is too long.
     let mut s = [0u8; Scene::LONGEST + 1];
     let r = cli::read_at(rt, b"ask", file, &mut s);
@@ -94,7 +91,7 @@ fn reply(rt: &HostRuntime, engine: Engine, q: Asked, file: usize) {
 }
 
 // The word at `file` names it, where it is the last.
-fn reply_of(rt: &HostRuntime, engine: Engine, q: Asked, file: usize)
+fn reply_of(rt: &HostRuntime, engine: Engine, q: Question, file: usize)
     requires { file < 20 }
 {
     if is_option(rt, file) {
@@ -112,11 +109,9 @@ fn reply_of(rt: &HostRuntime, engine: Engine, q: Asked, file: usize)
 fn ask(rt: &HostRuntime, engine: Engine, i: usize)
     requires { i < 9 }
 {
-    let q = asked_at(rt, i);
-    match q {
-        Asked::Unknown => said::no_question(rt, i),
-        Asked::NoNumber(k) => said::no_number(rt, i, k),
-        _ => reply_of(rt, engine, q, i + count_at(rt, i)),
+    match asked_at(rt, i) {
+        Ok(q) => reply_of(rt, engine, q, i + count_at(rt, i)),
+        Err(e) => said::unasked(rt, i, e),
     }
 }
 

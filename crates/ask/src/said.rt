@@ -1,5 +1,5 @@
 // What is said on standard error, and the help.
-use crate::words::{Number, number_in};
+use crate::words::{Unasked, number_in};
 use check::same;
 use cli::to_error;
 use print::{newline, word};
@@ -49,8 +49,16 @@ pub fn usage(rt: &HostRuntime) {
     );
 }
 
+// Nothing is asked by the words from word i on.
+pub fn unasked(rt: &HostRuntime, i: usize, e: Unasked) {
+    match e {
+        Unasked::Unknown => no_question(rt, i),
+        Unasked::NoNumber(k) => no_number(rt, i, k),
+    }
+}
+
 // Word i is no question.
-pub fn no_question(rt: &HostRuntime, i: usize) {
+fn no_question(rt: &HostRuntime, i: usize) {
     if cli::has_word(rt, i) {
         cli::say_word(rt, b"ask", b"there is no question ", i, b"");
     }
@@ -58,7 +66,7 @@ pub fn no_question(rt: &HostRuntime, i: usize) {
 }
 
 // Word k is no number of the question that word i names.
-pub fn no_number(rt: &HostRuntime, i: usize, k: usize) {
+fn no_number(rt: &HostRuntime, i: usize, k: usize) {
     if cli::has_word(rt, k) {
         cli::say_word(rt, b"ask", b"", k, b" is no number");
     } else {
@@ -94,19 +102,19 @@ pub fn scene(rt: &HostRuntime, s: &[u8], r: Refusal) {
 }
 
 // The number of the refusal that is answered of an accepted scene: 10, 11 or 12.
-fn refusal_in(answer: &[u8]) -> Number {
+fn refusal_in(answer: &[u8]) -> Option<usize> {
     if answer.len() < 10 {
-        return Number::None;
+        return None;
     }
     if same(&answer[..8], b"refused ") {
         return number_in(&answer[8..10]);
     }
-    Number::None
+    None
 }
 
 // The refusal, if it is one.
 pub fn rule(rt: &HostRuntime, answer: &[u8]) {
-    if let Number::Is(n) = refusal_in(answer) {
+    if let Some(n) = refusal_in(answer) {
         let mut out = [0u8; 256];
         let end = print_refusals::line(&mut out, 0, n);
         to_error(rt, &out[0..end]);

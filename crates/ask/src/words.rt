@@ -6,10 +6,7 @@ use cli::word_at;
 use std::rt::Env;
 
 #[derive(Clone, Copy)]
-pub enum Asked {
-    Unknown,
-    // This word is no number, or there is none.
-    NoNumber(usize),
+pub enum Question {
     Judge,
     Sign(usize, usize, usize, usize),
     Pierces(usize, usize, usize),
@@ -24,10 +21,11 @@ pub enum Asked {
     Clean,
 }
 
+// Why nothing is asked: the name is no question's, or this word is no number, or there is none.
 #[derive(Clone, Copy)]
-pub enum Number {
-    Is(usize),
-    None,
+pub enum Unasked {
+    Unknown,
+    NoNumber(usize),
 }
 
 // The longest word that the system passes on.
@@ -45,105 +43,86 @@ fn with_digit(n: usize, d: usize) -> usize
 }
 
 // The whole number that a word of digits writes.
-pub fn number_in(word: &[u8]) -> Number {
+pub fn number_in(word: &[u8]) -> Option<usize> {
     if word.len() == 0 {
-        return Number::None;
+        return None;
     }
     let mut n: usize = 0;
-    let mut i = 0;
-    while i < word.len() {
-        let b = word[i];
-        if b < b'0' {
-            return Number::None;
+    for b in word {
+        if *b < b'0' || *b > b'9' {
+            return None;
         }
-        if b > b'9' {
-            return Number::None;
-        }
-        n = with_digit(n, (b - b'0') as usize);
-        i += 1;
+        n = with_digit(n, (*b - b'0') as usize);
     }
-    Number::Is(n)
+    Some(n)
 }
 
-fn number_at(rt: &HostRuntime, i: usize) -> Number {
+fn number_at(rt: &HostRuntime, i: usize) -> Option<usize> {
     let mut word = [0u8; WORD];
-    match rt.arg(i, &mut word) {
-        Ok(n) => number_in(&word[..n]),
-        Err(_) => Number::None,
-    }
+    let n = rt.arg(i, &mut word).ok()?;
+    number_in(&word[..n])
 }
 
-fn without_number(word: &[u8]) -> Asked {
+// The number that the question asks for.
+fn asked_number(rt: &HostRuntime, i: usize) -> Result<usize, Unasked> {
+    number_at(rt, i).ok_or(Unasked::NoNumber(i))
+}
+
+fn without_number(word: &[u8]) -> Result<Question, Unasked> {
     if same(word, b"judge") {
-        return Asked::Judge;
+        return Ok(Question::Judge);
     }
     if same(word, b"verdict") {
-        return Asked::Verdict;
+        return Ok(Question::Verdict);
     }
     if same(word, b"counts") {
-        return Asked::Counts;
+        return Ok(Question::Counts);
     }
     if same(word, b"listing") {
-        return Asked::Listing;
+        return Ok(Question::Listing);
     }
     if same(word, b"why") {
-        return Asked::Why;
+        return Ok(Question::Why);
     }
     if same(word, b"clean") {
-        return Asked::Clean;
+        return Ok(Question::Clean);
     }
-    Asked::Unknown
+    Err(Unasked::Unknown)
 }
 
 // The number is word i.
-fn with_one(rt: &HostRuntime, word: &[u8], i: usize) -> Asked {
-    let Number::Is(n) = number_at(rt, i) else {
-        return Asked::NoNumber(i);
-    };
+fn with_one(rt: &HostRuntime, word: &[u8], i: usize) -> Result<Question, Unasked> {
+    let n = asked_number(rt, i)?;
     if same(word, b"enclosed") {
-        return Asked::Enclosed(n);
+        return Ok(Question::Enclosed(n));
     }
     if same(word, b"record") {
-        return Asked::Record(n);
+        return Ok(Question::Record(n));
     }
-    Asked::Lent(n)
+    Ok(Question::Lent(n))
 }
 
 // The numbers are word i and those behind it.
-fn with_three(rt: &HostRuntime, word: &[u8], i: usize) -> Asked
+fn with_three(rt: &HostRuntime, word: &[u8], i: usize) -> Result<Question, Unasked>
     requires { i < 10 }
 {
-    let Number::Is(u) = number_at(rt, i) else {
-        return Asked::NoNumber(i);
-    };
-    let Number::Is(v) = number_at(rt, i + 1) else {
-        return Asked::NoNumber(i + 1);
-    };
-    let Number::Is(k) = number_at(rt, i + 2) else {
-        return Asked::NoNumber(i + 2);
-    };
+    let u = asked_number(rt, i)?;
+    let v = asked_number(rt, i + 1)?;
+    let k = asked_number(rt, i + 2)?;
     if same(word, b"mask") {
-        return Asked::Mask(u, v, k);
+        return Ok(Question::Mask(u, v, k));
     }
-    Asked::Pierces(u, v, k)
+    Ok(Question::Pierces(u, v, k))
 }
 
-fn with_four(rt: &HostRuntime, i: usize) -> Asked
+fn with_four(rt: &HostRuntime, i: usize) -> Result<Question, Unasked>
     requires { i < 10 }
 {
-    let Number::Is(a) = number_at(rt, i) else {
-        return Asked::NoNumber(i);
-    };
-    let Number::Is(b) = number_at(rt, i + 1) else {
-        return Asked::NoNumber(i + 1);
-    };
-    let Number::Is(c) = number_at(rt, i + 2) else {
-        return Asked::NoNumber(i + 2);
-    };
-    let Number::Is(d) = number_at(rt, i + 3) else {
-        return Asked::NoNumber(i + 3);
-    };
-    Asked::Sign(a, b, c, d)
+    let a = asked_number(rt, i)?;
+    let b = asked_number(rt, i + 1)?;
+    let c = asked_number(rt, i + 2)?;
+    let d = asked_number(rt, i + 3)?;
+    Ok(Question::Sign(a, b, c, d))
 }
 
 // How many numbers a question has. That of `listing` may be left out: a word behind it that is no number is the file.
@@ -159,10 +138,8 @@ fn numbers(rt: &HostRuntime, word: &[u8], i: usize) -> usize
     if same(word, b"sign") {
         return 4;
     }
-    if same(word, b"listing") {
-        if let Number::Is(_) = number_at(rt, i) {
-            return 1;
-        }
+    if same(word, b"listing") && number_at(rt, i).is_some() {
+        return 1;
     }
     0
 }
@@ -179,7 +156,7 @@ pub fn count_at(rt: &HostRuntime, i: usize) -> usize
 }
 
 // The question whose name is word i.
-pub fn asked_at(rt: &HostRuntime, i: usize) -> Asked
+pub fn asked_at(rt: &HostRuntime, i: usize) -> Result<Question, Unasked>
     requires { i < 9 }
 {
     let mut word = [0u8; 16];

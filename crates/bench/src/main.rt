@@ -4,9 +4,9 @@
 
 ghost use Rattle.std.specs.Prelude.{◌+◌, ◌<◌, ◌≤◌};
 
-use bench_moves::{Answer, Answered, Bench, Group};
+use bench_moves::{Answered, Bench, Fault, Group};
 use cli::{is_option, is_word};
-use cli_words::{Word, number_at};
+use cli_words::number_at;
 use print_lines::rows::least;
 use scene::{Row, Scene};
 
@@ -22,81 +22,71 @@ const WORDS: usize = 6;
 enum Who {
     Group(Group),
     Lecturer,
-    Nobody,
 }
 
-fn who_at(rt: &HostRuntime, i: usize) -> Who {
+// Whom word i names.
+fn who_at(rt: &HostRuntime, i: usize) -> Option<Who> {
     // A word that is longer than any name is read as none.
     let mut w = [0u8; 8];
     let n = cli::word_at(rt, i, &mut w);
     if check::same(&w[..n], b"one") {
-        return Who::Group(Group::One);
+        return Some(Who::Group(Group::One));
     }
     if check::same(&w[..n], b"two") {
-        return Who::Group(Group::Two);
+        return Some(Who::Group(Group::Two));
     }
     if check::same(&w[..n], b"lecturer") {
-        return Who::Lecturer;
+        return Some(Who::Lecturer);
     }
-    Who::Nobody
+    None
 }
 
 fn is_name(rt: &HostRuntime, i: usize) -> bool {
-    let k = who_at(rt, i);
-    match k {
-        Who::Group(_) => true,
-        Who::Lecturer => true,
-        Who::Nobody => false,
-    }
+    who_at(rt, i).is_some()
 }
 
 fn is_number(rt: &HostRuntime, i: usize) -> bool {
-    let w = number_at(rt, i);
-    match w {
-        Word::Number(_) => true,
-        Word::None => false,
-    }
+    number_at(rt, i).is_some()
 }
 
-// The first word of a move that is wrong or missing, or 0.
-fn wrong_move(rt: &HostRuntime, count: usize) -> usize
+// The first word of a move that is wrong or missing.
+fn wrong_move(rt: &HostRuntime, count: usize) -> Option<usize>
     requires { 3 ≤ count }
 {
-    let mut i = FIRST;
-    while i < count {
+    for i in FIRST..count {
         let right = if i % WORDS == FIRST {
             is_name(rt, i)
         } else {
             is_number(rt, i)
         };
         if !right {
-            return i;
+            return Some(i);
         }
-        i += 1;
     }
-    if count % WORDS == FIRST { 0 } else { count }
+    if count % WORDS == FIRST {
+        None
+    } else {
+        Some(count)
+    }
 }
 
-// The first word that is wrong or missing, or 0.
-fn wrong_word(rt: &HostRuntime, count: usize) -> usize {
+// The first word that is wrong or missing.
+fn wrong_word(rt: &HostRuntime, count: usize) -> Option<usize> {
     if is_option(rt, 1) {
-        return 1;
+        return Some(1);
     }
     if is_option(rt, 2) {
-        return 2;
+        return Some(2);
     }
     if count < FIRST {
-        return count;
+        // Where there is no word at all, none is wrong.
+        return if count == 0 { None } else { Some(count) };
     }
     wrong_move(rt, count)
 }
 
 fn value_at(rt: &HostRuntime, i: usize) -> i64 {
-    let w = number_at(rt, i);
-    match w {
-        Word::Number(z) => z,
-        Word::None => 0,
-    }
+    number_at(rt, i).unwrap_or(0)
 }
 
 // A point's number: nothing has a number below 0, as nothing has 0.
@@ -119,14 +109,14 @@ fn moved(rt: &HostRuntime, b: Bench, i: usize) -> Answered
         z: value_at(rt, i + 4),
         w: value_at(rt, i + 5),
     };
-    let Who::Group(g) = who_at(rt, i) else {
-        return b.lecturer_move(p, v);
-    };
-    b.group_move(g, p, v)
+    match who_at(rt, i) {
+        Some(Who::Group(g)) => b.group_move(g, p, v),
+        _ => b.lecturer_move(p, v),
+    }
 }
 
 // Whether it was written, as each of the two below.
-fn say_answer(rt: &HostRuntime, a: Answer) -> bool {
+fn say_answer(rt: &HostRuntime, a: Result<(), Fault>) -> bool {
     // `refused` and two numbers, each of no more than 20 digits.
     let mut out = [0u8; 50];
     let n = said::answer(&mut out, a);
@@ -152,8 +142,7 @@ fn play(rt: &HostRuntime, first: Bench, count: usize) -> bool
     requires { count < 4194304 }
 {
     let mut b = first;
-    let mut i = FIRST;
-    while i < count {
+    for i in (FIRST..count).step_by(WORDS) {
         let c = moved(rt, b, i);
         if !say(rt, c) {
             return false;
@@ -161,7 +150,6 @@ fn play(rt: &HostRuntime, first: Bench, count: usize) -> bool
         let a = c.answer;
         whys::moved(rt, a);
         b = c.bench;
-        i += WORDS;
     }
     true
 }
@@ -213,8 +201,7 @@ fn main(rt: HostRuntime) {
     }
     // No system passes on so many words.
     let count = least(cli::word_count(&rt), 4194303);
-    let k = wrong_word(&rt, count);
-    if k != 0 {
+    if let Some(k) = wrong_word(&rt, count) {
         say_usage(&rt, k);
         return;
     }

@@ -2,10 +2,11 @@
 ghost use Rattle.std.specs.Prelude.{[], ◌∷◌};
 ghost use Rattle.print.specs.Put.{Put};
 ghost use Rattle.print.specs.Text.{ascii, line};
-ghost use Rattle.bench.specs.Said.{fault_line, answer_line, counts_line, usage_line};
+ghost use Rattle.bench.specs.Said.{answer_line, counts_line, usage_line};
 
-use bench_moves::{Answer, Fault};
+use bench_moves::Fault;
 use print::{newline, next_number, next_word, word};
+use print_refusals::refused;
 use questions::Counts;
 
 fn done(out: &mut [u8]) -> usize
@@ -15,21 +16,12 @@ fn done(out: &mut [u8]) -> usize
     newline(out, p)
 }
 
-fn refused(out: &mut [u8], f: Fault) -> usize
-    ensures { Put out.old 0 (line (fault_line f)) out.new result }
-{
-    let p = word(out, 0, b"refused");
-    let q = next_number(out, p, bench_moves::number(f));
-    let e = next_number(out, q, bench_moves::place(f));
-    newline(out, e)
-}
-
-pub fn answer(out: &mut [u8], a: Answer) -> usize
+pub fn answer(out: &mut [u8], a: Result<(), Fault>) -> usize
     ensures { Put out.old 0 (line (answer_line a)) out.new result }
 {
     match a {
-        Answer::Done => done(out),
-        Answer::Refused(f) => refused(out, f),
+        Ok(()) => done(out),
+        Err(f) => refused(out, 0, f),
     }
 }
 

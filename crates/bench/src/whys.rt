@@ -1,9 +1,8 @@
 // What is said on standard error: the help, and why the bench or a move is refused.
-use bench_moves::Answer;
+use bench_moves::Fault;
 use cli::to_error;
-use judge::Judged;
 use print::newline;
-use scene::Refusal;
+use scene::{Numbered, Refusal};
 
 // Whether the first word asked for help or for the version.
 pub fn help(rt: &HostRuntime) -> bool {
@@ -36,9 +35,9 @@ fn rule(rt: &HostRuntime, number: usize) {
     to_error(rt, &out[0..n]);
 }
 
-pub fn moved(rt: &HostRuntime, a: Answer) {
-    if let Answer::Refused(f) = a {
-        rule(rt, bench_moves::number(f));
+pub fn moved(rt: &HostRuntime, a: Result<(), Fault>) {
+    if let Err(f) = a {
+        rule(rt, f.number());
     }
 }
 
@@ -55,19 +54,19 @@ fn scene_refused(rt: &HostRuntime, i: usize, s: &[u8], r: Refusal) {
 
 // The first scene's own refusal, then the second's, then that they differ.
 fn refused(rt: &HostRuntime, s: &[u8], t: &[u8]) {
-    if let Judged::Refused(r) = judge::judge(s) {
+    if let Err(r) = judge::judge(s) {
         scene_refused(rt, 1, s, r);
         return;
     }
-    if let Judged::Refused(r) = judge::judge(t) {
+    if let Err(r) = judge::judge(t) {
         scene_refused(rt, 2, t, r);
         return;
     }
     rule(rt, 22);
 }
 
-pub fn opening(rt: &HostRuntime, a: Answer, s: &[u8], t: &[u8]) {
-    if let Answer::Refused(_) = a {
+pub fn opening(rt: &HostRuntime, a: Result<(), Fault>, s: &[u8], t: &[u8]) {
+    if let Err(_) = a {
         refused(rt, s, t);
     }
 }

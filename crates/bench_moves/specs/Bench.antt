@@ -1,6 +1,6 @@
 -- A bench: what opening it and each move at it answer, and the bench that is handed back. Each move is a session's move in one scene or in
 -- both. Assumes nothing.
-use Rattle.std.specs.Prelude.{Bool, true, false, not, cond, ◌&&◌, List, ℕ, ◌+◌, ◌*◌, leb, eqb}
+use Rattle.std.specs.Prelude.{Bool, true, false, not, cond, ◌&&◌, List, ℕ, ◌+◌, ◌*◌, leb, eqb, Result, Ok, Err}
 use Rattle.laws.specs.Range.{any_of}
 use Rattle.scene.specs.Bytes.{byte_at}
 use Rattle.scene.specs.Limits.{within}
@@ -10,8 +10,7 @@ use Rattle.scene.specs.declared.Row.{Row}
 use Rattle.scene.specs.declared.Refusal.{Refusal}
 use Rattle.scene.specs.declared.Refusal.TheVariants.{Opening, NoSuchNumber, Coordinate, Weight, FarAllZero}
 use Rattle.judge.specs.Judge.{judged, refuse_unless}
-use Rattle.judge.specs.declared.Judged.{Judged}
-use Rattle.judge.specs.declared.Judged.TheVariants as judge
+use Rattle.judge.specs.Judge.{Judged}
 use Rattle.session.specs.Session.{scene, empty, is_whole, opened, moved_of, far_moved_of}
 use Rattle.session.specs.declared.Session.{Session}
 use Rattle.session.specs.declared.Changed.{Changed}
@@ -23,8 +22,6 @@ use Rattle.bench_moves.specs.declared.Group.{Group}
 use Rattle.bench_moves.specs.declared.Group.TheVariants.{One, Two}
 use Rattle.bench_moves.specs.declared.Fault.{Fault}
 use Rattle.bench_moves.specs.declared.Fault.TheVariants.{Scene, Shared, Differing}
-use Rattle.bench_moves.specs.declared.Answer.{Answer}
-use Rattle.bench_moves.specs.declared.Answer.TheVariants.{Done, Refused}
 
 -- ---- refusals
 
@@ -38,17 +35,21 @@ fault_place (Scene r) = place_of r
 fault_place (Shared p) = p
 fault_place Differing = 0
 
+-- what an operation is answered with: that it is done, or its fault
+abbrev pub Answer : Type 0
+Answer = Result (Unit {0}) Fault
+
 -- where a test fails its fault is told, where a judgement refuses its refusal is; else what comes after says
 unfoldable pub unless : Bool → Fault → Answer → Answer
 unless true f rest = rest
-unless false f rest = Refused f
+unless false f rest = Err f
 
 unfoldable pub then_scene : Judged → Answer → Answer
-then_scene judge.Accepted rest = rest
-then_scene (judge.Refused r) rest = Refused (Scene r)
+then_scene (Ok _) rest = rest
+then_scene (Err r) rest = Err (Scene r)
 
 unfoldable pub said : Judged → Answer
-said j = then_scene j Done
+said j = then_scene j (Ok tt)
 
 -- ---- a shared fixture: solid B, and the far point, of two scenes
 
@@ -77,14 +78,14 @@ is_shared s t = same_counts s t && (same_far s t && (same_vertices s t && same_f
 -- ---- open: the first scene's own refusal, then the second's, then 22
 
 unfoldable pub open_fault : List ℕ → List ℕ → Answer
-open_fault s t = then_scene (judged s) (then_scene (judged t) (unless (is_shared s t) Differing Done))
+open_fault s t = then_scene (judged s) (then_scene (judged t) (unless (is_shared s t) Differing (Ok tt)))
 
 abbrev pub empty_bench : Bench
 empty_bench = record { one = empty; two = empty }
 
 abbrev pub opened_by : Answer → List ℕ → List ℕ → Answered
-opened_by Done s t = record { answer = Done; bench = record { one = (opened s).session; two = (opened t).session } }
-opened_by (Refused f) s t = record { answer = Refused f; bench = empty_bench }
+opened_by (Ok _) s t = record { answer = Ok tt; bench = record { one = (opened s).session; two = (opened t).session } }
+opened_by (Err f) s t = record { answer = Err f; bench = empty_bench }
 
 unfoldable pub opened_of : List ℕ → List ℕ → Answered
 opened_of s t = opened_by (open_fault s t) s t
@@ -107,12 +108,12 @@ solids_of s = cond (is_whole s) (record { held = true; own = verts_a s; fixture 
 unfoldable pub own_fault : Solids → ℕ → Answer
 own_fault k p =
     unless k.held (Scene Opening)
-    (unless (within 1 (k.own + k.fixture + 1) p) (Scene NoSuchNumber) (unless (within 1 k.own p) (Shared p) Done))
+    (unless (within 1 (k.own + k.fixture + 1) p) (Scene NoSuchNumber) (unless (within 1 k.own p) (Shared p) (Ok tt)))
 
 -- then the session's move of the vertex, with its 5 and 6
 abbrev pub own_moved_by : Answer → Session → ℕ → Row → Moved
-own_moved_by Done s p v = record { answer = said (moved_of s p v).answer; session = (moved_of s p v).session }
-own_moved_by (Refused f) s p v = record { answer = Refused f; session = s }
+own_moved_by (Ok _) s p v = record { answer = said (moved_of s p v).answer; session = (moved_of s p v).session }
+own_moved_by (Err f) s p v = record { answer = Err f; session = s }
 
 unfoldable pub own_moved_of : Session → ℕ → Row → Moved
 own_moved_of s p v = own_moved_by (own_fault (solids_of (scene s)) p) s p v
@@ -124,7 +125,7 @@ group_moved_of b g p v =
 -- ---- the lecturer's move: the fixture's vertices are numbered from 1, and the far point behind them
 
 unfoldable pub number_fault : Solids → ℕ → Judged
-number_fault k n = refuse_unless k.held Opening (refuse_unless (within 1 (k.fixture + 1) n) NoSuchNumber judge.Accepted)
+number_fault k n = refuse_unless k.held Opening (refuse_unless (within 1 (k.fixture + 1) n) NoSuchNumber (Ok tt))
 
 -- the session's move of that point
 unfoldable pub scene_moved : Session → Solids → ℕ → Row → Changed
@@ -136,22 +137,22 @@ placed n r =
     cond (eqb (number_of r) 5) (Coordinate n) (cond (eqb (number_of r) 6) (Weight n) (cond (eqb (number_of r) 14) (FarAllZero n) r))
 
 unfoldable pub placed_in : ℕ → Judged → Judged
-placed_in n judge.Accepted = judge.Accepted
-placed_in n (judge.Refused r) = judge.Refused (placed n r)
+placed_in n (Ok _) = Ok tt
+placed_in n (Err r) = Err (placed n r)
 
 abbrev pub fixture_moved_by : Judged → Session → ℕ → Row → Changed
-fixture_moved_by judge.Accepted s n v =
+fixture_moved_by (Ok _) s n v =
     record { answer = placed_in n (scene_moved s (solids_of (scene s)) n v).answer; session = (scene_moved s (solids_of (scene s)) n v).session }
-fixture_moved_by (judge.Refused r) s n v = record { answer = judge.Refused r; session = s }
+fixture_moved_by (Err r) s n v = record { answer = Err r; session = s }
 
 unfoldable pub fixture_moved_of : Session → ℕ → Row → Changed
 fixture_moved_of s n v = fixture_moved_by (number_fault (solids_of (scene s)) n) s n v
 
 -- both scenes are moved, or none
 abbrev pub lecturer_moved_by : Judged → Bench → ℕ → Row → Answered
-lecturer_moved_by judge.Accepted b n v =
-    record { answer = Done; bench = record { one = (fixture_moved_of b.one n v).session; two = (fixture_moved_of b.two n v).session } }
-lecturer_moved_by (judge.Refused r) b n v = record { answer = Refused (Scene r); bench = b }
+lecturer_moved_by (Ok _) b n v =
+    record { answer = Ok tt; bench = record { one = (fixture_moved_of b.one n v).session; two = (fixture_moved_of b.two n v).session } }
+lecturer_moved_by (Err r) b n v = record { answer = Err (Scene r); bench = b }
 
 unfoldable pub lecturer_moved_of : Bench → ℕ → Row → Answered
 lecturer_moved_of b n v = lecturer_moved_by (fixture_moved_of b.one n v).answer b n v

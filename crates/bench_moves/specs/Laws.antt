@@ -1,12 +1,11 @@
 -- What the definitions of a bench give, in the form in which the calls' answers and the branches arrive. Assumes nothing.
-use Rattle.std.specs.Prelude.{◌≡◌, refl, Bool, true, false, ◌&&◌, List, [], ◌++◌, ℕ, ◌+◌, ◌*◌, ◌≤◌, ◌<◌, leb, length, drop}
+use Rattle.std.specs.Prelude.{◌≡◌, refl, Bool, true, false, ◌&&◌, List, [], ◌++◌, ℕ, ◌+◌, ◌*◌, ◌≤◌, ◌<◌, leb, length, drop, Ok, Err}
 use Rattle.std.proofs.Math.Path.{sym, ap, ap₂}
 use Rattle.std.proofs.Common.{◌∙◌, arith, length-take}
 use Rattle.std.proofs.Math.Bool.{not, cond}
 use Rattle.std.proofs.Math.Dec.{eqb}
 use Rattle.std.proofs.Math.ListN.{get_or-append}
 use borrow.Author.Tests.{not-true, not-false, eq-eqb, ne_eqb, le-leb, lt-leb}
-use Rattle.laws.specs.Range.{any_of, any_found, any_end}
 use Rattle.scene.specs.Bytes.{byte_at}
 use Rattle.scene.specs.Records.{verts_a, verts_b, faces_in_a, faces_in_b, length_of, point_start, face_start}
 use Rattle.scene.specs.Refusal.{number_of}
@@ -15,13 +14,12 @@ use Rattle.scene.specs.declared.Refusal.{Refusal}
 use Rattle.scene.specs.declared.Refusal.TheVariants.{Opening, Coordinate, Weight, FarAllZero, BufferTooShort}
 use Rattle.judge.specs.Judge.{judged_at, header_fault, opens, refuse_unless, and_then}
 use Rattle.judge.specs.Tests.{accepts, never}
-use Rattle.judge.specs.declared.Judged.{Judged}
-use Rattle.judge.specs.declared.Judged.TheVariants as judge
+use Rattle.judge.specs.Judge.{Judged}
 use Rattle.session.specs.Session.{scene, empty, is_whole, opened, moved_of, far_moved_of}
 use Rattle.session.specs.Saved.{save_fault, saved_by, IsSaved}
 use Rattle.session.specs.declared.Session.{Session}
 use Rattle.session.specs.declared.Changed.{Changed}
-use Rattle.bench_moves.specs.Bench.{unless, then_scene, said, differ_at, same_bytes, same_counts, same_vertices, same_faces, open_fault}
+use Rattle.bench_moves.specs.Bench.{unless, then_scene, said, same_bytes, same_counts, same_vertices, same_faces, open_fault}
 use Rattle.bench_moves.specs.Bench.{opened_by, opened_of}
 use Rattle.bench_moves.specs.Bench.{session_of, with_session, solids_of, own_fault, own_moved_by, own_moved_of, group_moved_of}
 use Rattle.bench_moves.specs.Bench.{number_fault, scene_moved, placed, placed_in, fixture_moved_by}
@@ -33,12 +31,11 @@ use Rattle.bench_moves.specs.declared.moves.Solids.{Solids}
 use Rattle.bench_moves.specs.declared.moves.Moved.{Moved}
 use Rattle.bench_moves.specs.declared.Fault.{Fault}
 use Rattle.bench_moves.specs.declared.Fault.TheVariants.{Scene}
-use Rattle.bench_moves.specs.declared.Answer.{Answer}
-use Rattle.bench_moves.specs.declared.Answer.TheVariants.{Done, Refused}
+use Rattle.bench_moves.specs.Bench.{Answer}
 
 -- ---- a test that came out as b, a judgement that came out as x: it refuses, or what comes after decides
 
-pub unless_refused : {o b : Bool} {f : Fault} (k : Answer) → o ≡ b → not o ≡ true → Refused f ≡ unless b f k
+pub unless_refused : {o b : Bool} {f : Fault} (k : Answer) → o ≡ b → not o ≡ true → Err f ≡ unless b f k
 unfolding unless
 unless_refused {f = f} k p q = ap (λ (t : Bool). unless t f k) (sym (not-true _ q) ∙ p)
 
@@ -46,26 +43,15 @@ pub unless_passed : {o b : Bool} {k w : Answer} (f : Fault) → o ≡ b → not 
 unfolding unless
 unless_passed {k = k} f p q e = e ∙ ap (λ (t : Bool). unless t f k) (sym (not-false _ q) ∙ p)
 
-pub then_refused : {o x : Judged} (k : Answer) {r : Refusal} → o ≡ x → o ≡ judge.Refused r → Refused (Scene r) ≡ then_scene x k
+pub then_refused : {o x : Judged} (k : Answer) {r : Refusal} → o ≡ x → o ≡ Err r → Err (Scene r) ≡ then_scene x k
 unfolding then_scene
 then_refused k p q = sym (ap (λ (j : Judged). then_scene j k) (sym p ∙ q))
 
-pub then_accepted : {o x : Judged} {k w : Answer} → o ≡ x → o ≡ judge.Accepted → w ≡ k → w ≡ then_scene x k
+pub then_accepted : {o x : Judged} {k w : Answer} → o ≡ x → o ≡ Ok tt → w ≡ k → w ≡ then_scene x k
 unfolding then_scene
 then_accepted {k = k} p q e = e ∙ sym (ap (λ (j : Judged). then_scene j k) (sym p ∙ q))
 
 pub ruleset faults = (unless_refused, unless_passed, then_refused, then_accepted)
-
--- ---- a loop over two stretches of bytes, at k
-
-module _ (s : List ℕ) (i : ℕ) (t : List ℕ) (j n k : ℕ) (inv : any_of (differ_at s i t j) k n ≡ any_of (differ_at s i t j) 0 n) where
-  pub bytes_differ : {o : Bool} → k < n → o ≡ differ_at s i t j k → o ≡ true → false ≡ same_bytes s i t j n
-  unfolding same_bytes
-  bytes_differ h p q = ap not (any_found (differ_at s i t j) k n inv h p q)
-
-  pub bytes_same : n ≤ k → true ≡ same_bytes s i t j n
-  unfolding same_bytes
-  bytes_same h = ap not (any_end (differ_at s i t j) k n inv h)
 
 -- ---- the parts of a fixture, where the counts and the starts are known
 
@@ -94,20 +80,20 @@ module _ (s t : List ℕ) where
 pub scene_fits : (s : Session) (n : ℕ) → length s.bytes ≡ n → length (scene s) ≤ n
 scene_fits s n e = simp length-take (omega arith)
 
-pub solids_none : (s : List ℕ) (room : ℕ) {j : Judged} {r : Refusal} → j ≡ save_fault s room → j ≡ judge.Refused r → length s ≤ room →
+pub solids_none : (s : List ℕ) (room : ℕ) {j : Judged} {r : Refusal} → j ≡ save_fault s room → j ≡ Err r → length s ≤ room →
     ◌≡◌ {A = Solids} (record { held = false; own = 0; fixture = 0 }) (solids_of s)
 unfolding save_fault solids_of refuse_unless
 solids_none s room {r = r} e q l = go (is_whole s) (sym e ∙ q)
   where
-    go : (b : Bool) → refuse_unless b Opening (refuse_unless (leb (length s) room) (BufferTooShort (length s)) judge.Accepted) ≡ judge.Refused
+    go : (b : Bool) → refuse_unless b Opening (refuse_unless (leb (length s) room) (BufferTooShort (length s)) (Ok tt)) ≡ Err
         r →
         ◌≡◌ {A = Solids} (record { held = false; own = 0; fixture = 0 })
         (cond b (record { held = true; own = verts_a s; fixture = verts_b s }) (record { held = false; own = 0; fixture = 0 }))
     go true h = absurd (never
-        (ap (λ (b : Bool). refuse_unless b (BufferTooShort (length s)) judge.Accepted) (sym (le-leb (length s) room l)) ∙ h))
+        (ap (λ (b : Bool). refuse_unless b (BufferTooShort (length s)) (Ok tt)) (sym (le-leb (length s) room l)) ∙ h))
     go false h = refl
 
-pub solids_held : (s out out' : List ℕ) {j : Judged} {a b : ℕ} → IsSaved s out out' j → j ≡ judge.Accepted → a ≡ byte_at out' 2 →
+pub solids_held : (s out out' : List ℕ) {j : Judged} {a b : ℕ} → IsSaved s out out' j → j ≡ Ok tt → a ≡ byte_at out' 2 →
     b ≡ byte_at out' 4 →
     ◌≡◌ {A = Solids} (record { held = true; own = a; fixture = b }) (solids_of s)
 unfolding save_fault solids_of is_whole
@@ -158,11 +144,11 @@ module _ (s : Session) (p : ℕ) (v : Row) {k : Solids} {o : Answer} (e : k ≡ 
   abbrev fault : o ≡ own_fault (solids_of (scene s)) p
   fault = f ∙ ap (λ (k : Solids). own_fault k p) e
 
-  pub own_refused : {g : Fault} → o ≡ Refused g → ◌≡◌ {A = Moved} (record { answer = Refused g; session = s }) (own_moved_of s p v)
+  pub own_refused : {g : Fault} → o ≡ Err g → ◌≡◌ {A = Moved} (record { answer = Err g; session = s }) (own_moved_of s p v)
   unfolding own_moved_of
   own_refused q = ap (λ (o : Answer). own_moved_by o s p v) (sym q ∙ fault)
 
-  pub own_done : {c : Changed} {a : Answer} → o ≡ Done → c ≡ moved_of s p v → a ≡ said c.answer →
+  pub own_done : {c : Changed} {a : Answer} → o ≡ Ok tt → c ≡ moved_of s p v → a ≡ said c.answer →
       ◌≡◌ {A = Moved} (record { answer = a; session = c.session }) (own_moved_of s p v)
   unfolding own_moved_of
   own_done q m h =
@@ -173,12 +159,12 @@ module _ (s : Session) (n : ℕ) (v : Row) {k : Solids} {o : Judged} (e : k ≡ 
   abbrev lacking : o ≡ number_fault (solids_of (scene s)) n
   lacking = f ∙ ap (λ (k : Solids). number_fault k n) e
 
-  pub fixture_refused : {r : Refusal} → o ≡ judge.Refused r →
-      ◌≡◌ {A = Changed} (record { answer = judge.Refused r; session = s }) (fixture_moved_of s n v)
+  pub fixture_refused : {r : Refusal} → o ≡ Err r →
+      ◌≡◌ {A = Changed} (record { answer = Err r; session = s }) (fixture_moved_of s n v)
   unfolding fixture_moved_of
   fixture_refused q = ap (λ (o : Judged). fixture_moved_by o s n v) (sym q ∙ lacking)
 
-  pub fixture_moved : {c : Changed} {j : Judged} → o ≡ judge.Accepted → c ≡ scene_moved s k n v → j ≡ placed_in n c.answer →
+  pub fixture_moved : {c : Changed} {j : Judged} → o ≡ Ok tt → c ≡ scene_moved s k n v → j ≡ placed_in n c.answer →
       ◌≡◌ {A = Changed} (record { answer = j; session = c.session }) (fixture_moved_of s n v)
   unfolding fixture_moved_of
   fixture_moved q m h =
@@ -200,29 +186,29 @@ module _ (b : Bench) (n : ℕ) (v : Row) {x : Session} {c : Changed} (e : x ≡ 
   abbrev first : c ≡ fixture_moved_of b.one n v
   first = f ∙ ap (λ (x : Session). fixture_moved_of x n v) e
 
-  pub lecturer_refused : {r : Refusal} → c.answer ≡ judge.Refused r →
-      ◌≡◌ {A = Answered} (record { answer = Refused (Scene r); bench = b }) (lecturer_moved_of b n v)
+  pub lecturer_refused : {r : Refusal} → c.answer ≡ Err r →
+      ◌≡◌ {A = Answered} (record { answer = Err (Scene r); bench = b }) (lecturer_moved_of b n v)
   unfolding lecturer_moved_of
   lecturer_refused q = ap (λ (j : Judged). lecturer_moved_by j b n v) (sym q ∙ ap (λ (c : Changed). c.answer) first)
 
-  pub lecturer_done : {y : Session} {d : Changed} → y ≡ b.two → d ≡ fixture_moved_of y n v → c.answer ≡ judge.Accepted →
-      ◌≡◌ {A = Answered} (record { answer = Done; bench = record { one = c.session; two = d.session } }) (lecturer_moved_of b n v)
+  pub lecturer_done : {y : Session} {d : Changed} → y ≡ b.two → d ≡ fixture_moved_of y n v → c.answer ≡ Ok tt →
+      ◌≡◌ {A = Answered} (record { answer = Ok tt; bench = record { one = c.session; two = d.session } }) (lecturer_moved_of b n v)
   unfolding lecturer_moved_of
   lecturer_done g h q =
       let w = h ∙ ap (λ (y : Session). fixture_moved_of y n v) g in
-      (λ i. record { answer = Done; bench = record { one = (first i).session; two = (w i).session } })
+      (λ i. record { answer = Ok tt; bench = record { one = (first i).session; two = (w i).session } })
       ∙ ap (λ (j : Judged). lecturer_moved_by j b n v) (sym q ∙ ap (λ (c : Changed). c.answer) first)
 
 module _ (s t : List ℕ) {o : Answer} (e : o ≡ open_fault s t) where
-  pub open_refused : {f : Fault} {x y : Session} → o ≡ Refused f → x ≡ empty → y ≡ empty →
-      ◌≡◌ {A = Answered} (record { answer = Refused f; bench = record { one = x; two = y } }) (opened_of s t)
+  pub open_refused : {f : Fault} {x y : Session} → o ≡ Err f → x ≡ empty → y ≡ empty →
+      ◌≡◌ {A = Answered} (record { answer = Err f; bench = record { one = x; two = y } }) (opened_of s t)
   unfolding opened_of
   open_refused {f = f} q a b =
-      (λ i. record { answer = Refused f; bench = record { one = a i; two = b i } }) ∙ ap (λ (o : Answer). opened_by o s t) (sym q ∙ e)
+      (λ i. record { answer = Err f; bench = record { one = a i; two = b i } }) ∙ ap (λ (o : Answer). opened_by o s t) (sym q ∙ e)
 
-  pub open_done : {c d : Changed} → o ≡ Done → c ≡ opened s → d ≡ opened t →
-      ◌≡◌ {A = Answered} (record { answer = Done; bench = record { one = c.session; two = d.session } }) (opened_of s t)
+  pub open_done : {c d : Changed} → o ≡ Ok tt → c ≡ opened s → d ≡ opened t →
+      ◌≡◌ {A = Answered} (record { answer = Ok tt; bench = record { one = c.session; two = d.session } }) (opened_of s t)
   unfolding opened_of
   open_done q a b =
-      (λ i. record { answer = Done; bench = record { one = (a i).session; two = (b i).session } })
+      (λ i. record { answer = Ok tt; bench = record { one = (a i).session; two = (b i).session } })
       ∙ ap (λ (o : Answer). opened_by o s t) (sym q ∙ e)

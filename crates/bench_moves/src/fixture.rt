@@ -18,14 +18,7 @@ fn same_bytes(s: &[u8], i: usize, t: &[u8], j: usize, n: usize) -> bool
     requires { (i + n < 65536) × (j + n < 65536) }
     ensures { result ≡ same_bytes s.now i t.now j n }
 {
-    let mut k = 0;
-    while k < n {
-        if differ_at(s, i, t, j, k) {
-            return false;
-        }
-        k += 1;
-    }
-    true
+    !(0..n).any(|k| differ_at(s, i, t, j, k))
 }
 
 fn same_counts(s: &[u8], t: &[u8]) -> bool

@@ -6,9 +6,9 @@ ghost use Rattle.std.specs.Prelude.{◌≡◌};
 ghost use Rattle.session.specs.Session.{empty};
 ghost use Rattle.bench_moves.specs.Bench.{fault_number, fault_place, session_of, with_session, open_fault};
 ghost use Rattle.bench_moves.specs.Bench.{opened_of, group_moved_of, lecturer_moved_of};
+ghost use Rattle.bench_moves.specs.declared.Fault.TheVariants.{Scene};
 
-use judge::Judged;
-use scene::{Refusal, Row};
+use scene::{Numbered, Refusal, Row};
 use session::Session;
 
 mod fixture;
@@ -35,53 +35,53 @@ pub enum Fault {
     Differing,
 }
 
-#[derive(Clone, Copy)]
-pub enum Answer {
-    Done,
-    Refused(Fault),
+impl From<Refusal> for Fault {
+    ghost from_gives = { λ r f. f ≡ Scene r };
+
+    fn from(r: Refusal) -> Fault {
+        Fault::Scene(r)
+    }
 }
 
 // An operation's answer, and the bench after it.
 #[derive(Clone, Copy)]
 pub struct Answered {
-    pub answer: Answer,
+    pub answer: Result<(), Fault>,
     pub bench: Bench,
 }
 
-pub fn number(f: Fault) -> usize
-    ensures { result ≡ fault_number f }
-{
-    match f {
-        Fault::Scene(r) => scene::number(r),
-        Fault::Shared(_) => 19,
-        Fault::Differing => 22,
-    }
-}
+impl Numbered for Fault {
+    ghost number = { fault_number };
 
-pub fn place(f: Fault) -> usize
-    ensures { result ≡ fault_place f }
-{
-    match f {
-        Fault::Scene(r) => scene::place(r),
-        Fault::Shared(p) => p,
-        Fault::Differing => 0,
+    ghost place = { fault_place };
+
+    fn number(self) -> usize {
+        match self {
+            Fault::Scene(r) => r.number(),
+            Fault::Shared(_) => 19,
+            Fault::Differing => 22,
+        }
+    }
+
+    fn place(self) -> usize {
+        match self {
+            Fault::Scene(r) => r.place(),
+            Fault::Shared(p) => p,
+            Fault::Differing => 0,
+        }
     }
 }
 
 // The first scene's own refusal, then the second's, then 22.
-fn open_fault(s: &[u8], t: &[u8]) -> Answer
+fn open_fault(s: &[u8], t: &[u8]) -> Result<(), Fault>
     ensures { result ≡ open_fault s.now t.now }
 {
-    if let Judged::Refused(r) = judge::judge(s) {
-        return Answer::Refused(Fault::Scene(r));
-    }
-    if let Judged::Refused(r) = judge::judge(t) {
-        return Answer::Refused(Fault::Scene(r));
-    }
+    judge::judge(s)?;
+    judge::judge(t)?;
     if !fixture::is_shared(s, t) {
-        return Answer::Refused(Fault::Differing);
+        return Err(Fault::Differing);
     }
-    Answer::Done
+    Ok(())
 }
 
 // No bytes are no scene.
@@ -96,9 +96,9 @@ fn nothing() -> Session
 pub fn open(s: &[u8], t: &[u8]) -> Answered
     ensures { result ≡ opened_of s.now t.now }
 {
-    if let Answer::Refused(f) = open_fault(s, t) {
+    if let Err(f) = open_fault(s, t) {
         return Answered {
-            answer: Answer::Refused(f),
+            answer: Err(f),
             bench: Bench {
                 one: nothing(),
                 two: nothing(),
@@ -110,7 +110,7 @@ pub fn open(s: &[u8], t: &[u8]) -> Answered
     let one = a.session;
     let two = b.session;
     Answered {
-        answer: Answer::Done,
+        answer: Ok(()),
         bench: Bench { one: one, two: two },
     }
 }
@@ -160,12 +160,12 @@ impl Bench {
         let two = b.session;
         let j = a.answer;
         match j {
-            Judged::Refused(r) => Answered {
-                answer: Answer::Refused(Fault::Scene(r)),
+            Err(r) => Answered {
+                answer: Err(Fault::Scene(r)),
                 bench: self,
             },
-            Judged::Accepted => Answered {
-                answer: Answer::Done,
+            Ok(()) => Answered {
+                answer: Ok(()),
                 bench: Bench { one: one, two: two },
             },
         }

@@ -4,10 +4,9 @@ ghost use Rattle.session.specs.Session.{scene};
 ghost use Rattle.bench_moves.specs.Bench.{solids_of, own_fault, said, own_moved_of, number_fault, scene_moved};
 ghost use Rattle.bench_moves.specs.Bench.{placed, placed_in, fixture_moved_of};
 
-use crate::{Answer, Fault};
-use judge::Judged;
+use crate::Fault;
 use scene::read::byte;
-use scene::{Refusal, Row, Scene, is_within};
+use scene::{Numbered, Refusal, Row, Scene, is_within};
 use session::save::save;
 use session::{Changed, Session};
 
@@ -22,7 +21,7 @@ pub struct Solids {
 // A group's answer, and its session after it.
 #[derive(Clone, Copy)]
 pub struct Moved {
-    pub answer: Answer,
+    pub answer: Result<(), Fault>,
     pub session: Session,
 }
 
@@ -32,12 +31,12 @@ fn solids_of(s: Session) -> Solids
     let mut b = [0u8; Scene::LONGEST];
     let j = save(s, &mut b);
     match j {
-        Judged::Refused(_) => Solids {
+        Err(_) => Solids {
             held: false,
             own: 0,
             fixture: 0,
         },
-        Judged::Accepted => Solids {
+        Ok(()) => Solids {
             held: true,
             own: byte(&b, 2),
             fixture: byte(&b, 4),
@@ -46,38 +45,35 @@ fn solids_of(s: Session) -> Solids
 }
 
 // Refusals 1, 11 and 19 of a group's move.
-fn own_fault(k: Solids, p: usize) -> Answer
+fn own_fault(k: Solids, p: usize) -> Result<(), Fault>
     requires { (k.own < 256) × (k.fixture < 256) }
     ensures { result ≡ own_fault k p }
 {
     if !k.held {
-        return Answer::Refused(Fault::Scene(Refusal::Opening));
+        return Err(Fault::Scene(Refusal::Opening));
     }
     if !is_within(1, k.own + k.fixture + 1, p) {
-        return Answer::Refused(Fault::Scene(Refusal::NoSuchNumber));
+        return Err(Fault::Scene(Refusal::NoSuchNumber));
     }
     if !is_within(1, k.own, p) {
-        return Answer::Refused(Fault::Shared(p));
+        return Err(Fault::Shared(p));
     }
-    Answer::Done
+    Ok(())
 }
 
-fn said(j: Judged) -> Answer
+fn said(j: Result<(), Refusal>) -> Result<(), Fault>
     ensures { result ≡ said j }
 {
-    match j {
-        Judged::Accepted => Answer::Done,
-        Judged::Refused(r) => Answer::Refused(Fault::Scene(r)),
-    }
+    Ok(j?)
 }
 
 // A vertex of the scene's own solid, by its point number, to v.
 pub fn own_move(s: Session, p: usize, v: Row) -> Moved
     ensures { result ≡ own_moved_of s p v }
 {
-    if let Answer::Refused(f) = own_fault(solids_of(s), p) {
+    if let Err(f) = own_fault(solids_of(s), p) {
         return Moved {
-            answer: Answer::Refused(f),
+            answer: Err(f),
             session: s,
         };
     }
@@ -91,17 +87,17 @@ pub fn own_move(s: Session, p: usize, v: Row) -> Moved
 }
 
 // Refusals 1 and 11 of the lecturer's move.
-fn number_fault(k: Solids, n: usize) -> Judged
+fn number_fault(k: Solids, n: usize) -> Result<(), Refusal>
     requires { k.fixture < 256 }
     ensures { result ≡ number_fault k n }
 {
     if !k.held {
-        return Judged::Refused(Refusal::Opening);
+        return Err(Refusal::Opening);
     }
     if !is_within(1, k.fixture + 1, n) {
-        return Judged::Refused(Refusal::NoSuchNumber);
+        return Err(Refusal::NoSuchNumber);
     }
-    Judged::Accepted
+    Ok(())
 }
 
 // The scene's own move of the lecturer's point n.
@@ -119,7 +115,7 @@ fn scene_move(s: Session, k: Solids, n: usize, v: Row) -> Changed
 fn placed(n: usize, r: Refusal) -> Refusal
     ensures { result ≡ placed n r }
 {
-    let k = scene::number(r);
+    let k = r.number();
     if k == 5 {
         return Refusal::Coordinate(n);
     }
@@ -132,12 +128,12 @@ fn placed(n: usize, r: Refusal) -> Refusal
     r
 }
 
-fn placed_in(n: usize, j: Judged) -> Judged
+fn placed_in(n: usize, j: Result<(), Refusal>) -> Result<(), Refusal>
     ensures { result ≡ placed_in n j }
 {
     match j {
-        Judged::Accepted => Judged::Accepted,
-        Judged::Refused(r) => Judged::Refused(placed(n, r)),
+        Ok(()) => Ok(()),
+        Err(r) => Err(placed(n, r)),
     }
 }
 
@@ -146,9 +142,9 @@ pub fn fixture_move(s: Session, n: usize, v: Row) -> Changed
     ensures { result ≡ fixture_moved_of s n v }
 {
     let k = solids_of(s);
-    if let Judged::Refused(r) = number_fault(k, n) {
+    if let Err(r) = number_fault(k, n) {
         return Changed {
-            answer: Judged::Refused(r),
+            answer: Err(r),
             session: s,
         };
     }

@@ -1,26 +1,23 @@
 -- What a call from C answers: numbers, 0 where there is nothing to say. Assumes nothing.
-use Rattle.std.specs.Prelude.{◌≡◌, refl, List, ℕ, length}
+use Rattle.std.specs.Prelude.{◌≡◌, refl, List, ℕ, length, Ok, Err}
 use Rattle.std.proofs.Common.{sym, ap, ◌∙◌}
 use Rattle.scene.specs.Refusal.{number_of, place_of}
 use Rattle.scene.specs.View.{view_of}
 use Rattle.scene.specs.declared.Refusal.{Refusal}
 use Rattle.judge.specs.Judge.{judged}
-use Rattle.judge.specs.declared.Judged.{Judged}
-use Rattle.judge.specs.declared.Judged.TheVariants.{Accepted, Refused}
+use Rattle.judge.specs.Judge.{Judged}
 use Rattle.questions.specs.Answers as kernel
 use Rattle.questions.specs.Answers.{or_refuse, listing_in, inside_fault, inside_in, enclosing_in, list_fault, listed_in, held_in}
-use Rattle.questions.specs.declared.Listed.{Listed}
-use Rattle.questions.specs.declared.Listed.TheVariants as listed
-use Rattle.questions.specs.declared.Enclosing.{Enclosing}
-use Rattle.questions.specs.declared.Enclosing.TheVariants as enclosing
+use Rattle.questions.specs.Types.{Listed}
+use Rattle.questions.specs.Types.{Enclosing}
 
 abbrev pub refusal_number : Judged → ℕ
-refusal_number Accepted = 0
-refusal_number (Refused r) = number_of r
+refusal_number (Ok _) = 0
+refusal_number (Err r) = number_of r
 
 abbrev pub refusal_place : Judged → ℕ
-refusal_place Accepted = 0
-refusal_place (Refused r) = place_of r
+refusal_place (Ok _) = 0
+refusal_place (Err r) = place_of r
 
 -- the number of pierced pairs
 unfoldable pub pairs_of : List ℕ → ℕ
@@ -47,43 +44,43 @@ pub by_answer : {A : Type 0} (f : A → ℕ) {o j : A} {n : ℕ} → o ≡ j →
 by_answer f e p = p ∙ ap f e
 
 abbrev pub counted : Listed → ℕ
-counted (listed.Count n) = n
-counted (listed.Refused r) = 0
+counted (Ok n) = n
+counted (Err r) = 0
 
 abbrev pub enclosed : Enclosing → ℕ
-enclosed (enclosing.Count n) = n
-enclosed (enclosing.Refused r) = 0
+enclosed (Ok n) = n
+enclosed (Err r) = 0
 
 -- the number of an answer that says nothing where it is refused
 number_of_law : {A : Type 0} (f : A → ℕ) (refuse : Refusal → A) → ((r : Refusal) → f (refuse r) ≡ 0) → (j : Judged) (x : A) →
     f (or_refuse refuse j x) ≡ or_refuse (λ _. 0) j (f x)
 unfolding or_refuse
-number_of_law f refuse h Accepted x = refl
-number_of_law f refuse h (Refused r) x = h r
+number_of_law f refuse h (Ok _) x = refl
+number_of_law f refuse h (Err r) x = h r
 
 pub pairs_are : (s : List ℕ) {o x : Listed} {n : ℕ} →
-    o ≡ or_refuse listed.Refused (judged s) (listed.Count (length (listing_in (view_of s)))) → o ≡ x → n ≡ counted x →
+    o ≡ or_refuse Err (judged s) (Ok (length (listing_in (view_of s)))) → o ≡ x → n ≡ counted x →
     n ≡ pairs_of s
 unfolding pairs_of
 pairs_are s e q p =
-    by_case counted e q p ∙ number_of_law counted listed.Refused (λ r. refl) (judged s) (listed.Count (length (listing_in (view_of s))))
+    by_case counted e q p ∙ number_of_law counted Err (λ r. refl) (judged s) (Ok (length (listing_in (view_of s))))
 
 pub inside_is : (s : List ℕ) (k : ℕ) {o x : Enclosing} {n : ℕ} → o ≡ kernel.inside_of s k → o ≡ x → n ≡ enclosed x → n ≡ inside_of s k
 unfolding inside_of kernel.inside_of enclosing_in
 inside_is s k e q p =
-    by_case enclosed e q p ∙ number_of_law enclosed enclosing.Refused (λ r. refl) (judged s) (enclosing_in (view_of s) k)
+    by_case enclosed e q p ∙ number_of_law enclosed Err (λ r. refl) (judged s) (enclosing_in (view_of s) k)
     ∙ ap (or_refuse (λ _. 0) (judged s))
-    (number_of_law enclosed enclosing.Refused (λ r. refl) (inside_fault k) (enclosing.Count (inside_in (view_of s) k)))
+    (number_of_law enclosed Err (λ r. refl) (inside_fault k) (Ok (inside_in (view_of s) k)))
 
 -- a listing that was not refused is of an accepted scene
-pub listed_are : (s d : List ℕ) {o : Listed} {n : ℕ} → o ≡ or_refuse listed.Refused (judged s) (listed_in (view_of s) d) →
-    o ≡ listed.Count n → n ≡ pairs_of s
+pub listed_are : (s d : List ℕ) {o : Listed} {n : ℕ} → o ≡ or_refuse Err (judged s) (listed_in (view_of s) d) →
+    o ≡ Ok n → n ≡ pairs_of s
 unfolding or_refuse pairs_of listed_in
 listed_are s d {n} e q = go (judged s) (list_fault (view_of s) d) (sym q ∙ e)
   where
     go : (j k : Judged) →
-        listed.Count n ≡ or_refuse listed.Refused j (or_refuse listed.Refused k (listed.Count (length (listing_in (view_of s))))) →
+        Ok n ≡ or_refuse Err j (or_refuse Err k (Ok (length (listing_in (view_of s))))) →
         n ≡ or_refuse (λ _. 0) j (length (listing_in (view_of s)))
-    go Accepted Accepted p = ap counted p
-    go Accepted (Refused r) p = cc
-    go (Refused r) k p = cc
+    go (Ok _) (Ok _) p = ap counted p
+    go (Ok _) (Err r) p = cc
+    go (Err r) k p = cc

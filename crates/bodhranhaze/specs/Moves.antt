@@ -3,7 +3,7 @@ use Rattle.std.specs.Prelude.{◌≡◌, List, ℕ, ℤ}
 use Rattle.std.proofs.Common.{sym, ap, ◌∙◌, subst, SFits, to_z, of_z, to_z-of_z}
 use Rattle.std.specs.Int.{w64}
 use Rattle.scene.specs.declared.Row.{Row}
-use Rattle.judge.specs.declared.Judged.{Judged}
+use Rattle.judge.specs.Judge.{Judged}
 use Rattle.session.specs.Place.{kept_or, IsChanged}
 use Rattle.bodhranhaze.specs.Calls.{refusal_number}
 

@@ -1,29 +1,27 @@
 -- What the calls about a vertex in doubles answer: numbers, 0 where there is nothing to say. Assumes nothing.
-use Rattle.std.specs.Prelude.{◌≡◌, List, ℕ, Float, length}
+use Rattle.std.specs.Prelude.{◌≡◌, List, ℕ, Float, length, Result, Ok, Err}
 use Rattle.std.proofs.Common.{sym, ap, ◌∙◌}
+use Rattle.scene.specs.declared.Row.{Row}
 use Rattle.doubles.specs.Taken.{fault_number, fault_place, taken_of}
 use Rattle.doubles.specs.Record.{recorded_by, left_by, IsRecord}
-use Rattle.doubles.specs.declared.Taken.{Taken}
-use Rattle.doubles.specs.declared.Taken.TheVariants as taken
+use Rattle.doubles.specs.declared.Fault.{Fault}
 use Rattle.doubles.specs.declared.Vertex.{Vertex}
-use Rattle.doubles.specs.declared.record.Recorded.{Recorded}
-use Rattle.doubles.specs.declared.record.Recorded.TheVariants.{Written, Refused}
 
 abbrev pub vertex : Float → Float → Float → Float → Vertex
 vertex x y z w = record { x = x; y = y; z = z; w = w }
 
-abbrev pub taken_place : Taken → ℕ
-taken_place (taken.At r) = 0
-taken_place (taken.Refused f) = fault_place f
+abbrev pub taken_place : Result Row Fault → ℕ
+taken_place (Ok r) = 0
+taken_place (Err f) = fault_place f
 
-abbrev pub recorded_number : Recorded → ℕ
-recorded_number Written = 0
-recorded_number (Refused f) = fault_number f
+abbrev pub recorded_number : Result (Unit {0}) Fault → ℕ
+recorded_number (Ok u) = 0
+recorded_number (Err f) = fault_number f
 
 -- the vertex's own refusal, then 13; d is what the lent bytes held, d' what they hold afterwards
 pub record IsTake (v : Vertex) (d d' : List ℕ) (r : ℕ) : Type 0 where
   pub answer : r ≡ recorded_number (recorded_by (taken_of v) (length d))
   pub held : d' ≡ left_by (taken_of v) d
 
-pub take_is : {v : Vertex} {d d' : List ℕ} {o x : Recorded} {n : ℕ} → IsRecord v d d' o → o ≡ x → n ≡ recorded_number x → IsTake v d d' n
+pub take_is : {v : Vertex} {d d' : List ℕ} {o x : Result (Unit {0}) Fault} {n : ℕ} → IsRecord v d d' o → o ≡ x → n ≡ recorded_number x → IsTake v d d' n
 take_is h q p = record { answer = p ∙ ap recorded_number (sym q ∙ h.answer); held = h.held }

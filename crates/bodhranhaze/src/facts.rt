@@ -1,47 +1,40 @@
 // Everything that is asked of a whole scene, for C, in one call: the scene is judged, decoded and surveyed once.
 ghost use Rattle.std.specs.Prelude.{◌≡◌, ◌≤◌, length};
-ghost use Rattle.bodhranhaze.specs.Facts.{room_for, told, nothing_known, FactsPut, IsFacts};
+ghost use Rattle.bodhranhaze.specs.Facts.{room_for, known, nothing_known, told, FactsPut, IsFacts};
 
 use crate::{number_of, place_of, verdict_number};
-use judge::Judged;
 use kernel::facts::survey;
 use pierce_engine::Engine;
-use questions::{Counts, Facts, Surveyed, Verdict};
+use questions::{Counts, Facts};
 use scene::Refusal;
 
-// The eight numbers in front: the refusal's number and place, the verdict's number, the three counts, the two words.
-fn tell(facts: &mut [u64], number: usize, place: usize, f: Facts)
-    requires { 8 ≤ length facts.old }
-    ensures { facts.new ≡ told number place f facts.old }
-{
-    let v = f.verdict;
-    let c = f.counts;
-    facts[0] = number as u64;
-    facts[1] = place as u64;
-    facts[2] = verdict_number(v) as u64;
-    facts[3] = c.pairs as u64;
-    facts[4] = c.a_in_b as u64;
-    facts[5] = c.b_in_a as u64;
-    facts[6] = f.a_inside;
-    facts[7] = f.b_inside;
+// What is told behind a refusal's number and place: the verdict's number, the three counts, the two words.
+#[derive(Clone, Copy)]
+struct Told {
+    verdict: usize,
+    counts: Counts,
+    a_inside: u64,
+    b_inside: u64,
 }
 
-// What is told, and the refusal's number, 0 where there is none.
-fn say(facts: &mut [u64], j: Judged, f: Facts) -> usize
-    requires { 8 ≤ length facts.old }
-    ensures { FactsPut j f facts.old facts.new result }
+// Of an accepted scene.
+fn known(f: Facts) -> Told
+    ensures { result ≡ known f }
 {
-    let n = number_of(j);
-    tell(facts, n, place_of(j), f);
-    n
+    Told {
+        verdict: verdict_number(Ok(f.verdict)),
+        counts: f.counts,
+        a_inside: f.a_inside,
+        b_inside: f.b_inside,
+    }
 }
 
-// Of a refused scene.
-fn nothing_known(r: Refusal) -> Facts
+// Of a refused one.
+fn nothing_known(r: Refusal) -> Told
     ensures { result ≡ nothing_known r }
 {
-    Facts {
-        verdict: Verdict::Refused(r),
+    Told {
+        verdict: verdict_number(Err(r)),
         counts: Counts {
             pairs: 0,
             a_in_b: 0,
@@ -52,14 +45,40 @@ fn nothing_known(r: Refusal) -> Facts
     }
 }
 
+// The eight numbers in front.
+fn tell(facts: &mut [u64], number: usize, place: usize, t: Told)
+    requires { 8 ≤ length facts.old }
+    ensures { facts.new ≡ told number place t facts.old }
+{
+    let c = t.counts;
+    facts[0] = number as u64;
+    facts[1] = place as u64;
+    facts[2] = t.verdict as u64;
+    facts[3] = c.pairs as u64;
+    facts[4] = c.a_in_b as u64;
+    facts[5] = c.b_in_a as u64;
+    facts[6] = t.a_inside;
+    facts[7] = t.b_inside;
+}
+
+// What is told, and the refusal's number, 0 where there is none.
+fn say(facts: &mut [u64], j: Result<(), Refusal>, t: Told) -> usize
+    requires { 8 ≤ length facts.old }
+    ensures { FactsPut j t facts.old facts.new result }
+{
+    let n = number_of(j);
+    tell(facts, n, place_of(j), t);
+    n
+}
+
 // 10 with the count where a list of so many places has no room for n pairs.
-fn room_for(n: usize, places: usize) -> Judged
+fn room_for(n: usize, places: usize) -> Result<(), Refusal>
     ensures { result ≡ room_for n places }
 {
     if n > places / 3 {
-        return Judged::Refused(Refusal::ListTooShort(n));
+        return Err(Refusal::ListTooShort(n));
     }
-    Judged::Accepted
+    Ok(())
 }
 
 // The number of the refusal: 13 before all others where there are not eight places for facts; the scene's own; or 10, with all facts told,
@@ -70,12 +89,8 @@ pub fn bodhranhaze_survey(s: &[u8], list: &mut [u16], facts: &mut [u64]) -> usiz
     if facts.len() < 8 {
         return 13;
     }
-    let a = survey(Engine::Plain, s, list);
-    match a {
-        Surveyed::Refused(r) => say(facts, Judged::Refused(r), nothing_known(r)),
-        Surveyed::Facts(f) => {
-            let c = f.counts;
-            say(facts, room_for(c.pairs, list.len()), f)
-        }
+    match survey(Engine::Plain, s, list) {
+        Err(r) => say(facts, Err(r), nothing_known(r)),
+        Ok(f) => say(facts, room_for(f.counts.pairs, list.len()), known(f)),
     }
 }

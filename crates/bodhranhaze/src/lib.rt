@@ -7,9 +7,9 @@ ghost use Rattle.judge.specs.Judge.{judged};
 ghost use Rattle.questions.specs.Answers.{verdict_number, verdict_of};
 ghost use Rattle.bodhranhaze.specs.Calls.{refusal_number, refusal_place, pairs_of, inside_of, IsListing};
 
-use judge::Judged;
 use pierce_engine::Engine;
-use questions::{Enclosing, Listed, Verdict};
+use questions::Verdict;
+use scene::{Numbered, Refusal};
 
 pub mod colours;
 pub mod facts;
@@ -17,33 +17,33 @@ pub mod moves;
 pub mod refusals;
 pub mod vertices;
 
-fn number_of(j: Judged) -> usize
+fn number_of(j: Result<(), Refusal>) -> usize
     ensures { result ≡ refusal_number j }
 {
     match j {
-        Judged::Accepted => 0,
-        Judged::Refused(r) => scene::number(r),
+        Ok(()) => 0,
+        Err(r) => r.number(),
     }
 }
 
-fn place_of(j: Judged) -> usize
+fn place_of(j: Result<(), Refusal>) -> usize
     ensures { result ≡ refusal_place j }
 {
     match j {
-        Judged::Accepted => 0,
-        Judged::Refused(r) => scene::place(r),
+        Ok(()) => 0,
+        Err(r) => r.place(),
     }
 }
 
-fn verdict_number(v: Verdict) -> usize
+fn verdict_number(v: Result<Verdict, Refusal>) -> usize
     ensures { result ≡ verdict_number v }
 {
     match v {
-        Verdict::Cross(_, _, _) => 0,
-        Verdict::AInB(_) => 1,
-        Verdict::BInA(_) => 2,
-        Verdict::Apart => 3,
-        Verdict::Refused(_) => 4,
+        Ok(Verdict::Cross(_, _, _)) => 0,
+        Ok(Verdict::AInB(_)) => 1,
+        Ok(Verdict::BInA(_)) => 2,
+        Ok(Verdict::Apart) => 3,
+        Err(_) => 4,
     }
 }
 
@@ -75,8 +75,8 @@ pub fn bodhranhaze_pairs(s: &[u8]) -> usize
     let mut none = [0u16; 1];
     let l = kernel::lists::listing_part(Engine::Plain, s, 0, &mut none);
     match l {
-        Listed::Count(n) => n,
-        Listed::Refused(_) => 0,
+        Ok(n) => n,
+        Err(_) => 0,
     }
 }
 
@@ -86,8 +86,8 @@ pub fn bodhranhaze_inside(s: &[u8], solid: usize) -> usize
 {
     let e = kernel::inside::inside(Engine::Plain, s, solid);
     match e {
-        Enclosing::Count(n) => n,
-        Enclosing::Refused(_) => 0,
+        Ok(n) => n,
+        Err(_) => 0,
     }
 }
 
@@ -95,7 +95,7 @@ pub fn bodhranhaze_inside(s: &[u8], solid: usize) -> usize
 pub fn bodhranhaze_listing(s: &[u8], list: &mut [u16]) -> usize
     ensures { IsListing s.now list.old list.new result }
 {
-    if let Listed::Count(n) = kernel::lists::listing(Engine::Plain, s, list) {
+    if let Ok(n) = kernel::lists::listing(Engine::Plain, s, list) {
         return n;
     }
     bodhranhaze_pairs(s)

@@ -6,8 +6,7 @@ ghost use Rattle.session.specs.Session.{reversed_in};
 ghost use Rattle.session.specs.Place.{move_fault, move_far_fault, reverse_fault};
 ghost use Rattle.bodhranhaze.specs.Moves.{row_of, IsAnswered};
 
-use judge::Judged;
-use scene::Row;
+use scene::{Numbered, Row};
 use session::place;
 
 // A vertex, by its point number.
@@ -23,8 +22,8 @@ pub fn bodhranhaze_move(s: &mut [u8], p: usize, x: i64, y: i64, z: i64, w: i64) 
     };
     let j = place::move_vertex(s, p, v);
     match j {
-        Judged::Accepted => 0,
-        Judged::Refused(r) => scene::number(r),
+        Ok(()) => 0,
+        Err(r) => r.number(),
     }
 }
 
@@ -41,8 +40,8 @@ pub fn bodhranhaze_move_far(s: &mut [u8], x: i64, y: i64, z: i64, w: i64) -> usi
     };
     let j = place::move_far(s, v);
     match j {
-        Judged::Accepted => 0,
-        Judged::Refused(r) => scene::number(r),
+        Ok(()) => 0,
+        Err(r) => r.number(),
     }
 }
 
@@ -53,7 +52,7 @@ pub fn bodhranhaze_reverse(s: &mut [u8], f: usize) -> usize
 {
     let j = place::reverse(s, f);
     match j {
-        Judged::Accepted => 0,
-        Judged::Refused(r) => scene::number(r),
+        Ok(()) => 0,
+        Err(r) => r.number(),
     }
 }

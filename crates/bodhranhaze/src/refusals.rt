@@ -2,9 +2,8 @@
 ghost use Rattle.std.specs.Prelude.{◌≡◌};
 ghost use Rattle.bodhranhaze.specs.Refusals.{inside_refusal, listing_refusal};
 
-use judge::Judged;
 use pierce_engine::Engine;
-use questions::Enclosing;
+use scene::Numbered;
 
 // The scene's own refusal, or 11 for a solid that is neither 1 nor 2.
 pub fn bodhranhaze_inside_refusal(s: &[u8], solid: usize) -> usize
@@ -12,8 +11,8 @@ pub fn bodhranhaze_inside_refusal(s: &[u8], solid: usize) -> usize
 {
     let e = kernel::inside::inside(Engine::Plain, s, solid);
     match e {
-        Enclosing::Count(_) => 0,
-        Enclosing::Refused(r) => scene::number(r),
+        Ok(_) => 0,
+        Err(r) => r.number(),
     }
 }
 
@@ -21,8 +20,8 @@ pub fn bodhranhaze_inside_refusal(s: &[u8], solid: usize) -> usize
 pub fn bodhranhaze_listing_refusal(s: &[u8], places: usize) -> usize
     ensures { result ≡ listing_refusal s.now places }
 {
-    if let Judged::Refused(r) = judge::judge(s) {
-        return scene::number(r);
+    if let Err(r) = judge::judge(s) {
+        return r.number();
     }
     if crate::bodhranhaze_pairs(s) > places / 3 {
         return 10;

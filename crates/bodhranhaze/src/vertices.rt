@@ -3,17 +3,16 @@ ghost use Rattle.std.specs.Prelude.{◌≡◌};
 ghost use Rattle.doubles.specs.Taken.{taken_of};
 ghost use Rattle.bodhranhaze.specs.Vertices.{vertex, taken_place, IsTake};
 
-use doubles::record::Recorded;
-use doubles::{Taken, Vertex};
+use doubles::Vertex;
+use scene::Numbered;
 
 // Writes the nine bytes of the vertex's record and answers 0; or the refusal's number, and nothing is written.
 pub fn bodhranhaze_take(x: f64, y: f64, z: f64, w: f64, out: &mut [u8]) -> usize
     ensures { IsTake (vertex x y z w) out.old out.new result }
 {
-    let r = doubles::record::record_of(Vertex { x, y, z, w }, out);
-    match r {
-        Recorded::Written => 0,
-        Recorded::Refused(f) => doubles::number(f),
+    match doubles::record::record_of(Vertex { x, y, z, w }, out) {
+        Ok(()) => 0,
+        Err(f) => f.number(),
     }
 }
 
@@ -21,9 +20,8 @@ pub fn bodhranhaze_take(x: f64, y: f64, z: f64, w: f64, out: &mut [u8]) -> usize
 pub fn bodhranhaze_take_place(x: f64, y: f64, z: f64, w: f64) -> usize
     ensures { result ≡ taken_place (taken_of (vertex x y z w)) }
 {
-    let t = doubles::take(Vertex { x, y, z, w });
-    match t {
-        Taken::At(_) => 0,
-        Taken::Refused(f) => doubles::place(f),
+    match doubles::take(Vertex { x, y, z, w }) {
+        Ok(_) => 0,
+        Err(f) => f.place(),
     }
 }

@@ -3,8 +3,8 @@
 #![tactic(auto)]
 
 use class_print::ROOM;
+use class_tally::files;
 use class_tally::files::Files;
-use class_tally::{Report, files};
 use cli_files::{MOST_FILES, Walk, progress};
 use scene::Scene;
 
@@ -41,7 +41,7 @@ fn marked(
             over: false,
         };
     }
-    let over = !r.found;
+    let over = r.name.is_none();
     Marking {
         walk: v,
         files: f,
@@ -59,20 +59,18 @@ fn all_marked(
     s: &mut [u8],
 ) -> Marking {
     let mut m = first;
-    let mut left = MOST_FILES;
-    while left > 0 {
+    for _ in 0..MOST_FILES {
         m = marked(rt, program, m, piece, name, s);
         if m.over {
             break;
         }
-        left -= 1;
     }
     m
 }
 
 fn report(rt: &HostRuntime, program: &[u8], f: Files) {
     let mut out = [0u8; ROOM];
-    let p = class_print::sheet(&mut out, 0, Report::Tallied(files::tally(f)));
+    let p = class_print::sheet(&mut out, 0, Ok(files::tally(f)));
     cli::answer(rt, program, &out[0..p]);
 }
 

@@ -1,7 +1,7 @@
 -- The proofs of `Parts`: by the cases of a header, and along the scenes. Assumes nothing.
 use Rattle.std.proofs.Math.Path.{◌≡◌, refl, sym}
 use Rattle.std.proofs.Common.{ap, ap₂, ◌∙◌, subst, length-append, length-drop}
-use Rattle.std.specs.Prelude.{Bool, ◌&&◌, List, [], ◌∷◌, ◌++◌, ℕ, zero, suc, ◌≤◌, ◌<◌, take, drop}
+use Rattle.std.specs.Prelude.{Bool, ◌&&◌, List, [], ◌∷◌, ◌++◌, ℕ, zero, suc, ◌≤◌, ◌<◌, take, drop, Ok, Err}
 use Rattle.std.proofs.Math.Bool.{true, false}
 use native.Mathlib.Omega.{arith}
 use borrow.Author.Tests.{le-leb, lt-leb, leb-true, eq-eqb, ne_eqb}
@@ -15,7 +15,6 @@ use Rattle.scene.specs.Limits.{limits}
 use Rattle.scene.specs.Records.{length_of}
 use Rattle.scene.specs.declared.Refusal.TheVariants.{Opening, Counts, Length}
 use Rattle.judge.specs.Judge.{refuse_unless, and_then, opens, counts_ok, header_fault, judged_at, judged}
-use Rattle.judge.specs.declared.Judged.TheVariants.{Accepted, Refused}
 use Rattle.class_block.specs.Block.{headed, whole, size_of, scene_of, behind, scenes_of, end_at}
 use Rattle.class_block.specs.Scenes.{size_most, size_some, scenes_end, scenes_next, byte_left, behind_here}
 use Rattle.class_block.specs.Header.{front_long, opens_same, counts_same, length_same}
@@ -78,15 +77,15 @@ module _ (s : List ℕ) where
       go true b e p = leb-true 6 (length s) e
       go false b e p = absurd (let z : ◌≡◌ {A = ℕ} 0 1 = cc in omega arith)
 
-  is_opening : opens s ≡ false → judged s ≡ Refused Opening
+  is_opening : opens s ≡ false → judged s ≡ Err Opening
   unfolding judged_at header_fault refuse_unless and_then
   is_opening e = rw e
 
-  is_counts : opens s ≡ true → counts_ok limits s ≡ false → judged s ≡ Refused Counts
+  is_counts : opens s ≡ true → counts_ok limits s ≡ false → judged s ≡ Err Counts
   unfolding judged_at header_fault refuse_unless and_then
   is_counts e d = rw (e, d)
 
-  is_length : headed s ≡ true → length s < length_of s → judged s ≡ Refused Length
+  is_length : headed s ≡ true → length s < length_of s → judged s ≡ Err Length
   unfolding judged_at header_fault refuse_unless and_then
   is_length e h = rw ((has_opening e).0, (has_opening e).1, ne_eqb (length s) (length_of s) (λ p. omega arith))
 
@@ -98,7 +97,7 @@ module _ (s : List ℕ) where
   is_whole_law e h = rw (e, le-leb (length_of s) (length s) h)
 
   -- the scene has the length that its header says
-  sound : headed s ≡ true → length_of s ≤ length s → header_fault limits (take (length_of s) s) ≡ Accepted
+  sound : headed s ≡ true → length_of s ≤ length s → header_fault limits (take (length_of s) s) ≡ Ok tt
   unfolding header_fault refuse_unless
   sound e h =
       let n = length_of s in

@@ -1,6 +1,6 @@
 -- The header of the scene at a block's front: that of its first six bytes, which the judge refuses with 3 exactly where the header is
 -- sound. Assumes nothing.
-use Rattle.std.specs.Prelude.{◌≡◌, Bool, cond, not, List, ℕ, ◌+◌, ◌*◌, ◌≤◌, ◌<◌, length, take}
+use Rattle.std.specs.Prelude.{◌≡◌, Bool, cond, not, List, ℕ, ◌+◌, ◌*◌, ◌≤◌, ◌<◌, length, take, Ok, Err}
 use Rattle.std.proofs.Math.Path.{refl, sym, ap, ap₂}
 use Rattle.std.proofs.Common.{◌∙◌, arith, get_or-take, length-take-le}
 use Rattle.std.proofs.Math.Bool.{true, false, ◌&&◌}
@@ -13,8 +13,7 @@ use Rattle.scene.specs.Refusal.{number_of}
 use Rattle.scene.specs.declared.Refusal.{Refusal}
 use Rattle.scene.specs.declared.Refusal.TheVariants.{Opening, Counts, Length}
 use Rattle.judge.specs.Judge.{refuse_unless, and_then, opens, counts_ok, header_fault, judged_at, judged}
-use Rattle.judge.specs.declared.Judged.{Judged}
-use Rattle.judge.specs.declared.Judged.TheVariants.{Accepted, Refused}
+use Rattle.judge.specs.Judge.{Judged}
 use Rattle.class_block.specs.Block.{headed, whole, size_of}
 
 -- the first n bytes of s have the header of s
@@ -52,20 +51,20 @@ module _ (s : List ℕ) (h : 6 ≤ length s) where
   abbrev fault : (a b : Bool) → Refusal
   fault a b = cond a (cond b Length Counts) Opening
 
-  judged_six : judged six ≡ Refused (fault (opens s) (counts_ok limits s))
+  judged_six : judged six ≡ Err (fault (opens s) (counts_ok limits s))
   unfolding judged_at header_fault refuse_unless and_then
   judged_six = rw (opens_same s 6 (omega arith) h, counts_same s 6 (omega arith) h, too_short) (go (opens s) (counts_ok limits s) _)
     where
-      go : (a b : Bool) (k : Judged) → and_then (refuse_unless a Opening (refuse_unless b Counts (refuse_unless false Length Accepted))) k ≡
-          Refused (fault a b)
+      go : (a b : Bool) (k : Judged) → and_then (refuse_unless a Opening (refuse_unless b Counts (refuse_unless false Length (Ok tt)))) k ≡
+          Err (fault a b)
       go true true k = refl
       go true false k = refl
       go false b k = refl
 
-  same_refusal : {q r : Refusal} → Refused q ≡ Refused r → q ≡ r
+  same_refusal : {q r : Refusal} → ◌≡◌ {A = Judged} (Err q) (Err r) → q ≡ r
   same_refusal e = cc
 
-  pub headed_six : {o : Judged} {r : Refusal} {n : ℕ} → o ≡ judged six → o ≡ Refused r → n ≡ number_of r → eqb n 3 ≡ headed s
+  pub headed_six : {o : Judged} {r : Refusal} {n : ℕ} → o ≡ judged six → o ≡ Err r → n ≡ number_of r → eqb n 3 ≡ headed s
   unfolding headed
   headed_six e q m = ap (λ (x : ℕ). eqb x 3) (m ∙ ap number_of (same_refusal (sym q ∙ e ∙ judged_six))) ∙ go (opens s) (counts_ok limits s)
     where
@@ -74,7 +73,7 @@ module _ (s : List ℕ) (h : 6 ≤ length s) where
       go true false = refl
       go false b = refl
 
-  pub never_six : {o : Judged} → o ≡ judged six → o ≡ Accepted → false ≡ headed s
+  pub never_six : {o : Judged} → o ≡ judged six → o ≡ Ok tt → false ≡ headed s
   never_six e q = absurd (let z : ◌≡◌ {A = ℕ} 0 1 = cc (e, q, judged_six) in omega arith)
 
 pub unheaded : (s : List ℕ) → length s < 6 → false ≡ headed s

@@ -1,6 +1,6 @@
 -- What the scenes of a block are, in the words of the request; what a reader hands out; and the scenes of two blocks end to end. The proofs
 -- stand in `proofs/PartsProof`. Assumes nothing.
-use Rattle.std.specs.Prelude.{◌≡◌, true, false, List, [], ◌∷◌, ◌++◌, ℕ, ◌≤◌, ◌<◌, length, take, drop}
+use Rattle.std.specs.Prelude.{◌≡◌, true, false, List, [], ◌∷◌, ◌++◌, ℕ, ◌≤◌, ◌<◌, length, take, drop, Ok, Err}
 use Rattle.std.specs.Borrow.{Bor}
 use Rattle.laws.specs.Lists.{Each}
 use Rattle.scene.specs.Limits.{limits}
@@ -8,14 +8,13 @@ use Rattle.scene.specs.Records.{length_of}
 use Rattle.scene.specs.declared.Refusal.{Refusal}
 use Rattle.scene.specs.declared.Refusal.TheVariants.{Opening, Counts, Length}
 use Rattle.judge.specs.Judge.{opens, counts_ok, header_fault, judged}
-use Rattle.judge.specs.declared.Judged.TheVariants.{Accepted, Refused}
 use Rattle.class_block.specs.Block.{headed, whole, scenes_of}
 use Rattle.class_block.specs.Reading.{Handed}
 use Rattle.class_block.specs.declared.Reader.{Reader}
 
 -- s is the last scene, whatever follows its header, and is refused with r
 abbrev pub Last : List ℕ → Refusal → Type 0
-Last s r = (scenes_of s ≡ s ∷ []) × (judged s ≡ Refused r)
+Last s r = (scenes_of s ≡ s ∷ []) × (judged s ≡ Err r)
 
 -- the scenes of a block that begins with s
 pub record Scenes (s : List ℕ) : Type 0 where
@@ -27,7 +26,7 @@ pub record Scenes (s : List ℕ) : Type 0 where
   pub inside : headed s ≡ true → length s < length_of s → Last s Length
   -- any other scene ends where its header's length says, is not refused 1, 2 or 3, and the next begins behind it
   pub passed : headed s ≡ true → length_of s ≤ length s →
-      (scenes_of s ≡ take (length_of s) s ∷ scenes_of (drop (length_of s) s)) × (header_fault limits (take (length_of s) s) ≡ Accepted)
+      (scenes_of s ≡ take (length_of s) s ∷ scenes_of (drop (length_of s) s)) × (header_fault limits (take (length_of s) s) ≡ Ok tt)
 
 -- a reader, asked again and again while a byte is left, hands out ss
 pub data Runs : Reader → List (List ℕ) → Type 0 where

@@ -2,12 +2,11 @@
 #![tactic(auto)]
 
 ghost use Rattle.std.specs.Prelude.{◌≡◌};
-ghost use Rattle.scene.specs.Records.{length_of};
 ghost use Rattle.class_block.specs.Reading.{Handed};
 ghost use Rattle.class_block.specs.Block.{headed, size_of, scene_of, start_at};
 
-use judge::Judged;
-use scene::read::byte;
+use scene::Numbered;
+use scene::offsets::length_of;
 
 // Whether the header is sound. The judge of the header alone finds it sound exactly where it misses the rest of the scene.
 fn is_headed(s: &[u8]) -> bool
@@ -16,17 +15,10 @@ fn is_headed(s: &[u8]) -> bool
     if s.len() < 6 {
         return false;
     }
-    if let Judged::Refused(r) = judge::judge(&s[0..6]) {
-        return scene::number(r) == 3;
+    if let Err(r) = judge::judge(&s[0..6]) {
+        return r.number() == 3;
     }
     false
-}
-
-// The length that the header says.
-fn stated(s: &[u8]) -> usize
-    ensures { result ≡ length_of s.now }
-{
-    17 + (byte(s, 2) + byte(s, 4)) * 9 + (byte(s, 3) + byte(s, 5)) * 5
 }
 
 // How long the scene at the front is.
@@ -36,7 +28,7 @@ fn size(s: &[u8]) -> usize
     if !is_headed(s) {
         return s.len();
     }
-    let n = stated(s);
+    let n = length_of(s);
     if n <= s.len() {
         return n;
     }

@@ -1,5 +1,5 @@
 -- A report fits its room. Assumes nothing.
-use Rattle.std.specs.Prelude.{◌≡◌, List, [], ◌∷◌, ◌++◌, ℕ, zero, suc, ◌+◌, ◌%◌, ◌≤◌, ◌<◌, ◌^◌, length, take, drop}
+use Rattle.std.specs.Prelude.{◌≡◌, List, [], ◌∷◌, ◌++◌, ℕ, zero, suc, ◌+◌, ◌%◌, ◌≤◌, ◌<◌, ◌^◌, length, take, drop, Ok, Err}
 use Rattle.std.proofs.Common.{ap₂, ◌∙◌, arith, div-le_self, mod-lt, lit≤, length-append}
 use Prim.Native.String.{String}
 use Rattle.std.proofs.Math.Seq.{take-append_seam}
@@ -10,8 +10,8 @@ use Rattle.class_tally.specs.Tally.{mean_over, mean_of, report_of}
 use Rattle.class_tally.specs.Words.{Words, TallyWords, ReportWords, report_words}
 use Rattle.class_tally.specs.declared.Tally.{Tally}
 use Rattle.class_tally.specs.declared.Mean.{Mean}
-use Rattle.class_tally.specs.declared.Report.{Report}
-use Rattle.class_tally.specs.declared.Report.TheVariants.{Longer, Tallied}
+use Rattle.class_tally.specs.Tally.{Report}
+use Rattle.class_tally.specs.declared.BlockError.TheVariants.{Longer}
 use Rattle.class_print.specs.Sheet.{counted, verdicts, refused_low, refused_high, mean_line, tallied, sheet_of}
 use Rattle.class_print.specs.Fits.{room, Fits}
 
@@ -104,8 +104,8 @@ tallied_most t h =
 
 sheet_most : (r : Report) → ReportWords r → length (sheet_of r) ≤ room
 unfolding sheet_of decimal decimal_in
-sheet_most Longer h = lit≤ tt
-sheet_most (Tallied t) h = tallied_most t h
+sheet_most (Err Longer) h = lit≤ tt
+sheet_most (Ok t) h = tallied_most t h
 
 -- a text put at a buffer's start, where there is room
 put_whole : (t l m : List ℕ) (p : ℕ) → length t ≤ length l → Put l 0 t m p → take p m ≡ t

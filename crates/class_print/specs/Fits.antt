@@ -4,7 +4,7 @@ use Rattle.std.specs.Prelude.{◌≡◌, List, ℕ, ◌≤◌, length, take}
 use Rattle.print.specs.Put.{Put}
 use Rattle.class_tally.specs.Tally.{report_of}
 use Rattle.class_tally.specs.Words.{ReportWords}
-use Rattle.class_tally.specs.declared.Report.{Report}
+use Rattle.class_tally.specs.Tally.{Report}
 use Rattle.class_print.specs.Sheet.{sheet_of}
 
 abbrev pub room : ℕ

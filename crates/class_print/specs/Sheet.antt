@@ -1,5 +1,5 @@
 -- The class report as text, line by line in the order of the request. Assumes nothing.
-use Rattle.std.specs.Prelude.{ℕ, ◌≡◌, List, [], ◌∷◌, ◌++◌}
+use Rattle.std.specs.Prelude.{ℕ, ◌≡◌, List, [], ◌∷◌, ◌++◌, Ok, Err}
 use Rattle.std.proofs.Common.{ap, sym}
 use Rattle.std.proofs.Math.Path.{subst}
 use Prim.Native.String.{String}
@@ -8,8 +8,8 @@ use Rattle.print.specs.Text.{ascii, decimal, line}
 use Rattle.class_tally.specs.Tally.{number_in, place_in, mean_of}
 use Rattle.class_tally.specs.declared.Tally.{Tally}
 use Rattle.class_tally.specs.declared.Mean.{Mean}
-use Rattle.class_tally.specs.declared.Report.{Report}
-use Rattle.class_tally.specs.declared.Report.TheVariants.{Longer, Tallied}
+use Rattle.class_tally.specs.Tally.{Report}
+use Rattle.class_tally.specs.declared.BlockError.{BlockError}
 
 -- a line's words, and its number
 abbrev pub counted : String → ℕ → List ℕ
@@ -43,8 +43,8 @@ abbrev pub refused : Report → List ℕ
 refused r = line (ascii "refused" ∷ decimal (number_in r) ∷ decimal (place_in r) ∷ [])
 
 unfoldable pub sheet_of : Report → List ℕ
-sheet_of Longer = refused Longer
-sheet_of (Tallied t) = tallied t
+sheet_of (Err e) = refused (Err e)
+sheet_of (Ok t) = tallied t
 
 -- ---- from the calls' answers: the text that was put, in other words
 
@@ -58,10 +58,10 @@ module _ {l : List ℕ} {at : ℕ} {m : List ℕ} {p : ℕ} where
   pub mean_put : {n k : Mean} → n ≡ k → Put l at (mean_line n) m p → Put l at (mean_line k) m p
   mean_put e x = put_as (ap mean_line e) x
 
-  pub longer_put : {r : Report} → r ≡ Longer → Put l at (refused r) m p → Put l at (sheet_of r) m p
+  pub longer_put : {r : Report} {e : BlockError} → r ≡ Err e → Put l at (refused r) m p → Put l at (sheet_of r) m p
   unfolding sheet_of
   longer_put e x = subst (λ (r : Report). Put l at (refused r) m p → Put l at (sheet_of r) m p) (sym e) (λ x. x) x
 
-  pub tallied_put : {r : Report} {t : Tally} → r ≡ Tallied t → Put l at (tallied t) m p → Put l at (sheet_of r) m p
+  pub tallied_put : {r : Report} {t : Tally} → r ≡ Ok t → Put l at (tallied t) m p → Put l at (sheet_of r) m p
   unfolding sheet_of
   tallied_put {t = t} e x = put_as (sym (ap sheet_of e)) x

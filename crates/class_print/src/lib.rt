@@ -92,7 +92,7 @@ pub fn sheet(out: &mut [u8], at: usize, r: Report) -> usize
     ensures { Put out.old at (sheet_of r) out.new result }
 {
     match r {
-        Report::Longer => refused(out, at, r),
-        Report::Tallied(t) => tallied(out, at, t),
+        Ok(t) => tallied(out, at, t),
+        Err(_) => refused(out, at, r),
     }
 }

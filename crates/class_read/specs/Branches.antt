@@ -1,17 +1,16 @@
--- What a branch of the code says of a definition that goes by the same test, and of a number that is held. Assumes nothing.
+-- What a branch of the code says of a definition that goes by the same test. Assumes nothing.
 use Rattle.std.specs.Prelude.{◌≡◌, refl, Bool, false, not, cond, ◌&&◌, eqb, ltb, length, get_or, set}
-use Rattle.std.proofs.Common.{sym, ap₂, ◌∙◌, div-lt_iff_lt-mul, le-div_iff_mul-le, rules, drop-cons}
+use Rattle.std.proofs.Common.{sym, ap₂, ◌∙◌, rules, drop-cons}
 use Rattle.std.proofs.Math.Path.{ap}
 use Rattle.std.proofs.Math.Bool.{true}
 use mathlib.Core.List.{List, [], ◌∷◌}
-use Prim.Native.Nat.{ℕ, suc, ◌+◌, ◌*◌, ◌-◌, ◌/◌, ◌≤◌, ◌<◌}
+use Prim.Native.Nat.{ℕ, suc, ◌+◌, ◌*◌, ◌-◌, ◌≤◌, ◌<◌}
 use native.Mathlib.Omega.{arith}
 use Rattle.std.proofs.Math.Numerals.{add-one}
 use borrow.Author.Tests.{eq-eqb, ne_eqb, lt-ltb, le-ltb, le-leb, lt-leb, leb-true}
 use Rattle.std.proofs.Math.Dec.{leb}
 use Rattle.std.proofs.Math.ListN.{drop, drop_of_length-le}
-use Rattle.off_items.specs.Numbers.{is_digit, largest}
-use Rattle.off_items.specs.Laws.{at_most_low, at_most_high}
+use Rattle.off_items.specs.Numbers.{is_digit}
 use Rattle.class_read.specs.Totals.{is_letter, held, grown, ends, plus, paired, next_of, read_of, end_of}
 use Rattle.class_read.specs.declared.Reading.{Reading}
 use Rattle.class_read.specs.declared.Fed.{Fed}
@@ -91,24 +90,6 @@ pub ends_from : (c b : ℕ) {o : Bool} → o ≡ ends c b → o ≡ true → 65 
 unfolding ends is_letter
 ends_from c b p q =
     leb-true 65 c (letter_least (leb 65 c) (leb c 90) (ends_letter (leb 65 c && leb c 90) (not (is_digit b)) (sym p ∙ q)))
-
--- ---- products
-
-module _ (a b : ℕ) where
-  pub product_none : b ≡ 0 → 0 ≡ held (a * b)
-  product_none e = let z : a * b ≡ 0 = ap (λ (x : ℕ). a * x) e ∙ omega arith in sym (at_most_low largest (a * b) (omega arith) ∙ z)
-
-  module _ (some : b ≡ 0 → ⊥) where
-    pub product_over : largest / b < a → largest ≡ held (a * b)
-    product_over h =
-        let k : largest < a * b = (div-lt_iff_lt-mul {k = b} {x = largest} {y = a} (omega (arith, some))).0 h in
-        sym (at_most_high largest (a * b) (omega arith))
-
-    pub product_fits : a ≤ largest / b → a * b ≤ largest
-    product_fits h = (le-div_iff_mul-le {k = b} {x = a} {y = largest} (omega (arith, some))).0 h
-
-    pub product_is : a ≤ largest / b → a * b ≡ held (a * b)
-    product_is h = sym (at_most_low largest (a * b) (product_fits h))
 
 -- ---- a number with one more digit
 

@@ -2,25 +2,16 @@
 ghost use Rattle.std.specs.Prelude.{◌≡◌, ◌+◌, ◌*◌};
 ghost use Rattle.class_read.specs.Totals.{held};
 
-use off_items::numbers::LARGEST;
-
+#[tactic(auto, using(off_items::specs::Laws::at_most_low, off_items::specs::Laws::at_most_high))]
 pub fn sum(a: usize, b: usize) -> usize
     ensures { result ≡ held (a + b) }
 {
-    if a > LARGEST - b {
-        return LARGEST;
-    }
-    a + b
+    a.saturating_add(b)
 }
 
+#[tactic(auto, using(off_items::specs::Laws::at_most_low, off_items::specs::Laws::at_most_high))]
 pub fn product(a: usize, b: usize) -> usize
     ensures { result ≡ held (a * b) }
 {
-    if b == 0 {
-        return 0;
-    }
-    if a > LARGEST / b {
-        return LARGEST;
-    }
-    a * b
+    a.saturating_mul(b)
 }

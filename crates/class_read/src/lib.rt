@@ -23,6 +23,7 @@ pub struct Reading {
     pub number: usize,
     pub whole: usize,
     pub totals: [usize; 17],
+    // Totals behind a report of a block that is too long are still read: the flag stands beside no value of its own.
     pub longer: bool,
     pub reports: usize,
 }
@@ -49,7 +50,7 @@ fn is_letter(c: usize) -> bool
 fn digit(b: u8) -> usize
     ensures { result ≡ b - 48 }
 {
-    if b < 48 { 0 } else { (b - 48) as usize }
+    usize::from(b.saturating_sub(48))
 }
 
 fn number(n: usize, b: u8) -> usize
@@ -160,15 +161,16 @@ fn feed(form: &[u8], text: &[u8], r: Reading) -> Fed
     } }
 {
     let mut q = r;
-    let mut i = 0;
-    while i < text.len() {
+    for (i, b) in text.iter().enumerate() {
         if q.at >= form.len() {
             return Fed { end: i, reading: q };
         }
-        q = next(form, q, text[i]);
-        i += 1;
+        q = next(form, q, *b);
     }
-    Fed { end: i, reading: q }
+    Fed {
+        end: text.len(),
+        reading: q,
+    }
 }
 
 // Class reports end to end, from what is known before the text on.

@@ -1,12 +1,12 @@
 -- What a turn of the search for a total that reaches the largest number says. Assumes nothing.
-use Rattle.std.specs.Prelude.{◌≡◌, Bool, true, false, List, ℕ, ◌+◌, ◌≤◌, ◌<◌, length, get_or, drop}
+use Rattle.std.specs.Prelude.{◌≡◌, Bool, true, false, List, ℕ, ◌+◌, ◌≤◌, ◌<◌, length, get_or, drop, Result, Ok}
 use Rattle.std.proofs.Math.Path.{sym}
 use Rattle.std.proofs.Common.{ap, ◌∙◌, add-one, rules, le-leb, drop_of_length-le, drop-cons}
 use Rattle.std.proofs.lemmas.Bool.{lt-leb}
 use Rattle.class_tally.specs.declared.Tally.{Tally}
-use Rattle.class_tally.specs.declared.Report.TheVariants.{Tallied}
+use Rattle.class_tally.specs.Tally.{Report}
 use Rattle.off_items.specs.Numbers.{largest}
-use Rattle.class_sum.specs.declared.Merged.TheVariants.{Sum}
+use Rattle.class_sum.specs.declared.SumError.{SumError}
 use Rattle.class_sum.specs.Merged.{reaches}
 
 module _ (l : List ℕ) (i : ℕ) {w : Bool} (inv : reaches (drop i l) ≡ w) where
@@ -24,5 +24,5 @@ module _ (l : List ℕ) (i : ℕ) {w : Bool} (inv : reaches (drop i l) ≡ w) wh
 
 pub ruleset reaching = (reaches_end, reaches_found, reaches_next, rules)
 
-pub sum_of_tally : {t u : Tally} → t ≡ u → Sum (Tallied t) ≡ Sum (Tallied u)
-sum_of_tally e = ap (λ (t : Tally). Sum (Tallied t)) e
+pub sum_of_tally : {t u : Tally} → t ≡ u → ◌≡◌ {A = Result Report SumError} (Ok (Ok t)) (Ok (Ok u))
+sum_of_tally e = ap (λ (t : Tally). Ok (Ok t)) e

@@ -1,5 +1,5 @@
 -- What a class report's text makes of what is known before it. Assumes nothing.
-use Rattle.std.specs.Prelude.{◌≡◌, Bool, true, ℕ, ◌+◌}
+use Rattle.std.specs.Prelude.{◌≡◌, Bool, true, ℕ, ◌+◌, Err}
 use Rattle.std.proofs.Math.Path.{refl}
 use Rattle.std.proofs.Common.{ap, ◌∙◌}
 use mathlib.Core.List.{List, [], ◌∷◌, ◌++◌, append_assoc}
@@ -9,7 +9,7 @@ use Rattle.off_items.specs.Numbers.{is_digit}
 use Rattle.class_tally.specs.Tally.{mean_of}
 use Rattle.class_tally.specs.declared.Tally.{Tally}
 use Rattle.class_tally.specs.declared.Mean.{Mean}
-use Rattle.class_tally.specs.declared.Report.TheVariants.{Longer}
+use Rattle.class_tally.specs.declared.BlockError.TheVariants.{Longer}
 use Rattle.class_print.specs.Sheet.{counted, verdicts, refused_low, refused_high, mean_line, tallied, refused}
 use Rattle.class_read.specs.declared.Reading.{Reading}
 use Rattle.class_read.specs.Totals.{reports, is_letter, held, number_of, ends, whole_of, counted_of}
@@ -172,7 +172,7 @@ module _ (w : ℕ) (T : List ℕ) (l : Bool) (k : ℕ) where
             ∙ number_then (held m.whole) T2 l k m.divisor 190 refl [] rest;
       }
 
-  pub refused_lead : Leads (known 0 0 w T l k) (refused Longer) (known 0 0 w T true (held (k + 1)))
+  pub refused_lead : Leads (known 0 0 w T l k) (refused (Err Longer)) (known 0 0 w T true (held (k + 1)))
   unfolding reports read_of next_of start_of begins onward met_at first_at more_at number_of is_digit is_letter ends whole_of counted_of finished
       decimal decimal_in
   refused_lead = record { on = λ rest. refl }

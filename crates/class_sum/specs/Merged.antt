@@ -1,12 +1,13 @@
 -- The report of all blocks whose reports were read: the sum of their tallies; refused where one of them was; too large where a sum reaches
 -- the largest number of 64 bits. Assumes nothing.
-use Rattle.std.specs.Prelude.{Bool, true, false, cond, List, [], ◌∷◌, ℕ, eqb, leb, get_or, replicate}
+use Rattle.std.specs.Prelude.{Bool, true, false, cond, List, [], ◌∷◌, ℕ, eqb, leb, get_or, replicate, Result, Ok, Err}
 use Rattle.class_tally.specs.declared.Tally.{Tally}
-use Rattle.class_tally.specs.declared.Report.TheVariants.{Longer, Tallied}
+use Rattle.class_tally.specs.Tally.{Report}
+use Rattle.class_tally.specs.declared.BlockError.TheVariants.{Longer}
 use Rattle.off_items.specs.Numbers.{largest}
 use Rattle.class_read.specs.declared.Reading.{Reading}
-use Rattle.class_sum.specs.declared.Merged.{Merged}
-use Rattle.class_sum.specs.declared.Merged.TheVariants.{Sum, TooLarge, NoReport}
+use Rattle.class_sum.specs.declared.SumError.{SumError}
+use Rattle.class_sum.specs.declared.SumError.TheVariants.{TooLarge, NoReport}
 
 -- before any text
 abbrev pub nothing : Reading
@@ -41,8 +42,8 @@ reaches [] = false
 reaches (n ∷ l) = cond (leb largest n) true (reaches l)
 
 -- a text that ends inside a report, or does not fit the form, is not reports end to end
-unfoldable pub sum_of : Reading → Merged
+unfoldable pub sum_of : Reading → Result Report SumError
 sum_of r =
     cond (eqb r.at 0)
-    (cond r.longer (Sum Longer) (cond (reaches r.totals) TooLarge (Sum (Tallied (tally_in r.totals)))))
-    NoReport
+    (cond r.longer (Ok (Err Longer)) (cond (reaches r.totals) (Err TooLarge) (Ok (Ok (tally_in r.totals)))))
+    (Err NoReport)

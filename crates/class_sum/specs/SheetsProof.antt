@@ -1,5 +1,5 @@
 -- The proofs of `Sheets`. Assumes nothing.
-use Rattle.std.specs.Prelude.{◌≡◌, refl, Bool, true, false, cond, List, [], ◌∷◌, ◌++◌, map, ℕ, ◌+◌, ◌*◌, ◌<◌, leb, length}
+use Rattle.std.specs.Prelude.{◌≡◌, refl, Bool, true, false, cond, List, [], ◌∷◌, ◌++◌, map, ℕ, ◌+◌, ◌*◌, ◌<◌, leb, length, Result, Ok, Err}
 use Rattle.std.proofs.Common.{sym, ap, ap₂, ◌∙◌, subst, append-nil, append_assoc, arith, mul_comm, le-leb, leb-false}
 use Rattle.std.proofs.lemmas.Bool.{false≢true}
 use Rattle.std.proofs.Math.Decide.{dec_lt}
@@ -15,14 +15,15 @@ use Rattle.class_tally.specs.Counting.{report_tallied}
 use Rattle.class_tally.specs.Merging.{plus, tally, Counted}
 use Rattle.class_tally.proofs.MergingProof.{merging}
 use Rattle.class_tally.specs.declared.Tally.{Tally}
-use Rattle.class_tally.specs.declared.Report.{Report}
-use Rattle.class_tally.specs.declared.Report.TheVariants.{Longer, Tallied}
+use Rattle.class_tally.specs.Tally.{Report}
+use Rattle.class_tally.specs.declared.BlockError.TheVariants.{Longer}
 use Rattle.class_print.specs.Sheet.{sheet_of}
 use Rattle.class_read.specs.declared.Reading.{Reading}
 use Rattle.class_read.specs.Totals.{reports, is_letter, held, ends, plus as added, paired, counted_of, next_of, read_of}
 use Rattle.class_read.specs.Leads.{known, held_left, held_sum, held_times}
 use Rattle.class_sum.specs.Merged.{nothing, tally_in, reaches, sum_of}
-use Rattle.class_sum.specs.declared.Merged.TheVariants.{Sum, TooLarge}
+use Rattle.class_sum.specs.declared.SumError.{SumError}
+use Rattle.class_sum.specs.declared.SumError.TheVariants.{TooLarge}
 use Rattle.class_sum.specs.Lines.{after, tallied_lead, refused_lead}
 use Rattle.class_sum.specs.Sheets.{both, all_from, none, sheets, numbers_of, told, Whole, Kept, end_to_end, reports_of, ReadAs, Sheets}
 
@@ -82,41 +83,41 @@ held_same (n ∷ l) h = go (leb largest n) refl h (held_same l)
     go true e z rest = absurd (false≢true (sym z))
     go false e z rest = let k = leb-false largest n e in λ i. at_most_low largest n (omega arith) i ∷ rest z i
 
-sum_told : (w k : ℕ) (t : Tally) → sum_of (known 0 0 w (map held (numbers_of t)) false k) ≡ told (Tallied t)
+sum_told : (w k : ℕ) (t : Tally) → sum_of (known 0 0 w (map held (numbers_of t)) false k) ≡ told (Ok t)
 unfolding sum_of
 sum_told w k t = go (reaches (numbers_of t)) refl
   where
     go : (b : Bool) → reaches (numbers_of t) ≡ b →
-        cond (reaches (map held (numbers_of t))) TooLarge (Sum (Tallied (tally_in (map held (numbers_of t)))))
-        ≡ cond (reaches (numbers_of t)) TooLarge (Sum (Tallied t))
+        ◌≡◌ {A = Result Report SumError} (cond (reaches (map held (numbers_of t))) (Err TooLarge) (Ok (Ok (tally_in (map held (numbers_of t))))))
+        (cond (reaches (numbers_of t)) (Err TooLarge) (Ok (Ok t)))
     go true e = rw (reaches_held (numbers_of t), e)
-    go false e = rw (reaches_held (numbers_of t), e) (ap (λ (l : List ℕ). Sum (Tallied (tally_in l))) (held_same (numbers_of t) e))
+    go false e = rw (reaches_held (numbers_of t), e) (ap (λ (l : List ℕ). Ok (Ok (tally_in l))) (held_same (numbers_of t) e))
 
 -- ---- reports end to end
 
-longer_stays : (l : List Report) → all_from Longer l ≡ Longer
+longer_stays : (l : List Report) → all_from (Err Longer) l ≡ Err Longer
 longer_stays [] = refl
 longer_stays (s ∷ l) = longer_stays l
 
-longer_all : (l : List Report) (w : ℕ) (T : List ℕ) (k : ℕ) → sum_of (read_of reports (known 0 0 w T true k) (sheets l)) ≡ Sum Longer
+longer_all : (l : List Report) (w : ℕ) (T : List ℕ) (k : ℕ) → sum_of (read_of reports (known 0 0 w T true k) (sheets l)) ≡ Ok (Err Longer)
 unfolding sum_of sheet_of read_of
 longer_all [] w T k = refl
-longer_all (Longer ∷ l) w T k = ap sum_of ((refused_lead w T true k).on (sheets l)) ∙ longer_all l w T _
-longer_all (Tallied t ∷ l) w T k = ap sum_of ((tallied_lead w T true k t).on (sheets l)) ∙ longer_all l _ _ _
+longer_all (Err Longer ∷ l) w T k = ap sum_of ((refused_lead w T true k).on (sheets l)) ∙ longer_all l w T _
+longer_all (Ok t ∷ l) w T k = ap sum_of ((tallied_lead w T true k t).on (sheets l)) ∙ longer_all l _ _ _
 
 tallied_all : (l : List Report) (w k : ℕ) (t : Tally) → Each Whole l →
-    sum_of (read_of reports (known 0 0 w (map held (numbers_of t)) false k) (sheets l)) ≡ told (all_from (Tallied t) l)
+    sum_of (read_of reports (known 0 0 w (map held (numbers_of t)) false k) (sheets l)) ≡ told (all_from (Ok t) l)
 unfolding sheet_of read_of
 tallied_all [] w k t h = sum_told w k t
-tallied_all (Longer ∷ l) w k t h =
+tallied_all (Err Longer ∷ l) w k t h =
     ap sum_of ((refused_lead w (map held (numbers_of t)) false k).on (sheets l)) ∙ longer_all l w (map held (numbers_of t)) _
     ∙ sym (ap told (longer_stays l))
-tallied_all (Tallied u ∷ l) w k t h =
+tallied_all (Ok u ∷ l) w k t h =
     ap sum_of ((tallied_lead w (map held (numbers_of t)) false k u).on (sheets l)
     ∙ ap (λ (T : List ℕ). read_of reports (known 0 0 (held (mean_of u).whole) T false (held (k + 1))) (sheets l)) (after_is t u w h.0))
     ∙ tallied_all l (held (mean_of u).whole) (held (k + 1)) (plus t u) h.1
 
-read_back : (l : List Report) → Each Whole l → sum_of (read_of reports nothing (sheets l)) ≡ told (all_from (Tallied none) l)
+read_back : (l : List Report) → Each Whole l → sum_of (read_of reports nothing (sheets l)) ≡ told (all_from (Ok none) l)
 unfolding at_most
 read_back l h = tallied_all l 0 0 none h
 
@@ -130,9 +131,9 @@ number_from_law : (l : List Report) (w : ℕ) (T : List ℕ) (o : Bool) (k n m :
     ReadAs m (read_of reports (known 0 0 w T o k) (sheets l))
 unfolding sheet_of read_of
 number_from_law [] w T o k n m e f = (refl, e ∙ ap held (omega arith))
-number_from_law (Longer ∷ l) w T o k n m e f =
+number_from_law (Err Longer ∷ l) w T o k n m e f =
     rw ((refused_lead w T o k).on (sheets l)) (number_from_law l w T true _ (n + 1) m (one_more n e) (omega arith))
-number_from_law (Tallied t ∷ l) w T o k n m e f =
+number_from_law (Ok t ∷ l) w T o k n m e f =
     rw ((tallied_lead w T o k t).on (sheets l)) (number_from_law l _ _ o _ (n + 1) m (one_more n e) (omega arith))
 
 number : (l : List Report) → ReadAs (length l) (read_of reports nothing (sheets l))
@@ -151,7 +152,7 @@ ended_none = rw (scenes_end [] (omega arith)) tt
 ended_join : (x y : List ℕ) → Ended x → Ended y → Ended (x ++ y)
 ended_join x y h k = rw (parts.joined x y h) (each_append (λ s. whole s ≡ true) (scenes_of x) (scenes_of y) h k)
 
-report_is : (x : List ℕ) → Kept x → Tallied (tally x) ≡ report_of x
+report_is : (x : List ℕ) → Kept x → Ok (tally x) ≡ report_of x
 report_is x k = report_tallied x k.fits refl
 
 counted_each : (l : List (List ℕ)) → Each Kept l → Each Whole (reports_of l)
@@ -159,32 +160,32 @@ counted_each [] h = tt
 counted_each (x ∷ l) h = (subst Whole (report_is x h.0) (merging.counted x), counted_each l h.1)
 
 joined : (x : List ℕ) → Ended x → (l : List (List ℕ)) → Each Kept l →
-    all_from (Tallied (tally x)) (reports_of l) ≡ Tallied (tally (x ++ end_to_end l))
-joined x e [] h = ap (λ (s : List ℕ). Tallied (tally s)) (sym (append-nil x))
+    all_from (Ok (tally x)) (reports_of l) ≡ Ok (tally (x ++ end_to_end l))
+joined x e [] h = ap (λ (s : List ℕ). Ok (tally s)) (sym (append-nil x))
 joined x e (y ∷ l) h =
-    ap (λ (r : Report). all_from (both (Tallied (tally x)) r) (reports_of l)) (sym (report_is y h.0))
-    ∙ ap (λ (t : Tally). all_from (Tallied t) (reports_of l)) (sym (merging.sum x y e))
+    ap (λ (r : Report). all_from (both (Ok (tally x)) r) (reports_of l)) (sym (report_is y h.0))
+    ∙ ap (λ (t : Tally). all_from (Ok t) (reports_of l)) (sym (merging.sum x y e))
     ∙ joined (x ++ y) (ended_join x y e h.0.ended) l h.1
-    ∙ ap (λ (s : List ℕ). Tallied (tally s)) (append_assoc x y (end_to_end l))
+    ∙ ap (λ (s : List ℕ). Ok (tally s)) (append_assoc x y (end_to_end l))
 
-blocks : (l : List (List ℕ)) → Each Kept l → sum_of (read_of reports nothing (sheets (reports_of l))) ≡ told (Tallied (tally (end_to_end l)))
+blocks : (l : List (List ℕ)) → Each Kept l → sum_of (read_of reports nothing (sheets (reports_of l))) ≡ told (Ok (tally (end_to_end l)))
 blocks l h =
     read_back (reports_of l) (counted_each l h)
-    ∙ ap told (ap (λ (t : Tally). all_from (Tallied t) (reports_of l)) (sym tally_none) ∙ joined [] ended_none l h)
+    ∙ ap told (ap (λ (t : Tally). all_from (Ok t) (reports_of l)) (sym tally_none) ∙ joined [] ended_none l h)
 
 -- ---- order and grouping
 
 order : (r s : Report) → both r s ≡ both s r
-order Longer Longer = refl
-order Longer (Tallied u) = refl
-order (Tallied t) Longer = refl
-order (Tallied t) (Tallied u) = ap Tallied (merging.order t u)
+order (Err Longer) (Err Longer) = refl
+order (Err Longer) (Ok u) = refl
+order (Ok t) (Err Longer) = refl
+order (Ok t) (Ok u) = ap Ok (merging.order t u)
 
 split : (r s q : Report) → both (both r s) q ≡ both r (both s q)
-split Longer s q = refl
-split (Tallied t) Longer q = refl
-split (Tallied t) (Tallied u) Longer = refl
-split (Tallied t) (Tallied u) (Tallied v) = ap Tallied (merging.split t u v)
+split (Err Longer) s q = refl
+split (Ok t) (Err Longer) q = refl
+split (Ok t) (Ok u) (Err Longer) = refl
+split (Ok t) (Ok u) (Ok v) = ap Ok (merging.split t u v)
 
 -- ---- a text in pieces
 

@@ -1,17 +1,17 @@
 // The report of all blocks whose reports were read.
 #![tactic(auto)]
 
-ghost use Rattle.std.specs.Prelude.{◌≡◌};
-ghost use Rattle.class_sum.specs.Merged.{nothing, tally_in, reaches, sum_of};
+ghost use Rattle.std.specs.Prelude.{◌≡◌, leb};
+ghost use Rattle.std.specs.List.{list_any};
+ghost use Rattle.class_sum.specs.Merged.{nothing, tally_in, sum_of};
 
 use class_read::Reading;
-use class_tally::{Report, Tally};
+use class_tally::{BlockError, Report, Tally};
 use off_items::numbers::LARGEST;
 
 // A text may end inside a report or not be reports, and a sum may reach the largest number of 64 bits.
-#[derive(Clone, Copy)]
-pub enum Merged {
-    Sum(Report),
+#[derive(Clone, Copy, Debug, PartialEq, Eq)]
+pub enum SumError {
     TooLarge,
     NoReport,
 }
@@ -56,30 +56,23 @@ fn tally_in(totals: &[usize; 17]) -> Tally
 }
 
 fn reaches(totals: &[usize]) -> bool
-    ensures { result ≡ reaches totals.now }
+    ensures { result ≡ list_any (λ n. leb LARGEST n) totals.now }
 {
-    let mut i = 0;
-    while i < totals.len() {
-        if totals[i] >= LARGEST {
-            return true;
-        }
-        i += 1;
-    }
-    false
+    totals.iter().any(|n| *n >= LARGEST)
 }
 
-pub fn sum_of(r: Reading) -> Merged
+pub fn sum_of(r: Reading) -> Result<Report, SumError>
     ensures { result ≡ sum_of r }
 {
     if r.at != 0 {
-        return Merged::NoReport;
+        return Err(SumError::NoReport);
     }
     if r.longer {
-        return Merged::Sum(Report::Longer);
+        return Ok(Err(BlockError::Longer));
     }
     let totals = r.totals;
     if reaches(&totals) {
-        return Merged::TooLarge;
+        return Err(SumError::TooLarge);
     }
-    Merged::Sum(Report::Tallied(tally_in(&totals)))
+    Ok(Ok(tally_in(&totals)))
 }

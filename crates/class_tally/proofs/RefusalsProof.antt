@@ -1,5 +1,5 @@
 -- The proofs of `Refusals`. Assumes nothing.
-use Rattle.std.specs.Prelude.{◌≡◌, refl, List, ℕ, ◌+◌, ◌≤◌}
+use Rattle.std.specs.Prelude.{◌≡◌, refl, List, ℕ, ◌+◌, ◌≤◌, Ok, Err}
 use Rattle.std.proofs.Common.{sym, subst, arith, le-leb}
 use Rattle.scene.specs.Limits.{limits}
 use Rattle.scene.specs.Refusal.{number_of}
@@ -8,8 +8,7 @@ use Rattle.scene.specs.declared.Refusal.{Refusal}
 use Rattle.scene.specs.declared.Refusal.TheVariants.{Opening, Counts, Length, Mark, Coordinate, Weight, Corner}
 use Rattle.scene.specs.declared.Refusal.TheVariants.{Unused, Edge, ListTooShort, NoSuchNumber, NotDistinct, BufferTooShort, FarAllZero}
 use Rattle.judge.specs.Judge.{judged}
-use Rattle.judge.specs.declared.Judged.{Judged}
-use Rattle.judge.specs.declared.Judged.TheVariants.{Accepted, Refused}
+use Rattle.judge.specs.Judge.{Judged}
 use Rattle.rules.specs.Rules.{Between}
 use Rattle.rules.specs.Numbers.{check_order}
 use Rattle.rules.proofs.Parts.{judge_gives}
@@ -46,7 +45,7 @@ line_for NoSuchNumber h = absurd (omega (arith, h.1))
 line_for NotDistinct h = absurd (omega (arith, h.1))
 line_for (BufferTooShort p) h = absurd (omega (arith, h.1))
 
-line_is : (s : List ℕ) (j : Judged) → judged s ≡ j → (mark_of s).line ≡ line_of (or_refuse verdict.Refused j (verdict_in (view_of s)))
+line_is : (s : List ℕ) (j : Judged) → judged s ≡ j → (mark_of s).line ≡ line_of (or_refuse Err j (Ok (verdict_in (view_of s))))
 unfolding mark_of verdict_of
 line_is s j e = rw e
 
@@ -54,6 +53,6 @@ pub refusals : Refusals
 unfolding or_refuse
 refusals =
     record {
-      refused = λ s r e. subst (LineOf (number_of r)) (sym (line_is s (Refused r) e)) (line_for r ((judge_gives limits s).turn r e));
-      accepted = λ s e. ((line_of_law s).0, rw (line_is s Accepted e) (within_words s));
+      refused = λ s r e. subst (LineOf (number_of r)) (sym (line_is s (Err r) e)) (line_for r ((judge_gives limits s).turn r e));
+      accepted = λ s e. ((line_of_law s).0, rw (line_is s (Ok tt) e) (within_words s));
     }

@@ -1,6 +1,6 @@
 -- A tally as it grows: what is counted so far, and what the rest of the block adds, make the whole. Assumes nothing.
 use Rattle.std.proofs.Math.Path.{◌≡◌, ap}
-use Rattle.std.specs.Prelude.{refl, Bool, true, false, cond, ◌||◌, List, [], ◌∷◌, map, ℕ, suc, ◌+◌, ◌*◌, ◌≤◌, ◌<◌, eqb, leb, length, set, replicate, drop}
+use Rattle.std.specs.Prelude.{refl, Bool, true, false, cond, ◌||◌, List, [], ◌∷◌, map, ℕ, suc, ◌+◌, ◌*◌, ◌≤◌, ◌<◌, eqb, leb, length, set, replicate, drop, Ok, Err}
 use Rattle.std.proofs.Common.{sym, ap₂, ◌∙◌, arith, suc-mul, eq-eqb, ne_eqb, leb-true, le-leb, lit<, length-set, length-drop, get_or-set_same, get_or-set_other}
 use Rattle.std.proofs.Math.Decide.{ℕ_discrete}
 use Rattle.std.proofs.lemmas.Bool.{lt-leb}
@@ -11,16 +11,13 @@ use Rattle.scene.specs.Refusal.{number_of}
 use Rattle.scene.specs.declared.Refusal.{Refusal}
 use Rattle.scene.specs.View.{view_of}
 use Rattle.judge.specs.Judge.{judged}
-use Rattle.judge.specs.declared.Judged.{Judged}
-use Rattle.judge.specs.declared.Judged.TheVariants.{Accepted, Refused}
+use Rattle.judge.specs.Judge.{Judged}
 use Rattle.questions.specs.Answers.{or_refuse, verdict_in, counts_in, verdict_of, counted_of}
 use Rattle.survey_scene.specs.Facts.{facts_in, IsSurvey}
 use Rattle.questions.specs.declared.Facts.{Facts}
-use Rattle.questions.specs.declared.Surveyed.{Surveyed}
-use Rattle.questions.specs.declared.Surveyed.TheVariants as surveyed
-use Rattle.questions.specs.declared.Verdict.{Verdict}
+use Rattle.questions.specs.Types.{Surveyed}
+use Rattle.questions.specs.Types.{Concluded}
 use Rattle.questions.specs.declared.Verdict.TheVariants as verdict
-use Rattle.questions.specs.declared.Counted.TheVariants as counted
 use Rattle.class_block.specs.Block.{most_bytes, scene_of, behind, scenes_of}
 use Rattle.class_block.specs.Scenes.{scenes_end, scenes_next, scenes_few, byte_left, end_within, scene_ends, behind_here}
 use Rattle.class_tally.specs.Most.{most_pairs, pairs_most}
@@ -30,7 +27,7 @@ use Rattle.class_tally.specs.Tally.{refused_line, line_of, pairs_in, mark_of, co
 use Rattle.class_tally.specs.Tally.{made_by, made, tally_of, marks_of, report_of}
 use Rattle.class_tally.specs.declared.Mark.{Mark}
 use Rattle.class_tally.specs.declared.Tally.{Tally}
-use Rattle.class_tally.specs.declared.Report.TheVariants.{Longer, Tallied}
+use Rattle.class_tally.specs.declared.BlockError.TheVariants.{Longer}
 
 abbrev pub lines : ℕ
 lines = 15
@@ -69,12 +66,12 @@ refused_line_law n = go _ (leb n 9) refl (lit< tt) (lit< tt)
     go last true e x y = let l = leb-true n 9 e in (omega arith, omega arith)
     go last false e x y = (omega arith, y)
 
-line_within : (v : Verdict) → (1 ≤ line_of v) × (line_of v < lines)
-line_within (verdict.Cross u v f) = (omega arith, omega arith)
-line_within (verdict.AInB p) = (omega arith, omega arith)
-line_within (verdict.BInA p) = (omega arith, omega arith)
-line_within verdict.Apart = (omega arith, omega arith)
-line_within (verdict.Refused r) = refused_line_law (number_of r)
+line_within : (v : Concluded) → (1 ≤ line_of v) × (line_of v < lines)
+line_within (Ok (verdict.Cross u v f)) = (omega arith, omega arith)
+line_within (Ok (verdict.AInB p)) = (omega arith, omega arith)
+line_within (Ok (verdict.BInA p)) = (omega arith, omega arith)
+line_within (Ok verdict.Apart) = (omega arith, omega arith)
+line_within (Err r) = refused_line_law (number_of r)
 
 pub line_of_law : (s : List ℕ) → (1 ≤ (mark_of s).line) × ((mark_of s).line < lines)
 unfolding mark_of
@@ -84,47 +81,47 @@ pub line_some : (s : List ℕ) → 1 ≤ (mark_of s).line
 line_some s = (line_of_law s).0
 
 -- from the kernel's answers
-pub line_refused : {v : Verdict} {r : Refusal} {n k : ℕ} → v ≡ verdict.Refused r → n ≡ number_of r → k ≡ refused_line n → k ≡ line_of v
+pub line_refused : {v : Concluded} {r : Refusal} {n k : ℕ} → v ≡ Err r → n ≡ number_of r → k ≡ refused_line n → k ≡ line_of v
 line_refused e h p = p ∙ ap refused_line h ∙ sym (ap line_of e)
 
 -- ---- one scene, by its survey o
 
 abbrev pub mark_by : Facts → Mark
-mark_by f = record { line = line_of f.verdict; pairs = f.counts.pairs }
+mark_by f = record { line = line_of (Ok f.verdict); pairs = f.counts.pairs }
 
-pub mark_by_law : (f : Facts) {k : ℕ} → k ≡ line_of f.verdict → record { line = k; pairs = f.counts.pairs } ≡ mark_by f
+pub mark_by_law : (f : Facts) {k : ℕ} → k ≡ line_of (Ok f.verdict) → record { line = k; pairs = f.counts.pairs } ≡ mark_by f
 mark_by_law f e = λ i. record { line = e i; pairs = f.counts.pairs }
 
 module _ (s : List ℕ) {d d' : List ℕ} {o : Surveyed} (x : IsSurvey s d d' o) where
-  pub mark_refused : {r : Refusal} {n k : ℕ} → o ≡ surveyed.Refused r → n ≡ number_of r → k ≡ refused_line n →
+  pub mark_refused : {r : Refusal} {n k : ℕ} → o ≡ Err r → n ≡ number_of r → k ≡ refused_line n →
       record { line = k; pairs = 0 } ≡ mark_of s
   unfolding mark_of verdict_of counted_of or_refuse
   mark_refused {r} {k = k} q e h = go (judged s) (sym q ∙ x.answer)
     where
-      go : (j : Judged) → surveyed.Refused r ≡ or_refuse surveyed.Refused j (surveyed.Facts (facts_in (view_of s))) →
+      go : (j : Judged) → Err r ≡ or_refuse Err j (Ok (facts_in (view_of s))) →
           ◌≡◌ {A = Mark} (record { line = k; pairs = 0 })
           (record {
-            line = line_of (or_refuse verdict.Refused j (verdict_in (view_of s)));
-            pairs = pairs_in (or_refuse counted.Refused j (counted.Counts (counts_in (view_of s))));
+            line = line_of (or_refuse Err j (Ok (verdict_in (view_of s))));
+            pairs = pairs_in (or_refuse Err j (Ok (counts_in (view_of s))));
           })
-      go Accepted p = let c : ◌≡◌ {A = ℕ} 0 1 = cc in absurd (omega arith)
-      go (Refused w) p =
+      go (Ok _) p = let c : ◌≡◌ {A = ℕ} 0 1 = cc in absurd (omega arith)
+      go (Err w) p =
           let same : r ≡ w = cc in
           let l : k ≡ refused_line (number_of w) = h ∙ ap refused_line e ∙ ap (λ (r : Refusal). refused_line (number_of r)) same in
           λ i. record { line = l i; pairs = 0 }
 
-  pub mark_told : {f : Facts} {m : Mark} → o ≡ surveyed.Facts f → m ≡ mark_by f → m ≡ mark_of s
+  pub mark_told : {f : Facts} {m : Mark} → o ≡ Ok f → m ≡ mark_by f → m ≡ mark_of s
   unfolding mark_of verdict_of counted_of or_refuse facts_in
   mark_told {f} q e = e ∙ go (judged s) (sym q ∙ x.answer)
     where
-      go : (j : Judged) → surveyed.Facts f ≡ or_refuse surveyed.Refused j (surveyed.Facts (facts_in (view_of s))) →
+      go : (j : Judged) → Ok f ≡ or_refuse Err j (Ok (facts_in (view_of s))) →
           mark_by f
           ≡ record {
-            line = line_of (or_refuse verdict.Refused j (verdict_in (view_of s)));
-            pairs = pairs_in (or_refuse counted.Refused j (counted.Counts (counts_in (view_of s))));
+            line = line_of (or_refuse Err j (Ok (verdict_in (view_of s))));
+            pairs = pairs_in (or_refuse Err j (Ok (counts_in (view_of s))));
           }
-      go Accepted p = let same : f ≡ facts_in (view_of s) = cc in ap mark_by same
-      go (Refused w) p = let c : ◌≡◌ {A = ℕ} 0 1 = cc in absurd (omega arith)
+      go (Ok _) p = let same : f ≡ facts_in (view_of s) = cc in ap mark_by same
+      go (Err w) p = let c : ◌≡◌ {A = ℕ} 0 1 = cc in absurd (omega arith)
 
 -- ---- how large the sums can grow
 
@@ -281,10 +278,10 @@ module _ (block : List ℕ) (at : ℕ) (l : List ℕ) (p : ℕ) (so : Sofar bloc
 -- ---- the report of a block
 
 module _ (block : List ℕ) where
-  pub report_longer : most_bytes < length block → Longer ≡ report_of block
+  pub report_longer : most_bytes < length block → Err Longer ≡ report_of block
   unfolding report_of
   report_longer h = rw (lt-leb (length block) most_bytes h)
 
-  pub report_tallied : {t : Tally} → length block ≤ most_bytes → t ≡ tally_of (marks_of block) → Tallied t ≡ report_of block
+  pub report_tallied : {t : Tally} → length block ≤ most_bytes → t ≡ tally_of (marks_of block) → Ok t ≡ report_of block
   unfolding report_of
   report_tallied h e = rw (le-leb (length block) most_bytes h, e)

@@ -1,14 +1,13 @@
 -- What the tally rests on of the kernel's answers, and is not in its contracts: a scene has no more pierced pairs than its limits allow,
 -- and a refused scene has none. Assumes nothing.
-use Rattle.std.specs.Prelude.{◌≡◌, refl, ◌⊎◌, Bool, true, false, cond, ◌&&◌, List, ℕ, ◌+◌, ◌*◌, ◌≤◌, ltb, leb, length}
+use Rattle.std.specs.Prelude.{◌≡◌, refl, ◌⊎◌, Bool, true, false, cond, ◌&&◌, List, ℕ, ◌+◌, ◌*◌, ◌≤◌, ltb, leb, length, Ok, Err, Some, None}
 use Rattle.std.proofs.Common.{inl, inr, length-append}
 use native.Mathlib.Omega.{arith}
 use Rattle.laws.specs.Runs.{bounded, only_most}
 use Rattle.scene.specs.Limits.{limits}
 use Rattle.scene.specs.Records.{verts_a, verts}
 use Rattle.judge.specs.Judge.{judged}
-use Rattle.judge.specs.declared.Judged.{Judged}
-use Rattle.judge.specs.declared.Judged.TheVariants.{Accepted, Refused}
+use Rattle.judge.specs.Judge.{Judged}
 use Rattle.rules.proofs.Given as given
 use Rattle.scene.specs.Edges.{joined}
 use Rattle.scene.specs.declared.Solid.{Solid}
@@ -16,11 +15,9 @@ use Rattle.pierce.specs.Formula.{pierced}
 use Rattle.questions.specs.Hits.{PierceView, face_hits, edge_hits, pair_hits, pairs_at, vertex_hits, solid_hits, lowest_enclosed}
 use Rattle.scene.specs.View.{view_of, solid_a, solid_b, solid}
 use Rattle.questions.specs.First.{first_of}
-use Rattle.questions.specs.declared.find.Found.{Found}
-use Rattle.questions.specs.declared.find.Found.TheVariants.{Nothing, Pair}
+use Rattle.questions.specs.Types.{Found}
 use Rattle.questions.specs.Answers.{or_refuse, counts_in, counted_of, cross_or, enclosure_in, verdict_in, verdict_of, listing_in, pierce_view}
 use Rattle.questions.specs.declared.Verdict.TheVariants as verdict
-use Rattle.questions.specs.declared.Counted.TheVariants as counted
 use Rattle.class_tally.specs.Tally.{line_of, pairs_in, mark_of}
 
 abbrev pub most_pairs : ℕ
@@ -53,7 +50,7 @@ module _ (s : PierceView) (k : Solid) (hv : k.verts ≤ limits.most_vertices) (h
             (λ i. vertex_most (k.vert0 + 1 + i)),
       )
 
-listing_most : (s : List ℕ) → judged s ≡ Accepted → length (listing_in (view_of s)) ≤ most_pairs
+listing_most : (s : List ℕ) → judged s ≡ Ok tt → length (listing_in (view_of s)) ≤ most_pairs
 unfolding listing_in solid
 listing_most s ok =
     let c = given.counts limits s ok in
@@ -68,12 +65,12 @@ pub pairs_most : (s : List ℕ) → pairs_in (counted_of s) ≤ most_pairs
 unfolding counted_of counts_in or_refuse
 pairs_most s = go (judged s) refl
   where
-    go : (j : Judged) → judged s ≡ j → pairs_in (or_refuse counted.Refused j (counted.Counts (counts_in (view_of s)))) ≤ most_pairs
-    go Accepted e = listing_most s e
-    go (Refused r) e = omega arith
+    go : (j : Judged) → judged s ≡ j → pairs_in (or_refuse Err j (Ok (counts_in (view_of s)))) ≤ most_pairs
+    go (Ok _) e = listing_most s e
+    go (Err r) e = omega arith
 
 -- a scene has no pairs, or its verdict is one of the four words
-pub within_words : (s : List ℕ) → line_of (verdict_in (view_of s)) ≤ 4
+pub within_words : (s : List ℕ) → line_of (Ok (verdict_in (view_of s))) ≤ 4
 unfolding verdict_in enclosure_in solid
 within_words s = go (first_of (listing_in (view_of s))) (leb p (verts_a s)) (leb q (verts s)) p q
   where
@@ -83,17 +80,17 @@ within_words s = go (first_of (listing_in (view_of s))) (leb p (verts_a s)) (leb
     q : ℕ
     q = lowest_enclosed (pierce_view (view_of s)) (solid_b (view_of s))
 
-    go : (f : Found) (a b : Bool) (p q : ℕ) → line_of (cross_or f (cond a (verdict.AInB p) (cond b (verdict.BInA q) verdict.Apart))) ≤ 4
-    go (Pair u v f) a b p q = omega arith
-    go Nothing true b p q = omega arith
-    go Nothing false true p q = omega arith
-    go Nothing false false p q = omega arith
+    go : (f : Found) (a b : Bool) (p q : ℕ) → line_of (Ok (cross_or f (cond a (verdict.AInB p) (cond b (verdict.BInA q) verdict.Apart)))) ≤ 4
+    go (Some (u, v, f)) a b p q = omega arith
+    go None true b p q = omega arith
+    go None false true p q = omega arith
+    go None false false p q = omega arith
 
 pub pairs_or_line : (s : List ℕ) → ((mark_of s).pairs ≡ 0) ⊎ ((mark_of s).line ≤ 4)
 unfolding mark_of counted_of verdict_of or_refuse
 pairs_or_line s = go (judged s)
   where
-    go : (j : Judged) → (pairs_in (or_refuse counted.Refused j (counted.Counts (counts_in (view_of s)))) ≡ 0)
-        ⊎ (line_of (or_refuse verdict.Refused j (verdict_in (view_of s))) ≤ 4)
-    go Accepted = inr (within_words s)
-    go (Refused r) = inl refl
+    go : (j : Judged) → (pairs_in (or_refuse Err j (Ok (counts_in (view_of s)))) ≡ 0)
+        ⊎ (line_of (or_refuse Err j (Ok (verdict_in (view_of s)))) ≤ 4)
+    go (Ok _) = inr (within_words s)
+    go (Err r) = inl refl

@@ -1,10 +1,9 @@
 -- Each scene counts in a line that says what it is: a refused one in the line of its number, so that there is none without a line, and an
 -- accepted one in that of its verdict. The proofs stand in `RefusalsProof`. Assumes nothing.
-use Rattle.std.specs.Prelude.{◌≡◌, cond, List, ℕ, ◌-◌, ◌≤◌, ◌<◌, leb}
+use Rattle.std.specs.Prelude.{◌≡◌, cond, List, ℕ, ◌-◌, ◌≤◌, ◌<◌, leb, Ok, Err}
 use Rattle.scene.specs.Refusal.{number_of}
 use Rattle.scene.specs.declared.Refusal.{Refusal}
 use Rattle.judge.specs.Judge.{judged}
-use Rattle.judge.specs.declared.Judged.TheVariants.{Accepted, Refused}
 use Rattle.class_tally.specs.Tally.{mark_of}
 use Rattle.class_tally.specs.Counting.{lines}
 
@@ -19,5 +18,5 @@ pub record LineOf (n k : ℕ) : Type 0 where
   pub number : number_at k ≡ n
 
 pub record Refusals : Type 0 where
-  pub refused : (s : List ℕ) (r : Refusal) → judged s ≡ Refused r → LineOf (number_of r) (mark_of s).line
-  pub accepted : (s : List ℕ) → judged s ≡ Accepted → (1 ≤ (mark_of s).line) × ((mark_of s).line ≤ 4)
+  pub refused : (s : List ℕ) (r : Refusal) → judged s ≡ Err r → LineOf (number_of r) (mark_of s).line
+  pub accepted : (s : List ℕ) → judged s ≡ Ok tt → (1 ≤ (mark_of s).line) × ((mark_of s).line ≤ 4)

@@ -1,18 +1,17 @@
 -- The class report: how many scenes count in each of its lines, the pierced pairs of all accepted scenes, and their mean. Assumes nothing.
-use Rattle.std.specs.Prelude.{Bool, cond, ◌||◌, List, [], ◌∷◌, map, ℕ, zero, suc, ◌+◌, ◌/◌, ◌%◌, eqb, leb, length}
+use Rattle.std.specs.Prelude.{Bool, cond, ◌||◌, List, [], ◌∷◌, map, ℕ, zero, suc, ◌+◌, ◌/◌, ◌%◌, eqb, leb, length, Result, Ok, Err}
 use Rattle.laws.specs.Range.{more}
 use Rattle.scene.specs.Refusal.{number_of}
 use Rattle.questions.specs.Answers.{verdict_of, counted_of}
-use Rattle.questions.specs.declared.Verdict.{Verdict}
+use Rattle.questions.specs.Types.{Concluded}
 use Rattle.questions.specs.declared.Verdict.TheVariants as verdict
-use Rattle.questions.specs.declared.Counted.{Counted}
-use Rattle.questions.specs.declared.Counted.TheVariants as counted
+use Rattle.questions.specs.Types.{Counted}
 use Rattle.class_block.specs.Block.{most_bytes, scenes_of}
 use Rattle.class_tally.specs.declared.Mark.{Mark}
 use Rattle.class_tally.specs.declared.Tally.{Tally}
 use Rattle.class_tally.specs.declared.Mean.{Mean}
-use Rattle.class_tally.specs.declared.Report.{Report}
-use Rattle.class_tally.specs.declared.Report.TheVariants.{Longer, Tallied}
+use Rattle.class_tally.specs.declared.BlockError.{BlockError}
+use Rattle.class_tally.specs.declared.BlockError.TheVariants.{Longer}
 
 -- ---- the lines, in the order of the report: 0 `scenes`; 1 to 4 the verdict's words; 5 to 13 `refused 1` to `refused 9`; 14 `refused 14`
 
@@ -20,17 +19,17 @@ use Rattle.class_tally.specs.declared.Report.TheVariants.{Longer, Tallied}
 abbrev pub refused_line : ℕ → ℕ
 refused_line n = cond (leb n 9) (n + 4) 14
 
-abbrev pub line_of : Verdict → ℕ
-line_of (verdict.Cross u v f) = 1
-line_of (verdict.AInB p) = 2
-line_of (verdict.BInA p) = 3
-line_of verdict.Apart = 4
-line_of (verdict.Refused r) = refused_line (number_of r)
+abbrev pub line_of : Concluded → ℕ
+line_of (Ok (verdict.Cross u v f)) = 1
+line_of (Ok (verdict.AInB p)) = 2
+line_of (Ok (verdict.BInA p)) = 3
+line_of (Ok verdict.Apart) = 4
+line_of (Err r) = refused_line (number_of r)
 
 -- a refused scene has no pairs
 abbrev pub pairs_in : Counted → ℕ
-pairs_in (counted.Refused r) = 0
-pairs_in (counted.Counts c) = c.pairs
+pairs_in (Err r) = 0
+pairs_in (Ok c) = c.pairs
 
 unfoldable pub mark_of : List ℕ → Mark
 mark_of s = record { line = line_of (verdict_of s); pairs = pairs_in (counted_of s) }
@@ -82,13 +81,16 @@ marks_of block = map mark_of (scenes_of block)
 
 -- ---- the report of a block; 23 comes before all others
 
+abbrev pub Report : Type 0
+Report = Result Tally BlockError
+
 unfoldable pub report_of : List ℕ → Report
-report_of block = cond (leb (length block) most_bytes) (Tallied (tally_of (marks_of block))) Longer
+report_of block = cond (leb (length block) most_bytes) (Ok (tally_of (marks_of block))) (Err Longer)
 
 -- its refusal's number and place, both 0 where there is none
 abbrev pub number_in : Report → ℕ
-number_in Longer = 23
-number_in (Tallied t) = 0
+number_in (Err Longer) = 23
+number_in (Ok t) = 0
 
 abbrev pub place_in : Report → ℕ
 place_in r = 0

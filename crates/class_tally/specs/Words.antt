@@ -1,5 +1,5 @@
 -- The numbers of a report, and that those of a block fit the code's 64 bits. Assumes nothing.
-use Rattle.std.specs.Prelude.{◌≡◌, refl, Bool, true, false, cond, List, [], ◌∷◌, ℕ, ◌≤◌, ◌<◌, ◌^◌, leb, length}
+use Rattle.std.specs.Prelude.{◌≡◌, refl, Bool, true, false, cond, List, [], ◌∷◌, ℕ, ◌≤◌, ◌<◌, ◌^◌, leb, length, Ok, Err}
 use Rattle.std.proofs.Common.{arith, leb-true}
 use Rattle.laws.specs.Lists.{Each}
 use Rattle.class_block.specs.Block.{most_bytes, scenes_of}
@@ -7,8 +7,8 @@ use Rattle.class_block.specs.Scenes.{scenes_few}
 use Rattle.class_tally.specs.Tally.{in_line, tally_of, marks_of, report_of}
 use Rattle.class_tally.specs.Counting.{in_line_most, pairs_sum_most, marks_few}
 use Rattle.class_tally.specs.declared.Tally.{Tally}
-use Rattle.class_tally.specs.declared.Report.{Report}
-use Rattle.class_tally.specs.declared.Report.TheVariants.{Longer, Tallied}
+use Rattle.class_tally.specs.Tally.{Report}
+use Rattle.class_tally.specs.declared.BlockError.TheVariants.{Longer}
 
 abbrev pub verdict_numbers : Tally → List ℕ
 verdict_numbers t = t.scenes ∷ t.cross ∷ t.a_in_b ∷ t.b_in_a ∷ t.apart ∷ []
@@ -30,8 +30,8 @@ pub record TallyWords (t : Tally) : Type 0 where
   pub pairs : t.pairs < 2 ^ 64
 
 abbrev pub ReportWords : Report → Type 0
-ReportWords Longer = Unit {0}
-ReportWords (Tallied t) = TallyWords t
+ReportWords (Err Longer) = Unit {0}
+ReportWords (Ok t) = TallyWords t
 
 module _ (block : List ℕ) (h : length block ≤ most_bytes) where
   line : (k : ℕ) → in_line k (marks_of block) ≤ most_bytes
@@ -55,6 +55,6 @@ pub report_words : (block : List ℕ) → ReportWords (report_of block)
 unfolding report_of
 report_words block = go (leb (length block) most_bytes) refl
   where
-    go : (b : Bool) → leb (length block) most_bytes ≡ b → ReportWords (cond b (Tallied (tally_of (marks_of block))) Longer)
+    go : (b : Bool) → leb (length block) most_bytes ≡ b → ReportWords (cond b (Ok (tally_of (marks_of block))) (Err Longer))
     go true e = tally_words block (leb-true (length block) most_bytes e)
     go false e = tt

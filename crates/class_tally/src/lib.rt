@@ -37,7 +37,7 @@ impl Tally {
     pub const LINES: usize = 15;
 }
 
-// One scene: the line of the report that it counts in, and its pierced pairs.
+// One scene: the line of the report that it counts in, an index (`Refusals` says which), and its pierced pairs.
 #[derive(Clone, Copy)]
 pub struct Mark {
     pub line: usize,
@@ -52,20 +52,22 @@ pub struct Mean {
     pub divisor: usize,
 }
 
-// A block that is longer than it may be is refused with 23.
-#[derive(Clone, Copy)]
-pub enum Report {
+// Why a block has no tally: it is longer than it may be, and refused with 23.
+#[derive(Clone, Copy, Debug, PartialEq, Eq)]
+pub enum BlockError {
     Longer,
-    Tallied(Tally),
 }
+
+// What a block's scenes amount to.
+pub type Report = Result<Tally, BlockError>;
 
 pub fn report_of(block: &[u8]) -> Report
     ensures { result ≡ report_of block.now }
 {
     if block.len() > Tally::MOST_BYTES {
-        return Report::Longer;
+        return Err(BlockError::Longer);
     }
-    Report::Tallied(marks::tally(block))
+    Ok(marks::tally(block))
 }
 
 // The number of the report's refusal, 0 where there is none, and its place.
@@ -73,8 +75,8 @@ pub fn number(r: Report) -> usize
     ensures { result ≡ number_in r }
 {
     match r {
-        Report::Longer => 23,
-        Report::Tallied(_) => 0,
+        Ok(_) => 0,
+        Err(BlockError::Longer) => 23,
     }
 }
 
@@ -82,12 +84,12 @@ pub fn place(r: Report) -> usize
     ensures { result ≡ place_in r }
 {
     match r {
-        Report::Longer => 0,
-        Report::Tallied(_) => 0,
+        Ok(_) => 0,
+        Err(BlockError::Longer) => 0,
     }
 }
 
-// Three zeros where no scene was accepted.
+// Three zeros where no scene was accepted, as the line is printed; so `Merging` says the divisor of every tally.
 pub fn mean_of(t: Tally) -> Mean
     ensures { result ≡ mean_of t }
 {

@@ -10,7 +10,8 @@ use crate::{Mark, Tally};
 use class_block::read_scene;
 use kernel::facts::survey;
 use pierce_engine::Engine;
-use questions::{Facts, Surveyed, Verdict};
+use questions::{Facts, Verdict};
+use scene::Numbered;
 
 pub type Lines = [usize; Tally::LINES];
 
@@ -21,14 +22,13 @@ fn refused_line(n: usize) -> usize
 }
 
 fn line_of(v: Verdict) -> usize
-    ensures { result ≡ line_of v }
+    ensures { result ≡ line_of (Ok v) }
 {
     match v {
         Verdict::Cross(_, _, _) => 1,
         Verdict::AInB(_) => 2,
         Verdict::BInA(_) => 3,
         Verdict::Apart => 4,
-        Verdict::Refused(r) => refused_line(scene::number(r)),
     }
 }
 
@@ -51,11 +51,11 @@ pub fn mark_of(s: &[u8]) -> Mark
     let mut none = [0u16; 1];
     let a = survey(Engine::Plain, s, &mut none);
     match a {
-        Surveyed::Refused(r) => Mark {
-            line: refused_line(scene::number(r)),
+        Err(r) => Mark {
+            line: refused_line(r.number()),
             pairs: 0,
         },
-        Surveyed::Facts(f) => mark_by(f),
+        Ok(f) => mark_by(f),
     }
 }
 
@@ -108,6 +108,7 @@ pub fn tally(block: &[u8]) -> Tally
     let mut lines: Lines = [0; Tally::LINES];
     let mut pairs = 0;
     let mut at = 0;
+    // No range: a step is as long as the scene there.
     while at < block.len() {
         let s = read_scene(block, at);
         let m = mark_of(s);

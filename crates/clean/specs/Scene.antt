@@ -1,5 +1,5 @@
 -- An accepted scene, decoded: its rows are within the limits, and its points no more than there may be. Assumes nothing.
-use Rattle.std.specs.Prelude.{◌≡◌, List, ℕ, ◌+◌, ◌≤◌}
+use Rattle.std.specs.Prelude.{◌≡◌, List, ℕ, ◌+◌, ◌≤◌, Ok}
 use Rattle.std.proofs.Common.{arith}
 use Rattle.scene.specs.Limits.{limits, most_points}
 use Rattle.scene.specs.Records.{verts}
@@ -7,10 +7,9 @@ use Rattle.scene.specs.Tables.{tables_of, row}
 use Rattle.scene.specs.Arrays.{AllWithin}
 use Rattle.scene.specs.declared.Row.{Row}
 use Rattle.judge.specs.Judge.{judged}
-use Rattle.judge.specs.declared.Judged.TheVariants.{Accepted}
 use Rattle.rules.proofs.Given.{counts, rows_within}
 
-module _ (s : List ℕ) (ok : judged s ≡ Accepted) where
+module _ (s : List ℕ) (ok : judged s ≡ Ok tt) where
   pub rows_fit : verts s + 1 ≤ most_points limits
   rows_fit = let c = counts limits s ok in omega (arith, c.vertices_a_law, c.vertices_b_law)
 

@@ -1,14 +1,13 @@
 // Whether a scene is clean: no four different points of it lie in one plane.
 #![tactic(auto)]
 
-ghost use Rattle.std.specs.Prelude.{◌≡◌, ◌+◌, ◌≤◌};
+ghost use Rattle.std.specs.Prelude.{◌≡◌, ◌+◌, ◌≤◌, Ok};
 ghost use Rattle.laws.specs.Range.{any_of};
 ghost use Rattle.scene.specs.Limits.{limits, most_points};
 ghost use Rattle.scene.specs.Records.{verts};
 ghost use Rattle.scene.specs.Tables.{tables_of, row};
 ghost use Rattle.scene.specs.Arrays.{row_in, AllWithin};
 ghost use Rattle.judge.specs.Judge.{judged};
-ghost use Rattle.judge.specs.declared.Judged.TheVariants.{Accepted};
 ghost use Rattle.clean.specs.Clean.{in_plane, flat_with1, flat_with2, flat_with3, has_flat};
 ghost use Rattle.clean.specs.Sizes.{most_coefficient, RowSmall};
 ghost use Rattle.clean.specs.Answers.{clean_of};
@@ -16,38 +15,24 @@ ghost use Rattle.clean.specs.Answers.{clean_of};
 pub mod planes;
 
 use crate::planes::{dot, plane};
-use judge::Judged;
 use scene::decode::row_in;
-use scene::read::byte;
-use scene::{Refusal, Row, Rows, Scene, decode};
+use scene::{Refusal, Row, Rows, Scene, decode, offsets};
 
-#[derive(Clone, Copy)]
-pub enum Answer {
-    Refused(Refusal),
-    Yes,
-    No,
-}
-
-pub fn clean(s: &[u8]) -> Answer
+pub fn clean(s: &[u8]) -> Result<bool, Refusal>
     ensures { result ≡ clean_of s.now }
 {
-    if let Judged::Refused(r) = judge::judge(s) {
-        return Answer::Refused(r);
-    }
-    if flat_scene(s) {
-        return Answer::No;
-    }
-    Answer::Yes
+    judge::judge(s)?;
+    Ok(!flat_scene(s))
 }
 
 // Of an accepted scene.
 fn flat_scene(s: &[u8]) -> bool
-    requires { judged s.now ≡ Accepted }
+    requires { judged s.now ≡ Ok tt }
     ensures { result ≡ has_flat (verts s.now + 1) (row (tables_of s.now)) }
 {
     let mut rows: Rows = [0; Scene::ROWS];
     decode::rows(s, &mut rows);
-    has_flat(&rows, byte(s, 2) + byte(s, 4) + 1)
+    has_flat(&rows, offsets::vertices(s) + 1)
 }
 
 // Four points, each above the one before it: the lowest, the next, the one after that, and the last.
@@ -55,45 +40,21 @@ fn has_flat(rows: &Rows, n: usize) -> bool
     requires { AllWithin limits (row_in rows.now) × (n ≤ most_points limits) }
     ensures { result ≡ has_flat n (row_in rows.now) }
 {
-    let e = n + 1;
-    let mut a: usize = 1;
-    while a < e {
-        if flat_with1(rows, n, a) {
-            return true;
-        }
-        a += 1;
-    }
-    false
+    (1..n + 1).any(|a| flat_with1(rows, n, a))
 }
 
 fn flat_with1(rows: &Rows, n: usize, a: usize) -> bool
     requires { AllWithin limits (row_in rows.now) × (n ≤ most_points limits) × (a ≤ n) }
     ensures { result ≡ flat_with1 n (row_in rows.now) a }
 {
-    let e = n + 1;
-    let mut b = a + 1;
-    while b < e {
-        if flat_with2(rows, n, a, b) {
-            return true;
-        }
-        b += 1;
-    }
-    false
+    (a + 1..n + 1).any(|b| flat_with2(rows, n, a, b))
 }
 
 fn flat_with2(rows: &Rows, n: usize, a: usize, b: usize) -> bool
     requires { AllWithin limits (row_in rows.now) × (n ≤ most_points limits) × (a ≤ n) × (b ≤ n) }
     ensures { result ≡ flat_with2 n (row_in rows.now) a b }
 {
-    let e = n + 1;
-    let mut c = b + 1;
-    while c < e {
-        if flat_with3(rows, n, a, b, c) {
-            return true;
-        }
-        c += 1;
-    }
-    false
+    (b + 1..n + 1).any(|c| flat_with3(rows, n, a, b, c))
 }
 
 // The plane of three points is formed once.
@@ -110,14 +71,7 @@ fn meets(rows: &Rows, p: Row, from: usize, e: usize) -> bool
     requires { AllWithin limits (row_in rows.now) × RowSmall most_coefficient p × (e ≤ most_points limits + 1) }
     ensures { result ≡ any_of (in_plane (row_in rows.now) p) from e }
 {
-    let mut d = from;
-    while d < e {
-        if in_plane(rows, p, d) {
-            return true;
-        }
-        d += 1;
-    }
-    false
+    (from..e).any(|d| in_plane(rows, p, d))
 }
 
 fn in_plane(rows: &Rows, p: Row, d: usize) -> bool

@@ -296,6 +296,7 @@ pub fn read(file: &mut impl Read, buf: &mut [u8]) -> Input
     let mut at = 0;
     let mut whole = true;
     let mut error = None;
+    // No range: a step is as long as what one read gave.
     while at < buf.len() {
         let r = read_some(file, &mut buf[at..]);
         whole = r.whole;

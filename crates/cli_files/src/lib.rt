@@ -2,7 +2,7 @@
 // other, each read whole; what can't be read is said.
 #![tactic(auto)]
 
-ghost use Rattle.std.specs.Prelude.{◌≤◌};
+ghost use Rattle.std.specs.Prelude.{◌≤◌, IfSome};
 ghost use Rattle.cli.specs.Counts.{IsPrefixLen};
 
 use check::same;
@@ -35,12 +35,12 @@ pub struct Walk {
     pub due: usize,
 }
 
-// The next name and its file's bytes: how many stand in the lent buffers, and whether the file was read whole.
+// The next name, none where there is no more, and its file's bytes: how many stand in the lent buffers, and whether the file was read
+// whole.
 #[derive(Drop)]
 pub struct File {
     pub walk: Walk,
-    pub found: bool,
-    pub name: usize,
+    pub name: Option<usize>,
     pub whole: bool,
     pub count: usize,
 }
@@ -189,14 +189,13 @@ fn counted(w: Walk) -> Walk {
 
 // A word that names a file; no name is longer than the buffer.
 fn next_named(rt: &HostRuntime, program: &[u8], w: Walk, name: &mut [u8]) -> list::Next
-    ensures { IsPrefixLen result.count name.new }
+    ensures { IfSome result.name (λ n. IsPrefixLen n name.new) }
 {
     let at = w.at;
     if at >= w.end {
         return list::Next {
             walk: w,
-            found: false,
-            count: 0,
+            name: None,
         };
     }
     let mut v = counted(w);
@@ -206,14 +205,12 @@ fn next_named(rt: &HostRuntime, program: &[u8], w: Walk, name: &mut [u8]) -> lis
         v.failed = true;
         return list::Next {
             walk: v,
-            found: false,
-            count: 0,
+            name: None,
         };
     };
     list::Next {
         walk: v,
-        found: true,
-        count: n,
+        name: Some(n),
     }
 }
 
@@ -224,7 +221,7 @@ fn next_name(
     piece: &mut [u8],
     name: &mut [u8],
 ) -> list::Next
-    ensures { IsPrefixLen result.count name.new }
+    ensures { IfSome result.name (λ n. IsPrefixLen n name.new) }
 {
     let mut v = w;
     if let Some(list) = v.list.take() {
@@ -284,21 +281,19 @@ pub fn step(
     name: &mut [u8],
     buf: &mut [u8],
 ) -> File
-    ensures prefix_len { IsPrefixLen result.name name.new }
+    ensures prefix_len { IfSome result.name (λ n. IsPrefixLen n name.new) }
     ensures prefix_len_2 { IsPrefixLen result.count buf.new }
 {
     let next = next_name(rt, program, w, piece, name);
     let mut v = next.walk;
-    let n = next.count;
-    if !next.found {
+    let Some(n) = next.name else {
         return File {
             walk: v,
-            found: false,
-            name: n,
+            name: None,
             whole: false,
             count: 0,
         };
-    }
+    };
     let r = read_named(rt, program, &v, &name[..n], buf);
     let k = r.count;
     if is_input(&v, &name[..n]) {
@@ -306,8 +301,7 @@ pub fn step(
     }
     File {
         walk: progress::told(rt, v),
-        found: true,
-        name: n,
+        name: Some(n),
         whole: r.whole,
         count: k,
     }

@@ -1,4 +1,5 @@
 // The names of a list, a line each. A last line without its newline counts; an empty line is refused.
+ghost use Rattle.std.specs.Prelude.{IfSome};
 ghost use Rattle.cli.specs.Counts.{IsPrefixLen};
 
 use crate::Walk;
@@ -7,12 +8,11 @@ use print::{next_number, next_word, word};
 use std::io;
 use std::io::Read;
 
-// The next name: how many bytes of it stand in the lent buffer.
+// The next name: how many bytes of it stand in the lent buffer; none where there is no more.
 #[derive(Drop)]
 pub struct Next {
     pub walk: Walk,
-    pub found: bool,
-    pub count: usize,
+    pub name: Option<usize>,
 }
 
 // The bytes of a piece of the list that are not read yet, and why there are no more where the list can't be read.
@@ -21,13 +21,6 @@ struct Left {
     at: usize,
     end: usize,
     error: Option<io::Error>,
-}
-
-#[derive(Clone, Copy)]
-struct Byte {
-    left: Left,
-    some: bool,
-    byte: u8,
 }
 
 // A line of so many bytes, with its newline, or the list has ended behind it.
@@ -59,48 +52,26 @@ fn refill(list: &mut Source, piece: &mut [u8]) -> Left {
     }
 }
 
-fn taken(left: Left, piece: &[u8]) -> Byte {
+// The next byte of the piece, and what is left behind it.
+fn taken(left: Left, piece: &[u8]) -> (Left, Option<u8>) {
     let at = left.at;
     if at < left.end {
         if at < piece.len() {
             let mut next = left;
             next.at = at + 1;
-            return Byte {
-                left: next,
-                some: true,
-                byte: piece[at],
-            };
+            return (next, Some(piece[at]));
         }
     }
-    Byte {
-        left,
-        some: false,
-        byte: 0,
-    }
+    (left, None)
 }
 
-fn next_byte(list: &mut Source, left: Left, piece: &mut [u8]) -> Byte {
-    let b = taken(left, piece);
-    if b.some {
-        return b;
+fn next_byte(list: &mut Source, left: Left, piece: &mut [u8]) -> (Left, Option<u8>) {
+    let (after, byte) = taken(left, piece);
+    if byte.is_some() {
+        return (after, byte);
     }
     let next = refill(list, piece);
     taken(next, piece)
-}
-
-fn is_newline(b: Byte) -> bool {
-    if b.some {
-        return b.byte == b'\n';
-    }
-    false
-}
-
-// Nothing, or a newline: the line has no more.
-fn is_end(b: Byte) -> bool {
-    if b.some {
-        return b.byte == b'\n';
-    }
-    true
 }
 
 // As much of the line as there is room for.
@@ -108,23 +79,24 @@ fn read_line(list: &mut Source, first: Left, piece: &mut [u8], name: &mut [u8]) 
     ensures { IsPrefixLen result.count name.new }
 {
     let mut left = first;
-    let mut n = 0;
-    let mut newline = false;
-    while n < name.len() {
-        let b = next_byte(list, left, piece);
-        let next = b.left;
-        left = next;
-        newline = is_newline(b);
-        if is_end(b) {
-            break;
+    for (count, place) in name.iter_mut().enumerate() {
+        let (after, byte) = next_byte(list, left, piece);
+        left = after;
+        match byte {
+            None | Some(b'\n') => {
+                return Line {
+                    left,
+                    count,
+                    newline: byte.is_some(),
+                };
+            }
+            Some(b) => *place = b,
         }
-        name[n] = b.byte;
-        n += 1;
     }
     Line {
         left,
-        count: n,
-        newline,
+        count: name.len(),
+        newline: false,
     }
 }
 
@@ -172,7 +144,7 @@ pub fn next_line(
     piece: &mut [u8],
     name: &mut [u8],
 ) -> Next
-    ensures { IsPrefixLen result.count name.new }
+    ensures { IfSome result.name (λ n. IsPrefixLen n name.new) }
 {
     let mut source = list;
     let line = read_line(&mut source, unread(w.at, w.end), piece, name);
@@ -184,10 +156,9 @@ pub fn next_line(
     v.end = left.end;
     v.failed = left.error.is_some();
     let read = line_read(rt, program, v, line, n >= name.len());
-    let found = if read.failed { false } else { n > 0 };
+    let found = if read.failed || n == 0 { None } else { Some(n) };
     Next {
         walk: read,
-        found,
-        count: n,
+        name: found,
     }
 }

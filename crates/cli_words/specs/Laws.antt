@@ -1,6 +1,6 @@
 -- The laws of words as numbers: what the machine forms of a sign and a size, in the form in which a call's answer arrives; and that a
 -- number is read back from its decimal. Assumes nothing.
-use Rattle.std.specs.Prelude.{ℕ, zero, suc, ◌+◌, ◌*◌, ◌-◌, ◌<◌, ◌≤◌, ◌^◌, ◌≡◌, refl, Bool, false, not, List, [], ◌∷◌, ℤ, pos, negsuc, nat_abs, ◌-ℤ◌, length}
+use Rattle.std.specs.Prelude.{ℕ, zero, suc, ◌+◌, ◌*◌, ◌-◌, ◌<◌, ◌≤◌, ◌^◌, ◌≡◌, refl, Bool, false, not, List, [], ◌∷◌, ℤ, pos, negsuc, nat_abs, ◌-ℤ◌, Some, None, length}
 use Rattle.std.proofs.Common.{sym, ◌∙◌, arith, to_z, of_z, SFits}
 use Rattle.std.proofs.Math.Path.{ap, ap₂}
 use Rattle.std.proofs.Math.Bool.{true}
@@ -16,7 +16,6 @@ use Rattle.print.specs.Decimal.{IsDigit, number_from, decimal_digits, decimal_so
 use Rattle.off_items.specs.Numbers.{is_digit, digits, value, minus_at, body_of, is_whole, size_of, made, largest, at_most}
 use Rattle.off_items.specs.Laws.{at_most_low, at_most_high}
 use Rattle.cli_words.specs.Word.{most, is_number, number_of}
-use Rattle.cli_words.specs.declared.Word.TheVariants.{Number, None}
 
 -- ---- a sign and a size, in the machine
 
@@ -56,11 +55,11 @@ module _ (w : List ℕ) {o : Bool} (p : o ≡ is_number w) where
   no_number q = rw (sym p ∙ not-true o q)
 
   pub told_number : {b : Bool} {n m : ℕ} {z : ℤ} → not o ≡ false → b ≡ minus_at true w 0 → n ≡ at_most largest (size_of true w 0 (length w)) →
-      m ≡ at_most most n → z ≡ made b m → Number z ≡ number_of w
+      m ≡ at_most most n → z ≡ made b m → Some z ≡ number_of w
   unfolding number_of
   told_number {z} q pb pn pm pz =
       rw (sym p ∙ not-false o q)
-      (ap Number (pz ∙ ap₂ made pb (pm ∙ ap (at_most most) pn ∙ at_most_twice most largest (size_of true w 0 (length w)) (omega arith))))
+      (ap Some (pz ∙ ap₂ made pb (pm ∙ ap (at_most most) pn ∙ at_most_twice most largest (size_of true w 0 (length w)) (omega arith))))
 
 -- ---- reading back
 
@@ -74,14 +73,14 @@ unfolding digits is_digit
 all_digits [] h = refl
 all_digits (c ∷ t) h = rw (le-leb 48 c h.0.least, le-leb c 57 h.0.most, all_digits t h.1)
 
-plain_read : (t : List ℕ) → Each IsDigit t → 0 < length t → number_of t ≡ Number (pos (at_most most (value 0 t)))
+plain_read : (t : List ℕ) → Each IsDigit t → 0 < length t → number_of t ≡ Some (pos (at_most most (value 0 t)))
 unfolding number_of is_whole size_of body_of minus_at
 plain_read [] h k = absurd (omega arith)
 plain_read (c ∷ t) h k =
     let l : 48 ≤ c = h.0.least in
     rw (ne_eqb c 45 (λ e. omega arith), take-length t, all_digits (c ∷ t) h, lt-ltb 0 (suc (length t)) k)
 
-minus_read : (t : List ℕ) → Each IsDigit t → 0 < length t → number_of (45 ∷ t) ≡ Number (made true (at_most most (value 0 t)))
+minus_read : (t : List ℕ) → Each IsDigit t → 0 < length t → number_of (45 ∷ t) ≡ Some (made true (at_most most (value 0 t)))
 unfolding number_of is_whole size_of body_of minus_at
 minus_read t h k = rw (take-length t, lt-ltb 1 (suc (length t)) (omega arith), all_digits t h)
 
@@ -89,9 +88,9 @@ decimal_value : (n : ℕ) → n ≤ most → at_most most (value 0 (decimal n)) 
 decimal_value n h = ap (at_most most) (value_from 0 (decimal n) ∙ number_back n) ∙ at_most_low most n h
 
 -- a number within the bound is found again in its decimal
-pub number_read : (z : ℤ) → nat_abs z ≤ most → number_of (signed_decimal z) ≡ Number z
+pub number_read : (z : ℤ) → nat_abs z ≤ most → number_of (signed_decimal z) ≡ Some z
 unfolding signed_decimal
-number_read (pos n) h = plain_read (decimal n) (decimal_digits n) (decimal_some n) ∙ ap (λ (k : ℕ). Number (pos k)) (decimal_value n h)
+number_read (pos n) h = plain_read (decimal n) (decimal_digits n) (decimal_some n) ∙ ap (λ (k : ℕ). Some (pos k)) (decimal_value n h)
 number_read (negsuc n) h =
     minus_read (decimal (suc n)) (decimal_digits (suc n)) (decimal_some (suc n))
-    ∙ ap (λ (k : ℕ). Number (made true k)) (decimal_value (suc n) h)
+    ∙ ap (λ (k : ℕ). Some (made true k)) (decimal_value (suc n) h)

@@ -1,8 +1,6 @@
 -- A word as a signed whole number: digits, any number of them, and a minus sign before them or not. Assumes nothing.
-use Rattle.std.specs.Prelude.{ℕ, Bool, true, cond, List, ℤ, length}
+use Rattle.std.specs.Prelude.{ℕ, Bool, true, cond, List, ℤ, Option, Some, None, length}
 use Rattle.off_items.specs.Numbers.{minus_at, is_whole, size_of, made, at_most}
-use Rattle.cli_words.specs.declared.Word.{Word}
-use Rattle.cli_words.specs.declared.Word.TheVariants.{Number, None}
 
 -- what is larger in size is told as this
 abbrev pub most : ℕ
@@ -14,5 +12,5 @@ is_number w = is_whole true w 0 (length w)
 abbrev pub number_in : List ℕ → ℤ
 number_in w = made (minus_at true w 0) (at_most most (size_of true w 0 (length w)))
 
-unfoldable pub number_of : List ℕ → Word
-number_of w = cond (is_number w) (Number (number_in w)) None
+unfoldable pub number_of : List ℕ → Option ℤ
+number_of w = cond (is_number w) (Some (number_in w)) None

@@ -9,24 +9,17 @@ use off_items::numbers::{is_whole, signed_number};
 use std::env::FillError;
 use std::rt::Env;
 
-// A word's number. One that is larger in size than MOST is told as MOST, which is outside every limit.
-#[derive(Clone, Copy)]
-pub enum Word {
-    Number(i64),
-    None,
-}
-
+// A number that is larger in size is told as this, which is outside every limit.
 const MOST: usize = 1000000000000000000;
 
+#[tactic(auto, using(off_items::specs::Laws::at_most_low, off_items::specs::Laws::at_most_high))]
 fn capped(n: usize) -> usize
     ensures { (result ≡ at_most most n) × (result ≤ most) }
 {
-    if n > MOST {
-        return MOST;
-    }
-    n
+    n.min(MOST)
 }
 
+#[tactic(auto, using(crate::specs::Laws::negated_fits, crate::specs::Laws::below, crate::specs::Laws::above))]
 fn signed(minus: bool, n: usize) -> i64
     requires { n ≤ most }
     ensures { result ≡ made minus n }
@@ -38,31 +31,30 @@ fn signed(minus: bool, n: usize) -> i64
 }
 
 // The number that the bytes write: digits, and a minus sign before them or not.
-pub fn number(w: &[u8]) -> Word
+#[tactic(auto, using(crate::specs::Laws::no_number, crate::specs::Laws::told_number))]
+pub fn number(w: &[u8]) -> Option<i64>
     ensures { result ≡ number_of w.now }
 {
     if !is_whole(w, 0, w.len(), true) {
-        return Word::None;
+        return None;
     }
     let n = signed_number(w, 0, w.len());
-    Word::Number(signed(n.minus, capped(n.size)))
+    Some(signed(n.minus, capped(n.size)))
 }
 
 // A word for which 32 bytes are too few, up to the longest that the system passes on.
-fn long_number_at(rt: &HostRuntime, i: usize) -> Word {
+fn long_number_at(rt: &HostRuntime, i: usize) -> Option<i64> {
     let mut w = [0u8; 131072];
-    match rt.arg(i, &mut w) {
-        Ok(n) => number(&w[..n]),
-        Err(_) => Word::None,
-    }
+    let n = rt.arg(i, &mut w).ok()?;
+    number(&w[..n])
 }
 
 // Word i of the command line, where 0 is the program's own. Few words are long, and clearing room for the longest takes time.
-pub fn number_at(rt: &HostRuntime, i: usize) -> Word {
+pub fn number_at(rt: &HostRuntime, i: usize) -> Option<i64> {
     let mut w = [0u8; 32];
     match rt.arg(i, &mut w) {
         Ok(n) => number(&w[..n]),
         Err(FillError::TooLong) => long_number_at(rt, i),
-        Err(FillError::NotPresent) => Word::None,
+        Err(FillError::NotPresent) => None,
     }
 }

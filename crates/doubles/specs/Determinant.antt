@@ -1,6 +1,6 @@
 -- c0 worked out in doubles. Of any four points of a scene, the far point with weight 0 too, it is the c0 of their rows, exactly: each
 -- product and sum on the way is a whole number below 2 ^ 53, by the limits of a scene. Assumes nothing.
-use Rattle.std.specs.Prelude.{◌≡◌, ℕ, false, List, [], ◌∷◌, ℤ, pos, Float}
+use Rattle.std.specs.Prelude.{◌≡◌, ℕ, false, List, [], ◌∷◌, ℤ, pos, Float, Ok}
 use Rattle.std.proofs.Math.Path.{sym}
 use Rattle.std.proofs.Common.{ap, ◌∙◌, subst}
 use Rattle.std.specs.Float.{fin, binary64}
@@ -11,7 +11,6 @@ use Rattle.scene.specs.Limits.{limits}
 use Rattle.scene.specs.Tables.{row, tables_of}
 use Rattle.scene.specs.declared.Row.{Row}
 use Rattle.judge.specs.Judge.{judged}
-use Rattle.judge.specs.declared.Judged.TheVariants.{Accepted}
 use Rattle.rules.proofs.Given.{rows_within}
 use Rattle.orient.specs.Determinant.{Entries, det4}
 use Rattle.orient.specs.Terms.{terms_at, point_at}
@@ -103,7 +102,7 @@ c0_worked {a} {b} {c} {d} q =
 
 -- ---- any four points of an accepted scene, by their numbers i, j, k, l, each in doubles
 
-module _ (s : List ℕ) (ok : judged s ≡ Accepted) where
+module _ (s : List ℕ) (ok : judged s ≡ Ok tt) where
   point_of_law : (i : ℕ) (v : Vertex) → Are v (row (tables_of s) i) → IsPoint v
   point_of_law i v h = are_point v (row (tables_of s) i) h (rows_within limits s ok i)
 

@@ -1,5 +1,5 @@
 -- What the tests of `whole::read` say of its double, and a whole number that was cast to an i64. Assumes nothing.
-use Rattle.std.specs.Prelude.{◌≡◌, ℕ, zero, suc, ◌^◌, ◌<◌, ◌≤◌, Bool, true, false, cond, not, T, ℤ, pos, negsuc, neg_ℤ, ◌≢◌, int_lt, nat_le, unsigned_abs, refl, Float}
+use Rattle.std.specs.Prelude.{◌≡◌, ℕ, zero, suc, ◌^◌, ◌<◌, ◌≤◌, Bool, true, false, cond, not, T, ℤ, pos, negsuc, neg_ℤ, ◌≢◌, int_lt, nat_le, unsigned_abs, refl, Float, Ok, Err}
 use Rattle.std.proofs.Common.{sym, ◌∙◌, ap, subst, suc-le-suc, le_of_lt, lt_of_le_of_lt, arith, lt→ltb, le→leb, nltb→le, lit<, ltb-true, le-leb, to_z, of_z, to_z-of_z}
 use Rattle.std.specs.Int.Signed.{mag}
 use Rattle.std.specs.Float.{fin, binary64}
@@ -9,7 +9,7 @@ use Rattle.std.proofs.lemmas.Bool.{lt-leb}
 use Rattle.std.specs.Int.{w64}
 use Rattle.doubles.specs.Whole.{Is, is_whole, value_of, whole_is, lt_is, neg_is, of_int_is, plus_zero}
 use Rattle.doubles.specs.Taken.{reading_of, weighed}
-use Rattle.doubles.specs.declared.whole.Reading.TheVariants.{NotWhole, Outside, Within}
+use Rattle.doubles.specs.declared.whole.Unfit.TheVariants.{NotWhole, Outside}
 
 yes : {b : Bool} → b ≡ true → T b
 yes h = subst T (sym h) tt
@@ -61,16 +61,16 @@ module _ (x : Float) (most : ℕ) (h : most < 2 ^ 53) {test : Bool} (f : test �
   under t = lt_is x (neg limit) (value_of x) (neg_ℤ (pos most)) (whole_is x (yes t)) (neg_is limit (pos most) limit_is)
 
   is : {a b : Bool} → is_whole x ≡ a → nat_le (unsigned_abs (value_of x)) most ≡ b →
-      reading_of x most ≡ cond a (cond b (Within (value_of x)) Outside) NotWhole
-  is p q = λ i. cond (p i) (cond (q i) (Within (value_of x)) Outside) NotWhole
+      reading_of x most ≡ cond a (cond b (Ok (value_of x)) (Err Outside)) (Err NotWhole)
+  is p q = λ i. cond (p i) (cond (q i) (Ok (value_of x)) (Err Outside)) (Err NotWhole)
 
-  pub not_whole : test ≡ false → NotWhole ≡ reading_of x most
+  pub not_whole : test ≡ false → Err NotWhole ≡ reading_of x most
   not_whole t = sym (is (sym f ∙ t) refl)
 
-  pub too_high : test ≡ true → lt limit x ≡ true → Outside ≡ reading_of x most
+  pub too_high : test ≡ true → lt limit x ≡ true → Err Outside ≡ reading_of x most
   too_high t a = sym (is (whole t) (too_high_is (value_of x) most (sym (above (whole t)) ∙ a)))
 
-  pub too_low : test ≡ true → lt x (neg limit) ≡ true → Outside ≡ reading_of x most
+  pub too_low : test ≡ true → lt x (neg limit) ≡ true → Err Outside ≡ reading_of x most
   too_low t b = sym (is (whole t) (too_low_is (value_of x) most (sym (under (whole t)) ∙ b)))
 
   module _ (t : test ≡ true) (a : lt limit x ≡ false) (b : lt x (neg limit) ≡ false) where
@@ -86,10 +86,10 @@ module _ (x : Float) (most : ℕ) (h : most < 2 ^ 53) {test : Bool} (f : test �
     pub casts : T (in_signed binary64 63 (add binary64 x (fin false 0 (pos 0))))
     casts = subst (λ (y : Float). T (in_signed binary64 63 y)) (sym settled) (back (value_of x) low).0
 
-    pub as_cast : Within (to_z w64 (of_z w64 (to_signed 63 (add binary64 x (fin false 0 (pos 0)))))) ≡ reading_of x most
+    pub as_cast : Ok (to_z w64 (of_z w64 (to_signed 63 (add binary64 x (fin false 0 (pos 0)))))) ≡ reading_of x most
     as_cast =
-        ap (λ (z : ℤ). Within (to_z w64 (of_z w64 z))) (ap (λ (y : Float). to_signed 63 y) settled ∙ (back (value_of x) low).1)
-        ∙ ap (λ (z : ℤ). Within z) (to_z-of_z {w = w64} (record { sfits = small_mag (value_of x) low }))
+        ap (λ (z : ℤ). Ok (to_z w64 (of_z w64 z))) (ap (λ (y : Float). to_signed 63 y) settled ∙ (back (value_of x) low).1)
+        ∙ ap (λ (z : ℤ). Ok z) (to_z-of_z {w = w64} (record { sfits = small_mag (value_of x) low }))
         ∙ sym (is (whole t) (le-leb (unsigned_abs (value_of x)) most small))
 
 -- ---- a number of an i64, read back from its bits
@@ -98,13 +98,13 @@ pub held : (d : ℤ) → mag d < 2 ^ 63 → to_z w64 (of_z w64 d) ≡ d
 held d h = to_z-of_z {w = w64} (record { sfits = h })
 
 -- a weight whose bits are 0 is outside, and any other is itself
-pub nothing : (d : ℤ) → mag d < 2 ^ 63 → of_z w64 d ≡ 0 → Outside ≡ weighed (Within d)
-nothing d f h = ap (λ (z : ℤ). weighed (Within z)) (sym (ap (λ (n : ℕ). to_z w64 n) h) ∙ held d f)
+pub nothing : (d : ℤ) → mag d < 2 ^ 63 → of_z w64 d ≡ 0 → Err Outside ≡ weighed (Ok d)
+nothing d f h = ap (λ (z : ℤ). weighed (Ok z)) (sym (ap (λ (n : ℕ). to_z w64 n) h) ∙ held d f)
 
-pub something : (d : ℤ) → mag d < 2 ^ 63 → (of_z w64 d ≢ 0) → Within (to_z w64 (of_z w64 d)) ≡ weighed (Within d)
-something d f h = ap (λ (z : ℤ). Within z) (held d f) ∙ go d h
+pub something : (d : ℤ) → mag d < 2 ^ 63 → (of_z w64 d ≢ 0) → Ok (to_z w64 (of_z w64 d)) ≡ weighed (Ok d)
+something d f h = ap (λ (z : ℤ). Ok z) (held d f) ∙ go d h
   where
-    go : (d : ℤ) → (of_z w64 d ≢ 0) → Within d ≡ weighed (Within d)
+    go : (d : ℤ) → (of_z w64 d ≢ 0) → Ok d ≡ weighed (Ok d)
     go (pos zero) h = absurd (h refl)
     go (pos (suc n)) h = refl
     go (negsuc n) h = refl

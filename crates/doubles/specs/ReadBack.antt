@@ -1,6 +1,6 @@
 -- The nine bytes of a record read back, by the definitions of a scene: wherever a file has them at a vertex's record, it has the mark there
 -- and that vertex's row is the one written. Assumes nothing.
-use Rattle.std.specs.Prelude.{◌≡◌, ℕ, ◌+◌, ◌-◌, ◌/◌, ◌%◌, ◌<◌, List, ℤ, pos, negsuc, slice_index, unsigned_abs}
+use Rattle.std.specs.Prelude.{◌≡◌, ℕ, ◌+◌, ◌-◌, ◌/◌, ◌%◌, ◌<◌, List, ℤ, pos, negsuc, slice_index, unsigned_abs, Ok}
 use Rattle.std.proofs.Math.Path.{ap}
 use Rattle.std.proofs.Common.{◌∙◌, arith}
 use Rattle.scene.specs.Limits.{limits}
@@ -13,7 +13,6 @@ use Rattle.scene.specs.declared.Row.{Row}
 use Rattle.doubles.specs.Record.{unsigned, vertex_bytes}
 use Rattle.doubles.specs.Taken.{taken_of}
 use Rattle.doubles.specs.Taking.{taken_takes}
-use Rattle.doubles.specs.declared.Taken.TheVariants.{At}
 use Rattle.doubles.specs.declared.Vertex.{Vertex}
 
 -- the record of row r stands in s from k on
@@ -57,6 +56,6 @@ module _ (s : List ℕ) (j : ℕ) (r : Row) (h : Stands s (point_start j) r) whe
       (λ i. record { x = x i; y = y i; z = z i; w = w i })
 
 -- the record of a vertex that is taken
-pub taken_back : (v : Vertex) (r : Row) → taken_of v ≡ At r → (s : List ℕ) (j : ℕ) → Stands s (point_start j) r →
+pub taken_back : (v : Vertex) (r : Row) → taken_of v ≡ Ok r → (s : List ℕ) (j : ℕ) → Stands s (point_start j) r →
     (two_at s (point_start j) ≡ markvx) × (row_at s j ≡ r)
 taken_back v r e s j h = (mark_back s j r h, row_back s j r h (taken_takes v r e).within)

@@ -2,10 +2,10 @@
 #![tactic(auto)]
 
 ghost use Rattle.std.specs.Prelude.{◌≡◌};
-ghost use Rattle.doubles.specs.Taken.{fault_number, fault_place, taken_by, taken_of};
+ghost use Rattle.doubles.specs.Taken.{fault_at, fault_number, fault_place, taken_of};
 
-use scene::{Refusal, Row, Scene};
-use whole::{Reading, read, weight};
+use scene::{Numbered, Refusal, Row, Scene};
+use whole::{Unfit, read, weight};
 
 pub mod determinant;
 pub mod record;
@@ -26,61 +26,43 @@ pub enum Fault {
     OfScene(Refusal),
 }
 
-#[derive(Clone, Copy)]
-pub enum Taken {
-    At(Row),
-    Refused(Fault),
-}
+impl Numbered for Fault {
+    ghost number = { fault_number };
 
-// The refusal's number, and its place.
-pub fn number(f: Fault) -> usize
-    ensures { result ≡ fault_number f }
-{
-    match f {
-        Fault::NotWhole(_) => 15,
-        Fault::OfScene(r) => scene::number(r),
+    ghost place = { fault_place };
+
+    fn number(self) -> usize {
+        match self {
+            Fault::NotWhole(_) => 15,
+            Fault::OfScene(r) => r.number(),
+        }
+    }
+
+    fn place(self) -> usize {
+        match self {
+            Fault::NotWhole(p) => p,
+            Fault::OfScene(r) => r.place(),
+        }
     }
 }
 
-pub fn place(f: Fault) -> usize
-    ensures { result ≡ fault_place f }
-{
-    match f {
-        Fault::NotWhole(p) => p,
-        Fault::OfScene(r) => scene::place(r),
-    }
-}
-
-// The scene's four numbers, where all four are whole and within the limits.
-pub fn take(v: Vertex) -> Taken
+// The scene's four numbers, where all four are whole and within the limits. The first that is not is refused: x, y, z, weight.
+pub fn take(v: Vertex) -> Result<Row, Fault>
     ensures { result ≡ taken_of v }
 {
-    let a = read(v.x, Scene::MOST_COORDINATE);
-    let b = read(v.y, Scene::MOST_COORDINATE);
-    let c = read(v.z, Scene::MOST_COORDINATE);
-    let d = weight(v.w);
-    combine(a, b, c, d)
+    let x = read(v.x, Scene::MOST_COORDINATE).map_err(|e| fault_at(e, 1, Refusal::Coordinate(1)))?;
+    let y = read(v.y, Scene::MOST_COORDINATE).map_err(|e| fault_at(e, 2, Refusal::Coordinate(2)))?;
+    let z = read(v.z, Scene::MOST_COORDINATE).map_err(|e| fault_at(e, 3, Refusal::Coordinate(3)))?;
+    let w = weight(v.w).map_err(|e| fault_at(e, 4, Refusal::Weight(4)))?;
+    Ok(Row { x, y, z, w })
 }
 
-// The first of the four that is refused, in the order x, y, z, weight; or the row.
-fn combine(a: Reading, b: Reading, c: Reading, d: Reading) -> Taken
-    ensures { result ≡ taken_by a b c d }
+// What is wrong with the number at a place: outside its limits it is what a scene refuses there.
+fn fault_at(e: Unfit, place: usize, outside: Refusal) -> Fault
+    ensures { result ≡ fault_at e place outside }
 {
-    match a {
-        Reading::NotWhole => Taken::Refused(Fault::NotWhole(1)),
-        Reading::Outside => Taken::Refused(Fault::OfScene(Refusal::Coordinate(1))),
-        Reading::Within(x) => match b {
-            Reading::NotWhole => Taken::Refused(Fault::NotWhole(2)),
-            Reading::Outside => Taken::Refused(Fault::OfScene(Refusal::Coordinate(2))),
-            Reading::Within(y) => match c {
-                Reading::NotWhole => Taken::Refused(Fault::NotWhole(3)),
-                Reading::Outside => Taken::Refused(Fault::OfScene(Refusal::Coordinate(3))),
-                Reading::Within(z) => match d {
-                    Reading::NotWhole => Taken::Refused(Fault::NotWhole(4)),
-                    Reading::Outside => Taken::Refused(Fault::OfScene(Refusal::Weight(4))),
-                    Reading::Within(w) => Taken::At(Row { x, y, z, w }),
-                },
-            },
-        },
+    match e {
+        Unfit::NotWhole => Fault::NotWhole(place),
+        Unfit::Outside => Fault::OfScene(outside),
     }
 }

@@ -4,30 +4,19 @@ ghost use Rattle.scene.specs.Limits.{limits};
 ghost use Rattle.scene.specs.Arrays.{RowWithin};
 ghost use Rattle.doubles.specs.Record.{unsigned, vertex_bytes, IsRecord};
 
-use crate::{Fault, Taken, Vertex, take};
+use crate::{Fault, Vertex, take};
 use scene::{Refusal, Row, Scene};
 
-#[derive(Clone, Copy)]
-pub enum Recorded {
-    Written,
-    Refused(Fault),
-}
-
 // Writes the record of a vertex that is taken, where there is room for it.
-pub fn record_of(v: Vertex, out: &mut [u8]) -> Recorded
+pub fn record_of(v: Vertex, out: &mut [u8]) -> Result<(), Fault>
     ensures { IsRecord v out.old out.new result }
 {
-    let t = take(v);
-    match t {
-        Taken::Refused(f) => Recorded::Refused(f),
-        Taken::At(r) => {
-            if out.len() < 9 {
-                return Recorded::Refused(Fault::OfScene(Refusal::BufferTooShort(9)));
-            }
-            put(r, out);
-            Recorded::Written
-        }
+    let r = take(v)?;
+    if out.len() < 9 {
+        return Err(Fault::OfScene(Refusal::BufferTooShort(9)));
     }
+    put(r, out);
+    Ok(())
 }
 
 fn put(r: Row, out: &mut [u8])

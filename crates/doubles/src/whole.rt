@@ -6,31 +6,26 @@ ghost use Rattle.doubles.specs.Taken.{reading_of, weight_of};
 
 use scene::Scene;
 
-// What a double is, against a limit: no whole number, one outside the limit, or this one.
+// Why a double is no number of a vertex: it is not whole, or outside the limits.
 #[derive(Clone, Copy)]
-pub enum Reading {
+pub enum Unfit {
     NotWhole,
     Outside,
-    Within(i64),
 }
 
-// With zero added, minus zero is zero.
-pub fn read(x: f64, most: usize) -> Reading
+// A whole number from -most to most. With zero added, minus zero is zero.
+pub fn read(x: f64, most: usize) -> Result<i64, Unfit>
     requires { most < 2 ^ 53 }
     ensures { result ≡ reading_of x most }
 {
-    if is_whole(x) {
-        let m = most as f64;
-        if m < x {
-            return Reading::Outside;
-        }
-        if x < -m {
-            return Reading::Outside;
-        }
-        Reading::Within((x + 0.0) as i64)
-    } else {
-        Reading::NotWhole
+    if !is_whole(x) {
+        return Err(Unfit::NotWhole);
     }
+    let m = most as f64;
+    if m < x || x < -m {
+        return Err(Unfit::Outside);
+    }
+    Ok((x + 0.0) as i64)
 }
 
 // Whether x is a whole number. Below 2^53 in size the number that it is cut to must be the same; from there on every finite double is
@@ -55,18 +50,12 @@ fn is_finite(x: f64) -> bool
 }
 
 // A vertex's weight is not 0.
-pub fn weight(x: f64) -> Reading
+pub fn weight(x: f64) -> Result<i64, Unfit>
     ensures { result ≡ weight_of x }
 {
-    match read(x, Scene::MOST_WEIGHT) {
-        Reading::NotWhole => Reading::NotWhole,
-        Reading::Outside => Reading::Outside,
-        Reading::Within(w) => {
-            if w == 0 {
-                Reading::Outside
-            } else {
-                Reading::Within(w)
-            }
-        }
+    let w = read(x, Scene::MOST_WEIGHT)?;
+    if w == 0 {
+        return Err(Unfit::Outside);
     }
+    Ok(w)
 }

@@ -1,14 +1,10 @@
 -- What the words of an operation denote: `move P X Y Z W`, `far X Y Z W`, `reverse F`. Assumes nothing.
-use Rattle.std.specs.Prelude.{ℕ, ◌+◌, Bool, true, false, cond, ◌&&◌, List, [], ◌∷◌, eqb, ℤ, pos, negsuc}
+use Rattle.std.specs.Prelude.{ℕ, ◌+◌, Bool, true, false, cond, ◌&&◌, List, [], ◌∷◌, eqb, ℤ, pos, negsuc, Option, Some, None, Result, Ok, Err}
 use Rattle.print.specs.Text.{ascii}
-use Rattle.cli_words.specs.declared.Word.{Word}
-use Rattle.cli_words.specs.declared.Word.TheVariants.{Number, None}
+use Rattle.scene.specs.declared.Row.{Row}
 use Rattle.edit.specs.declared.operations.Operation.{Operation}
 use Rattle.edit.specs.declared.operations.Operation.TheVariants as operation
-use Rattle.edit.specs.declared.operations.Asked.{Asked}
-use Rattle.edit.specs.declared.operations.Asked.TheVariants as asked
-use Rattle.edit.specs.declared.operations.Four.{Four}
-use Rattle.edit.specs.declared.operations.Four.TheVariants as four
+use Rattle.edit.specs.declared.operations.Wrong.{Wrong}
 
 unfoldable pub same : List ℕ → List ℕ → Bool
 same [] [] = true
@@ -21,41 +17,45 @@ abbrev pub named : ℤ → ℕ
 named (pos n) = n
 named (negsuc n) = 0
 
+-- the word that is wrong
+abbrev pub wrong : {T : Type 0} → ℕ → Result T Wrong
+wrong k = Err (record { word = k })
+
 -- four numbers, the first of them word i; or the first word that is none
-unfoldable pub row_of : ℕ → (x y z w : Word) → Four
-row_of i None y z w = four.Wrong i
-row_of i (Number x) None z w = four.Wrong (i + 1)
-row_of i (Number x) (Number y) None w = four.Wrong (i + 2)
-row_of i (Number x) (Number y) (Number z) None = four.Wrong (i + 3)
-row_of i (Number x) (Number y) (Number z) (Number w) = four.Row (record { x = x; y = y; z = z; w = w })
+unfoldable pub row_of : ℕ → (x y z w : Option ℤ) → Result Row Wrong
+row_of i None y z w = wrong i
+row_of i (Some x) None z w = wrong (i + 1)
+row_of i (Some x) (Some y) None w = wrong (i + 2)
+row_of i (Some x) (Some y) (Some z) None = wrong (i + 3)
+row_of i (Some x) (Some y) (Some z) (Some w) = Ok (record { x = x; y = y; z = z; w = w })
 
 -- each behind its name, which is word i
 
-unfoldable pub move_by : ℕ → Word → Four → Asked
-move_by i None v = asked.Wrong (i + 1)
-move_by i (Number p) (four.Wrong k) = asked.Wrong k
-move_by i (Number p) (four.Row v) = asked.Operation (operation.Move (named p) v)
+unfoldable pub move_by : ℕ → Option ℤ → Result Row Wrong → Result Operation Wrong
+move_by i None v = wrong (i + 1)
+move_by i (Some p) (Err e) = Err e
+move_by i (Some p) (Ok v) = Ok (operation.Move (named p) v)
 
-abbrev pub move_of : ℕ → (p x y z w : Word) → Asked
+abbrev pub move_of : ℕ → (p x y z w : Option ℤ) → Result Operation Wrong
 move_of i p x y z w = move_by i p (row_of (i + 2) x y z w)
 
-unfoldable pub far_by : Four → Asked
-far_by (four.Wrong k) = asked.Wrong k
-far_by (four.Row v) = asked.Operation (operation.Far v)
+unfoldable pub far_by : Result Row Wrong → Result Operation Wrong
+far_by (Err e) = Err e
+far_by (Ok v) = Ok (operation.Far v)
 
-abbrev pub far_of : ℕ → (x y z w : Word) → Asked
+abbrev pub far_of : ℕ → (x y z w : Option ℤ) → Result Operation Wrong
 far_of i x y z w = far_by (row_of (i + 1) x y z w)
 
-unfoldable pub reverse_of : ℕ → Word → Asked
-reverse_of i None = asked.Wrong (i + 1)
-reverse_of i (Number f) = asked.Operation (operation.Reverse (named f))
+unfoldable pub reverse_of : ℕ → Option ℤ → Result Operation Wrong
+reverse_of i None = wrong (i + 1)
+reverse_of i (Some f) = Ok (operation.Reverse (named f))
 
 -- a to e are the five words behind the name
-unfoldable pub operation_of : ℕ → List ℕ → (a b c d e : Word) → Asked
+unfoldable pub operation_of : ℕ → List ℕ → (a b c d e : Option ℤ) → Result Operation Wrong
 operation_of i name a b c d e =
     cond (same name (ascii "move")) (move_of i a b c d e)
     (cond (same name (ascii "far")) (far_of i a b c d)
-    (cond (same name (ascii "reverse")) (reverse_of i a) (asked.Wrong i)))
+    (cond (same name (ascii "reverse")) (reverse_of i a) (wrong i)))
 
 -- how many words it takes, its name among them
 abbrev pub words_of : Operation → ℕ

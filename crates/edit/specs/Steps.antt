@@ -1,11 +1,9 @@
 -- What a step does, what is said of it, and what is written at the end. Assumes nothing.
-use Rattle.std.specs.Prelude.{ℕ, cond, ◌&&◌, List, [], ◌∷◌, leb, length}
+use Rattle.std.specs.Prelude.{ℕ, cond, ◌&&◌, List, [], ◌∷◌, leb, length, Ok, Err}
 use Rattle.print.specs.Text.{ascii, decimal}
 use Rattle.print.specs.Back.{Words}
-use Rattle.judge.specs.declared.Judged.{Judged}
-use Rattle.judge.specs.declared.Judged.TheVariants as judged
-use Rattle.questions.specs.declared.Counted.{Counted}
-use Rattle.questions.specs.declared.Counted.TheVariants as counted
+use Rattle.judge.specs.Judge.{Judged}
+use Rattle.questions.specs.Types.{Counted}
 use Rattle.questions.specs.declared.Counts.{Counts}
 use Rattle.session.specs.Session.{is_whole}
 use Rattle.session.specs.Kept as kept
@@ -25,8 +23,8 @@ step_of s o = kept.step s (meant o)
 
 -- the counts after it, or its refusal
 unfoldable pub told_by : Judged → Counts → Counted
-told_by judged.Accepted n = counted.Counts n
-told_by (judged.Refused r) n = counted.Refused r
+told_by (Ok _) n = Ok n
+told_by (Err r) n = Err r
 
 abbrev pub told_of : Changed → Counted
 told_of c = told_by c.answer c.session.counts

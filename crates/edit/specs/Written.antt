@@ -1,6 +1,6 @@
 -- What is written at the end is the scene that the session holds: in the form in which the two calls of saving arrive, and after any
 -- operations. Assumes nothing.
-use Rattle.std.specs.Prelude.{ℕ, ◌≤◌, ◌⊎◌, Bool, cond, ◌&&◌, List, [], ◌∷◌, length, take, drop}
+use Rattle.std.specs.Prelude.{ℕ, ◌≤◌, ◌⊎◌, Bool, cond, ◌&&◌, List, [], ◌∷◌, length, take, drop, Ok, Err}
 use Rattle.std.proofs.Math.Path.{◌≡◌, refl, sym}
 use Rattle.std.proofs.Common.{ap, ap₂, ◌∙◌, inl, inr, arith}
 use Rattle.std.proofs.Math.Bool.{true, false}
@@ -11,8 +11,7 @@ use Rattle.scene.specs.Refusal.{place_of}
 use Rattle.scene.specs.declared.Refusal.{Refusal}
 use Rattle.scene.specs.declared.Refusal.TheVariants.{Opening, BufferTooShort}
 use Rattle.judge.specs.Judge.{refuse_unless}
-use Rattle.judge.specs.declared.Judged.{Judged}
-use Rattle.judge.specs.declared.Judged.TheVariants.{Accepted, Refused}
+use Rattle.judge.specs.Judge.{Judged}
 use Rattle.session.specs.Session.{scene, is_whole, opened}
 use Rattle.session.specs.Laws.{accepted_short}
 use Rattle.session.specs.Kept.{Empty, Full, Holds, Operation, after}
@@ -25,21 +24,21 @@ use Rattle.edit.specs.Steps.{scene_within}
 
 module _ (s : List ℕ) (n : ℕ) where
   ruled : Bool → Bool → Judged
-  ruled a b = refuse_unless a Opening (refuse_unless b (BufferTooShort n) Accepted)
+  ruled a b = refuse_unless a Opening (refuse_unless b (BufferTooShort n) (Ok tt))
 
-  refused_none : (a b : Bool) {r : Refusal} → ruled a b ≡ Refused r → cond (a && b) s [] ≡ []
+  refused_none : (a b : Bool) {r : Refusal} → ruled a b ≡ Err r → cond (a && b) s [] ≡ []
   unfolding ruled refuse_unless
   refused_none true true e = absurd (let z : ◌≡◌ {A = ℕ} 0 1 = cc in omega arith)
   refused_none true false e = refl
   refused_none false b e = refl
 
-  accepted_all : (a b : Bool) → ruled a b ≡ Accepted → cond (a && b) s [] ≡ s
+  accepted_all : (a b : Bool) → ruled a b ≡ Ok tt → cond (a && b) s [] ≡ s
   unfolding ruled refuse_unless
   accepted_all true true e = refl
   accepted_all true false e = absurd (let z : ◌≡◌ {A = ℕ} 0 1 = cc in omega arith)
   accepted_all false b e = absurd (let z : ◌≡◌ {A = ℕ} 0 1 = cc in omega arith)
 
-  needed_place : (a b c : Bool) {r : Refusal} → ruled a b ≡ Accepted → ruled a c ≡ Refused r → place_of r ≡ n
+  needed_place : (a b c : Bool) {r : Refusal} → ruled a b ≡ Ok tt → ruled a c ≡ Err r → place_of r ≡ n
   unfolding ruled refuse_unless
   needed_place true b false {r} e f = let g : BufferTooShort n ≡ r = cc in sym (ap place_of g)
   needed_place true b true e f = absurd (let z : ◌≡◌ {A = ℕ} 0 1 = cc in omega arith)
@@ -53,21 +52,21 @@ nothing b (a ∷ s) h = absurd (omega arith)
 -- ---- the calls: o saved into out, and q into no places
 
 module _ (s : List ℕ) (room : ℕ) where
-  pub scene_none : {o : Judged} {r : Refusal} → o ≡ save_fault s room → o ≡ Refused r → [] ≡ scene_within room s
+  pub scene_none : {o : Judged} {r : Refusal} → o ≡ save_fault s room → o ≡ Err r → [] ≡ scene_within room s
   unfolding scene_within save_fault ruled
   scene_none p q = sym (refused_none s (length s) (is_whole s) (leb (length s) room) (sym p ∙ q))
 
-  scene_all : save_fault s room ≡ Accepted → scene_within room s ≡ s
+  scene_all : save_fault s room ≡ Ok tt → scene_within room s ≡ s
   unfolding scene_within save_fault ruled
   scene_all e = accepted_all s (length s) (is_whole s) (leb (length s) room) e
 
-  pub scene_short : {q : Judged} → q ≡ save_fault s 0 → q ≡ Accepted → [] ≡ scene_within room s
+  pub scene_short : {q : Judged} → q ≡ save_fault s 0 → q ≡ Ok tt → [] ≡ scene_within room s
   unfolding scene_within
   scene_short p e = sym (nothing (is_whole s && leb (length s) room) s (save_room s 0 (sym p ∙ e)))
 
-module _ (s out : List ℕ) {out' : List ℕ} {o q : Judged} {r : Refusal} {n : ℕ} (is : IsSaved s out out' o) (e : o ≡ Accepted)
-    (f : q ≡ save_fault s 0) (g : q ≡ Refused r) (m : n ≡ place_of r) where
-  free : save_fault s (length out) ≡ Accepted
+module _ (s out : List ℕ) {out' : List ℕ} {o q : Judged} {r : Refusal} {n : ℕ} (is : IsSaved s out out' o) (e : o ≡ Ok tt)
+    (f : q ≡ save_fault s 0) (g : q ≡ Err r) (m : n ≡ place_of r) where
+  free : save_fault s (length out) ≡ Ok tt
   free = sym is.answer ∙ e
 
   long : n ≡ length s

@@ -4,7 +4,7 @@
 
 ghost use Rattle.std.specs.Prelude.{◌<◌};
 
-use crate::operations::Asked;
+use crate::operations::{Operation, Wrong};
 use cli::is_option;
 use cli_words::number_at;
 use print_lines::rows::least;
@@ -15,15 +15,8 @@ mod operations;
 mod said;
 mod steps;
 
-// The word behind the operations, which names the file where there is one; and the first word that is wrong, or 0.
-#[derive(Clone, Copy)]
-struct Words {
-    file: usize,
-    wrong: usize,
-}
-
 // The operation whose name is word i.
-fn operation_at(rt: &HostRuntime, i: usize) -> Asked
+fn operation_at(rt: &HostRuntime, i: usize) -> Result<Operation, Wrong>
     requires { i < 8388608 }
 {
     // A word that is longer than any name is read as none.
@@ -37,32 +30,33 @@ fn operation_at(rt: &HostRuntime, i: usize) -> Asked
     operations::operation_of(i, &w[..n], a, b, c, d, e)
 }
 
-// Word i is no operation, because of word k: only the last may be a file's name.
-fn words_at(rt: &HostRuntime, i: usize, k: usize, count: usize) -> Words
+// Word i is no operation, because of the word told: only the last may be a file's name.
+fn words_at(rt: &HostRuntime, i: usize, e: Wrong, count: usize) -> Result<usize, Wrong>
     requires { i < count }
 {
-    if k == i && i + 1 == count && !is_option(rt, i) {
-        return Words { file: i, wrong: 0 };
+    if e.word == i && i + 1 == count && !is_option(rt, i) {
+        return Ok(i);
     }
-    Words { file: i, wrong: k }
+    Err(e)
 }
 
-fn words_of(rt: &HostRuntime, count: usize) -> Words
+// The word behind the operations, which names the file where there is one.
+fn words_of(rt: &HostRuntime, count: usize) -> Result<usize, Wrong>
     requires { count < 4194304 }
 {
     let mut i = 1;
+    // No range: a step is as many words as the operation has.
     while i < count {
-        let a = operation_at(rt, i);
-        match a {
-            Asked::Operation(o) => {
+        match operation_at(rt, i) {
+            Ok(o) => {
                 i += operations::words_of(o);
             }
-            Asked::Wrong(k) => {
-                return words_at(rt, i, k, count);
+            Err(e) => {
+                return words_at(rt, i, e, count);
             }
         }
     }
-    Words { file: i, wrong: 0 }
+    Ok(i)
 }
 
 // The session after the operations.
@@ -71,8 +65,9 @@ fn play(rt: &HostRuntime, first: Session, count: usize) -> Session
 {
     let mut s = first;
     let mut i = 1;
+    // No range: a step is as many words as the operation has.
     while i < count {
-        let Asked::Operation(o) = operation_at(rt, i) else {
+        let Ok(o) = operation_at(rt, i) else {
             return s;
         };
         let c = steps::step(s, o);
@@ -120,10 +115,8 @@ fn main(rt: HostRuntime) {
     }
     // No system passes on so many words.
     let count = least(cli::word_count(&rt), 4194303);
-    let w = words_of(&rt, count);
-    if w.wrong != 0 {
-        said::usage(&rt, w.wrong);
-        return;
+    match words_of(&rt, count) {
+        Ok(file) => run(&rt, file, count),
+        Err(e) => said::usage(&rt, e.word),
     }
-    run(&rt, w.file, count);
 }

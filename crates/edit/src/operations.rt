@@ -3,7 +3,6 @@
 ghost use Rattle.std.specs.Prelude.{◌≡◌, ◌<◌, ◌≤◌};
 ghost use Rattle.edit.specs.Operations.{same, named, row_of, move_of, far_of, reverse_of, operation_of, words_of};
 
-use cli_words::Word;
 use scene::Row;
 
 #[derive(Clone, Copy)]
@@ -13,17 +12,10 @@ pub enum Operation {
     Reverse(usize),
 }
 
-// An operation, or the first of its words that is wrong.
+// The first of an operation's words that is wrong.
 #[derive(Clone, Copy)]
-pub enum Asked {
-    Operation(Operation),
-    Wrong(usize),
-}
-
-#[derive(Clone, Copy)]
-enum Four {
-    Row(Row),
-    Wrong(usize),
+pub struct Wrong {
+    pub word: usize,
 }
 
 fn is_same(w: &[u8], name: &[u8]) -> bool
@@ -33,6 +25,7 @@ fn is_same(w: &[u8], name: &[u8]) -> bool
 }
 
 // A point's or a face's number: nothing has a number below 0, as nothing has 0.
+#[tactic(auto, using(print::specs::Size::casts, crate::specs::Laws::named_below, crate::specs::Laws::named_above))]
 fn named(n: i64) -> usize
     ensures { result ≡ named n }
 {
@@ -40,69 +33,75 @@ fn named(n: i64) -> usize
 }
 
 // The row of four words, of which x is word i.
-fn row_of(i: usize, x: Word, y: Word, z: Word, w: Word) -> Four
+#[tactic(auto, unfolding(crate::specs::Operations::row_of))]
+fn row_of(
+    i: usize,
+    x: Option<i64>,
+    y: Option<i64>,
+    z: Option<i64>,
+    w: Option<i64>,
+) -> Result<Row, Wrong>
     requires { i < 16777216 }
     ensures { result ≡ row_of i x y z w }
 {
-    let Word::Number(x) = x else {
-        return Four::Wrong(i);
-    };
-    let Word::Number(y) = y else {
-        return Four::Wrong(i + 1);
-    };
-    let Word::Number(z) = z else {
-        return Four::Wrong(i + 2);
-    };
-    let Word::Number(w) = w else {
-        return Four::Wrong(i + 3);
-    };
-    Four::Row(Row {
-        x: x,
-        y: y,
-        z: z,
-        w: w,
-    })
+    let x = x.ok_or(Wrong { word: i })?;
+    let y = y.ok_or(Wrong { word: i + 1 })?;
+    let z = z.ok_or(Wrong { word: i + 2 })?;
+    let w = w.ok_or(Wrong { word: i + 3 })?;
+    Ok(Row { x, y, z, w })
 }
 
-#[tactic(auto, using(crate::specs::Laws::move_none, crate::specs::Laws::move_wrong, crate::specs::Laws::move_read))]
-fn move_of(i: usize, a: Word, b: Word, c: Word, d: Word, e: Word) -> Asked
+#[tactic(auto, unfolding(crate::specs::Operations::move_by))]
+fn move_of(
+    i: usize,
+    a: Option<i64>,
+    b: Option<i64>,
+    c: Option<i64>,
+    d: Option<i64>,
+    e: Option<i64>,
+) -> Result<Operation, Wrong>
     requires { i < 8388608 }
     ensures { result ≡ move_of i a b c d e }
 {
-    let Word::Number(p) = a else {
-        return Asked::Wrong(i + 1);
-    };
-    let v = row_of(i + 2, b, c, d, e);
-    match v {
-        Four::Row(v) => Asked::Operation(Operation::Move(named(p), v)),
-        Four::Wrong(k) => Asked::Wrong(k),
-    }
+    let p = a.ok_or(Wrong { word: i + 1 })?;
+    let v = row_of(i + 2, b, c, d, e)?;
+    Ok(Operation::Move(named(p), v))
 }
 
-#[tactic(auto, using(crate::specs::Laws::far_wrong, crate::specs::Laws::far_row))]
-fn far_of(i: usize, a: Word, b: Word, c: Word, d: Word) -> Asked
+#[tactic(auto, unfolding(crate::specs::Operations::far_by))]
+fn far_of(
+    i: usize,
+    a: Option<i64>,
+    b: Option<i64>,
+    c: Option<i64>,
+    d: Option<i64>,
+) -> Result<Operation, Wrong>
     requires { i < 8388608 }
     ensures { result ≡ far_of i a b c d }
 {
-    let v = row_of(i + 1, a, b, c, d);
-    match v {
-        Four::Row(v) => Asked::Operation(Operation::Far(v)),
-        Four::Wrong(k) => Asked::Wrong(k),
-    }
+    let v = row_of(i + 1, a, b, c, d)?;
+    Ok(Operation::Far(v))
 }
 
-#[tactic(auto, using(crate::specs::Laws::reverse_none, crate::specs::Laws::reverse_read))]
-fn reverse_of(i: usize, a: Word) -> Asked
+#[tactic(auto, unfolding(crate::specs::Operations::reverse_of))]
+fn reverse_of(i: usize, a: Option<i64>) -> Result<Operation, Wrong>
     requires { i < 8388608 }
     ensures { result ≡ reverse_of i a }
 {
-    let Word::Number(f) = a else {
-        return Asked::Wrong(i + 1);
-    };
-    Asked::Operation(Operation::Reverse(named(f)))
+    let f = a.ok_or(Wrong { word: i + 1 })?;
+    Ok(Operation::Reverse(named(f)))
 }
 
-pub fn operation_of(i: usize, name: &[u8], a: Word, b: Word, c: Word, d: Word, e: Word) -> Asked
+#[tactic(auto, unfolding(crate::specs::Operations::operation_of))]
+pub fn operation_of(
+    i: usize,
+    name: &[u8],
+    a: Option<i64>,
+    b: Option<i64>,
+    c: Option<i64>,
+    d: Option<i64>,
+    e: Option<i64>,
+) -> Result<Operation, Wrong>
     requires { i < 8388608 }
     ensures { result ≡ operation_of i name.now a b c d e }
 {
@@ -115,7 +114,7 @@ pub fn operation_of(i: usize, name: &[u8], a: Word, b: Word, c: Word, d: Word, e
     if is_same(name, b"reverse") {
         return reverse_of(i, a);
     }
-    Asked::Wrong(i)
+    Err(Wrong { word: i })
 }
 
 // How many words it takes, its name among them.

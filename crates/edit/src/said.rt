@@ -1,9 +1,8 @@
 // What is said on standard error: a line for the opening and for each operation, and why it is refused.
 use crate::steps;
 use cli::to_error;
-use judge::Judged;
 use print::{newline, word};
-use scene::Refusal;
+use scene::{Numbered, Refusal};
 use session::Changed;
 
 // Whether the first word asked for help or for the version.
@@ -49,7 +48,7 @@ fn why(rt: &HostRuntime, s: &[u8], r: Refusal) {
 pub fn opening(rt: &HostRuntime, s: &[u8], c: Changed) {
     answer(rt, c);
     let a = c.answer;
-    if let Judged::Refused(r) = a {
+    if let Err(r) = a {
         why(rt, s, r);
     }
     if s.len() == 0 {
@@ -66,14 +65,14 @@ pub fn opening(rt: &HostRuntime, s: &[u8], c: Changed) {
 
 fn rule(rt: &HostRuntime, r: Refusal) {
     let mut out = [0u8; 256];
-    let n = print_refusals::line(&mut out, 0, scene::number(r));
+    let n = print_refusals::line(&mut out, 0, r.number());
     to_error(rt, &out[0..n]);
 }
 
 pub fn operation(rt: &HostRuntime, c: Changed) {
     answer(rt, c);
     let a = c.answer;
-    if let Judged::Refused(r) = a {
+    if let Err(r) = a {
         rule(rt, r);
     }
 }

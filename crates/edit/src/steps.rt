@@ -7,9 +7,9 @@ ghost use Rattle.session.specs.Session.{scene};
 ghost use Rattle.edit.specs.Steps.{step_of, told_of, usage_line, scene_within};
 
 use crate::operations::Operation;
-use judge::Judged;
 use print::{newline, next_number, next_word, word};
-use questions::Counted;
+use questions::Counts;
+use scene::{Numbered, Refusal};
 use session::save::save;
 use session::{Changed, Session};
 
@@ -24,16 +24,13 @@ pub fn step(s: Session, o: Operation) -> Changed
 }
 
 #[tactic(auto, using(crate::specs::Laws::told_counts, crate::specs::Laws::told_refused))]
-fn told(c: Changed) -> Counted
+fn told(c: Changed) -> Result<Counts, Refusal>
     ensures { result ≡ told_of c }
 {
     let a = c.answer;
     let s = c.session;
-    let n = s.counts;
-    match a {
-        Judged::Refused(r) => Counted::Refused(r),
-        Judged::Accepted => Counted::Counts(n),
-    }
+    a?;
+    Ok(s.counts)
 }
 
 // Into out; the answer is the place behind.
@@ -49,15 +46,15 @@ pub fn scene_in(s: Session, out: &mut [u8]) -> usize
     ensures { (result ≤ length out.old) × (take result out.new ≡ scene_within (length out.old) (scene s)) }
 {
     let saved = save(s, out);
-    if let Judged::Refused(_) = saved {
+    if let Err(_) = saved {
         return 0;
     }
     // Saving into no places tells how many there should be.
     let mut none = [0u8; 1];
     let needed = save(s, &mut none[..0]);
     match needed {
-        Judged::Accepted => 0,
-        Judged::Refused(r) => scene::place(r),
+        Ok(()) => 0,
+        Err(r) => r.place(),
     }
 }
 

@@ -1,5 +1,5 @@
 -- Where no word has a bit set but its own vertex's, no edge lies in an odd number of its solid's faces. Assumes nothing.
-use Rattle.std.specs.Prelude.{◌≡◌, refl, ◌≢◌, Bool, true, false, ◌||◌, List, ℕ, ◌+◌, ◌/◌, ◌%◌, ◌^◌, ◌≤◌, ◌<◌, get_or}
+use Rattle.std.specs.Prelude.{◌≡◌, refl, ◌≢◌, Bool, true, false, ◌||◌, List, ℕ, ◌+◌, ◌/◌, ◌%◌, ◌^◌, ◌≤◌, ◌<◌, get_or, Ok}
 use Rattle.std.proofs.Math.Path.{sym, ap}
 use Rattle.std.proofs.Common.{◌∙◌, arith}
 use Rattle.std.proofs.Math.Bool.{not}
@@ -15,7 +15,6 @@ use Rattle.judge.specs.Judge.{refuse_unless, is_edge, edge_ok, sides_ok, closed_
 use Rattle.judge.specs.Cases.{closed_of_a, closed_of_b, verts_of_a, verts_of_b}
 use Rattle.judge.specs.Tests.{first_iff}
 use Rattle.judge.specs.Words.{places, CornersIn, FacesIn, AreWords, oddly, word_of, even_odd}
-use Rattle.judge.specs.declared.Judged.TheVariants.{Accepted}
 use Rattle.judge.specs.Alone.{is_alone, Alone}
 
 falls : (a b : Bool) → b ≡ false → (a || b) ≡ b → a ≡ false
@@ -75,6 +74,6 @@ module _ (s : List ℕ) {wa wb : List ℕ} (are-a : AreWords s 0 (faces_in_a s) 
           ∙ sides_even s (faces_in_a s) (faces_in_b s) are-b alone-b i c (omega (arith, e, c.p_own)) (omega (arith, e, c.q_own))
           (omega (arith, e, c.r_own))
 
-  pub none_odd : edges_fault s ≡ Accepted
+  pub none_odd : edges_fault s ≡ Ok tt
   unfolding edges_fault edge_fault refuse_unless
   none_odd = (first_iff (edge_fault s) 0 (faces s)).1 (λ i a h. rw (closed i h))

@@ -11,7 +11,7 @@ use Rattle.scene.specs.Bytes.{two_at}
 use Rattle.scene.specs.Records.{verts_a, verts_b, faces_in_a, verts, faces, last_record, point_start, markfp, markvx}
 use Rattle.judge.specs.Judge.{first_fault, nowhere, somewhere_ok, point_mark, point_fault, verts_at, face_fault, end_fault, record_fault}
 use Rattle.judge.specs.Judge.{is_corner_of, is_used, sides_ok, closed_at}
-use Rattle.judge.specs.declared.Judged.{Judged}
+use Rattle.judge.specs.Judge.{Judged}
 
 -- the same search, up to the same end
 pub first_to : (f : ℕ → Judged) (a : ℕ) {e n : ℕ} → e ≡ n → first_fault f a e ≡ first_fault f a n

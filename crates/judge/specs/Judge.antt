@@ -1,5 +1,5 @@
 -- The judge: what is refused, in the order of checking. Assumes nothing.
-use Rattle.std.specs.Prelude.{ℕ, zero, suc, ◌+◌, ◌-◌, ◌%◌, List, Bool, true, false, not, cond, ◌&&◌, length, ltb, leb, eqb, nat_abs}
+use Rattle.std.specs.Prelude.{ℕ, zero, suc, ◌+◌, ◌-◌, ◌%◌, List, Bool, true, false, not, cond, ◌&&◌, length, ltb, leb, eqb, nat_abs, Result, Ok, Err}
 use Rattle.laws.specs.Range.{first_of, any_of, count_of}
 use Rattle.scene.specs.Limits.{Limits, limits, least_weight, within}
 use Rattle.scene.specs.Bytes.{two_at, coordinate_at, weight_at}
@@ -9,22 +9,24 @@ use Rattle.scene.specs.Tables.{corner_at, face_at}
 use Rattle.scene.specs.Faces.{is_corner, has_both}
 use Rattle.scene.specs.declared.Refusal.{Refusal}
 use Rattle.scene.specs.declared.Refusal.TheVariants.{Opening, Counts, Length, Mark, Coordinate, Weight, Corner, Unused, Edge, FarAllZero}
-use Rattle.judge.specs.declared.Judged.{Judged}
-use Rattle.judge.specs.declared.Judged.TheVariants.{Accepted, Refused}
+
+-- what a rule says: nothing, or its refusal
+abbrev pub Judged : Type 0
+Judged = Result (Unit {0}) Refusal
 
 -- a rule: where its test fails, its refusal, and else what the rules after it say
 unfoldable pub refuse_unless : Bool → Refusal → Judged → Judged
 refuse_unless true r rest = rest
-refuse_unless false r rest = Refused r
+refuse_unless false r rest = Err r
 
 -- one judgement after another: the first that refuses
 unfoldable pub and_then : Judged → Judged → Judged
-and_then Accepted j = j
-and_then (Refused r) j = Refused r
+and_then (Ok _) j = j
+and_then (Err r) j = Err r
 
 -- the first refusal of f at a, a + 1, .., e - 1
 abbrev pub first_fault : (ℕ → Judged) → ℕ → ℕ → Judged
-first_fault = first_of Accepted and_then
+first_fault = first_of (Ok tt) and_then
 
 -- ---- refusals 1, 2 and 3
 
@@ -40,7 +42,7 @@ counts_ok l s =
 
 unfoldable pub header_fault : Limits → List ℕ → Judged
 header_fault l s = refuse_unless (opens s) Opening
-    (refuse_unless (counts_ok l s) Counts (refuse_unless (eqb (length s) (length_of s)) Length Accepted))
+    (refuse_unless (counts_ok l s) Counts (refuse_unless (eqb (length s) (length_of s)) Length (Ok tt)))
 
 -- ---- refusals 4 to 7 and 14, record by record
 
@@ -72,7 +74,7 @@ point_fault l s j =
     (refuse_unless (coordinate_ok l s (point_start j + 4)) (Coordinate (j + 1))
     (refuse_unless (coordinate_ok l s (point_start j + 6)) (Coordinate (j + 1))
     (refuse_unless (weight_ok l s j) (Weight (j + 1))
-    (refuse_unless (somewhere_ok s j) (FarAllZero (j + 1)) Accepted)))))
+    (refuse_unless (somewhere_ok s j) (FarAllZero (j + 1)) (Ok tt))))))
 
 -- three corners of a solid with v vertices, no two the same
 unfoldable pub are_corners : (v p q r : ℕ) → Bool
@@ -89,10 +91,10 @@ corners_ok s i = are_corners (verts_at s i) (corner_at s i 0) (corner_at s i 1) 
 unfoldable pub face_fault : List ℕ → ℕ → Judged
 face_fault s i =
     refuse_unless (eqb (two_at s (face_start s i)) markfc) (Mark (face_record s i))
-    (refuse_unless (corners_ok s i) (Corner (face_record s i)) Accepted)
+    (refuse_unless (corners_ok s i) (Corner (face_record s i)) (Ok tt))
 
 unfoldable pub end_fault : List ℕ → Judged
-end_fault s = refuse_unless (eqb (two_at s (end_start s)) marken) (Mark (last_record s)) Accepted
+end_fault s = refuse_unless (eqb (two_at s (end_start s)) marken) (Mark (last_record s)) (Ok tt)
 
 -- record k: a point, a face, or EN
 unfoldable pub record_fault : Limits → List ℕ → ℕ → Judged
@@ -117,7 +119,7 @@ is_used s p =
     cond (leb p (verts_a s)) (any_of (is_corner_of s p) 0 (faces_in_a s)) (any_of (is_corner_of s (p - verts_a s)) (faces_in_a s) (faces s))
 
 unfoldable pub unused_fault : List ℕ → ℕ → Judged
-unused_fault s p = refuse_unless (is_used s p) (Unused p) Accepted
+unused_fault s p = refuse_unless (is_used s p) (Unused p) (Ok tt)
 
 unfoldable pub unuseds_fault : List ℕ → Judged
 unuseds_fault s = first_fault (unused_fault s) 1 (verts s + 1)
@@ -137,7 +139,7 @@ unfoldable pub closed_at : List ℕ → ℕ → Bool
 closed_at s i = cond (ltb i (faces_in_a s)) (sides_ok s 0 (faces_in_a s) i) (sides_ok s (faces_in_a s) (faces s) i)
 
 unfoldable pub edge_fault : List ℕ → ℕ → Judged
-edge_fault s i = refuse_unless (closed_at s i) (Edge (face_record s i)) Accepted
+edge_fault s i = refuse_unless (closed_at s i) (Edge (face_record s i)) (Ok tt)
 
 unfoldable pub edges_fault : List ℕ → Judged
 edges_fault s = first_fault (edge_fault s) 0 (faces s)

@@ -1,6 +1,6 @@
 -- What the records that passed say of the faces: three different corners each, vertices of their solid with a place in a word.
 -- Assumes nothing.
-use Rattle.std.specs.Prelude.{ℕ, ◌+◌, ◌-◌, ◌≤◌, ◌<◌, ◌≡◌, true, List}
+use Rattle.std.specs.Prelude.{ℕ, ◌+◌, ◌-◌, ◌≤◌, ◌<◌, ◌≡◌, true, List, Ok}
 use Rattle.std.proofs.Math.Path.{sym, ap}
 use Rattle.std.proofs.Common.{◌∙◌}
 use Rattle.std.proofs.Math.Decide.{dec_lt}
@@ -13,10 +13,9 @@ use Rattle.judge.specs.Laws.{rule_ok, rule_rest}
 use Rattle.judge.specs.Cases.{record_face, verts_of_a, verts_of_b}
 use Rattle.judge.specs.Tests.{first_iff}
 use Rattle.judge.specs.Words.{places, FacesIn}
-use Rattle.judge.specs.declared.Judged.{Judged}
-use Rattle.judge.specs.declared.Judged.TheVariants.{Accepted}
+use Rattle.judge.specs.Judge.{Judged}
 
-module _ (s : List ℕ) (header : header_fault limits s ≡ Accepted) (records : records_fault limits s ≡ Accepted) where
+module _ (s : List ℕ) (header : header_fault limits s ≡ Ok tt) (records : records_fault limits s ≡ Ok tt) where
   counts_ok_law : counts_ok limits s ≡ true
   unfolding header_fault
   counts_ok_law = rule_ok (counts_ok limits s) _ _ (rule_rest (opens s) _ _ header)
@@ -32,7 +31,7 @@ module _ (s : List ℕ) (header : header_fault limits s ≡ Accepted) (records :
       go (yes h) = rw (verts_of_a s i h) few_vertices.0
       go (no h) = rw (verts_of_b s i (omega arith)) few_vertices.1
 
-  face_passed : (i : ℕ) → i < faces s → face_fault s i ≡ Accepted
+  face_passed : (i : ℕ) → i < faces s → face_fault s i ≡ Ok tt
   unfolding records_fault
   face_passed i h =
       let e : face_record s i - (2 + verts s) ≡ i = omega arith in
@@ -58,7 +57,7 @@ module _ (s : List ℕ) (header : header_fault limits s ≡ Accepted) (records :
       }
 
 -- as the two calls say it
-pub passed : (s : List ℕ) {h r : Judged} → h ≡ header_fault limits s → h ≡ Accepted → r ≡ records_fault limits s → r ≡ Accepted →
+pub passed : (s : List ℕ) {h r : Judged} → h ≡ header_fault limits s → h ≡ Ok tt → r ≡ records_fault limits s → r ≡ Ok tt →
     FacesIn s × (verts_a s < places) × (verts_b s < places)
 passed s eh h er r =
     let x = sym eh ∙ h in

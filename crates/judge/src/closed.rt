@@ -1,12 +1,10 @@
 // Refusal 8, a vertex in no face, and refusal 9, an edge that lies in an odd number of its solid's faces.
-ghost use Rattle.std.specs.Prelude.{◌≡◌, true, ◌+◌, ◌<◌, ◌≤◌};
+ghost use Rattle.std.specs.Prelude.{◌≡◌, true, ◌+◌, ◌<◌, ◌≤◌, Ok};
 ghost use Rattle.scene.specs.Records.{faces_in_a, faces_in_b, verts, verts_a, verts_b, faces};
 ghost use Rattle.scene.specs.Tables.{corner_at};
 ghost use Rattle.judge.specs.Judge.{and_then, is_used, unused_fault, unuseds_fault, closed_at, edge_fault, edges_fault};
-ghost use Rattle.judge.specs.declared.Judged.TheVariants.{Accepted};
 ghost use Rattle.judge.specs.Words.{places, CornersIn, FacesIn, AreWords, used_word, SideBy, SidesBy};
 
-use crate::Judged;
 use crate::records::corner;
 use crate::words::{PLACES, Words, are_alone, in_even, in_used, words_of};
 use scene::offsets::face_record;
@@ -26,31 +24,27 @@ fn is_used(s: &[u8], ua: u64, ub: u64, p: usize) -> bool
     in_used(ub, p - v)
 }
 
-fn unused_fault(s: &[u8], ua: u64, ub: u64, p: usize) -> Judged
+fn unused_fault(s: &[u8], ua: u64, ub: u64, p: usize) -> Result<(), Refusal>
     requires words { (ua ≡ used_word s.now 0 (faces_in_a s.now)) × (ub ≡ used_word s.now (faces_in_a s.now) (faces_in_b s.now)) }
     requires point { (p ≤ verts s.now) × (verts_a s.now < places) × (verts_b s.now < places) }
     ensures { result ≡ unused_fault s.now p }
 {
     if !is_used(s, ua, ub, p) {
-        return Judged::Refused(Refusal::Unused(p));
+        return Err(Refusal::Unused(p));
     }
-    Judged::Accepted
+    Ok(())
 }
 
-fn unuseds_fault(s: &[u8], ua: u64, ub: u64) -> Judged
+fn unuseds_fault(s: &[u8], ua: u64, ub: u64) -> Result<(), Refusal>
     requires words { (ua ≡ used_word s.now 0 (faces_in_a s.now)) × (ub ≡ used_word s.now (faces_in_a s.now) (faces_in_b s.now)) }
     requires vertices { (verts_a s.now < places) × (verts_b s.now < places) }
     ensures { result ≡ unuseds_fault s.now }
 {
     let n = offsets::vertices(s);
-    let mut p = 1;
-    while p < n + 1 {
-        if let Judged::Refused(r) = unused_fault(s, ua, ub, p) {
-            return Judged::Refused(r);
-        }
-        p += 1;
+    for p in 1..n + 1 {
+        unused_fault(s, ua, ub, p)?;
     }
-    Judged::Accepted
+    Ok(())
 }
 
 // The side from corner m to corner n of the file's face i lies in an even number of the faces whose words these are.
@@ -86,22 +80,22 @@ fn is_closed_at(s: &[u8], wa: &Words, wb: &Words, i: usize) -> bool
     sides_ok(s, wb, i)
 }
 
-fn edge_fault(s: &[u8], wa: &Words, wb: &Words, i: usize) -> Judged
+fn edge_fault(s: &[u8], wa: &Words, wb: &Words, i: usize) -> Result<(), Refusal>
     requires face { (i < 1024) × CornersIn s.now i }
     requires words { AreWords s.now 0 (faces_in_a s.now) wa.now × AreWords s.now (faces_in_a s.now) (faces_in_b s.now) wb.now }
     ensures { result ≡ edge_fault s.now i }
 {
     if !is_closed_at(s, wa, wb, i) {
-        return Judged::Refused(Refusal::Edge(face_record(s, i)));
+        return Err(Refusal::Edge(face_record(s, i)));
     }
-    Judged::Accepted
+    Ok(())
 }
 
 // The words alone tell that no edge lies in an odd number of faces.
 fn none_odd(s: &[u8], wa: &Words, wb: &Words) -> bool
     requires faces { FacesIn s.now × (verts_a s.now < places) × (verts_b s.now < places) }
     requires words { AreWords s.now 0 (faces_in_a s.now) wa.now × AreWords s.now (faces_in_a s.now) (faces_in_b s.now) wb.now }
-    ensures { result ≡ true → edges_fault s.now ≡ Accepted }
+    ensures { result ≡ true → edges_fault s.now ≡ Ok tt }
 {
     if !are_alone(wa, byte(s, 2)) {
         return false;
@@ -110,27 +104,23 @@ fn none_odd(s: &[u8], wa: &Words, wb: &Words) -> bool
 }
 
 // An odd edge is looked for face by face only where there is one.
-fn edges_fault(s: &[u8], wa: &Words, wb: &Words) -> Judged
+fn edges_fault(s: &[u8], wa: &Words, wb: &Words) -> Result<(), Refusal>
     requires faces { FacesIn s.now × (verts_a s.now < places) × (verts_b s.now < places) }
     requires words { AreWords s.now 0 (faces_in_a s.now) wa.now × AreWords s.now (faces_in_a s.now) (faces_in_b s.now) wb.now }
     ensures { result ≡ edges_fault s.now }
 {
     if none_odd(s, wa, wb) {
-        return Judged::Accepted;
+        return Ok(());
     }
     let n = offsets::faces(s);
-    let mut i = 0;
-    while i < n {
-        if let Judged::Refused(r) = edge_fault(s, wa, wb, i) {
-            return Judged::Refused(r);
-        }
-        i += 1;
+    for i in 0..n {
+        edge_fault(s, wa, wb, i)?;
     }
-    Judged::Accepted
+    Ok(())
 }
 
 // Of a file whose records passed.
-pub fn solids_fault(s: &[u8]) -> Judged
+pub fn solids_fault(s: &[u8]) -> Result<(), Refusal>
     requires { FacesIn s.now × (verts_a s.now < places) × (verts_b s.now < places) }
     ensures { result ≡ and_then (unuseds_fault s.now) (edges_fault s.now) }
 {
@@ -140,8 +130,6 @@ pub fn solids_fault(s: &[u8]) -> Judged
     let ua = words_of(s, 0, a, &mut wa);
     let mut wb: Words = [0; PLACES];
     let ub = words_of(s, a, b, &mut wb);
-    if let Judged::Refused(r) = unuseds_fault(s, ua, ub) {
-        return Judged::Refused(r);
-    }
+    unuseds_fault(s, ua, ub)?;
     edges_fault(s, &wa, &wb)
 }

@@ -5,7 +5,6 @@ ghost use Rattle.scene.specs.Bytes.{byte_at};
 ghost use Rattle.scene.specs.Records.{length_of};
 ghost use Rattle.judge.specs.Judge.{opens, counts_ok, header_fault};
 
-use crate::Judged;
 use scene::offsets::length_of;
 use scene::read::{byte, two};
 use scene::{Refusal, Scene, is_within};
@@ -53,17 +52,17 @@ fn length_ok(s: &[u8]) -> bool
     s.len() == length_of(s)
 }
 
-pub fn header_fault(s: &[u8]) -> Judged
+pub fn header_fault(s: &[u8]) -> Result<(), Refusal>
     ensures { result ≡ header_fault limits s.now }
 {
     if !opens(s) {
-        return Judged::Refused(Refusal::Opening);
+        return Err(Refusal::Opening);
     }
     if !counts_ok(s) {
-        return Judged::Refused(Refusal::Counts);
+        return Err(Refusal::Counts);
     }
     if !length_ok(s) {
-        return Judged::Refused(Refusal::Length);
+        return Err(Refusal::Length);
     }
-    Judged::Accepted
+    Ok(())
 }

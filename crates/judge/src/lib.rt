@@ -12,21 +12,11 @@ mod points;
 mod records;
 mod words;
 
-#[derive(Clone, Copy)]
-pub enum Judged {
-    Accepted,
-    Refused(Refusal),
-}
-
 // Refusals 1, 2, 3; then 4 to 7 and 14 record by record; then 8; then 9.
-pub fn judge(s: &[u8]) -> Judged
+pub fn judge(s: &[u8]) -> Result<(), Refusal>
     ensures { result ≡ judged s.now }
 {
-    if let Judged::Refused(r) = header::header_fault(s) {
-        return Judged::Refused(r);
-    }
-    if let Judged::Refused(r) = records::records_fault(s) {
-        return Judged::Refused(r);
-    }
+    header::header_fault(s)?;
+    records::records_fault(s)?;
     closed::solids_fault(s)
 }

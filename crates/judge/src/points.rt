@@ -5,7 +5,6 @@ ghost use Rattle.scene.specs.Bytes.{two_at, coordinate_at, weight_at, signed};
 ghost use Rattle.scene.specs.Records.{point_start};
 ghost use Rattle.judge.specs.Judge.{coordinate_ok, weight_ok, nowhere, somewhere_ok, point_mark, point_fault};
 
-use crate::Judged;
 use scene::read::{byte, two};
 use scene::{Refusal, Scene, is_within};
 
@@ -89,28 +88,28 @@ fn point_marked(s: &[u8], j: usize) -> bool
 }
 
 // Refusals 4, 5, 6 and 14 of the file's point j: 0 is the far point, then come the vertices.
-pub fn point_fault(s: &[u8], j: usize) -> Judged
+pub fn point_fault(s: &[u8], j: usize) -> Result<(), Refusal>
     requires { j < 1024 }
     ensures { result ≡ point_fault limits s.now j }
 {
     let at = 6 + j * 9;
     if !point_marked(s, j) {
-        return Judged::Refused(Refusal::Mark(j + 1));
+        return Err(Refusal::Mark(j + 1));
     }
     if !coordinate_ok(s, at + 2) {
-        return Judged::Refused(Refusal::Coordinate(j + 1));
+        return Err(Refusal::Coordinate(j + 1));
     }
     if !coordinate_ok(s, at + 4) {
-        return Judged::Refused(Refusal::Coordinate(j + 1));
+        return Err(Refusal::Coordinate(j + 1));
     }
     if !coordinate_ok(s, at + 6) {
-        return Judged::Refused(Refusal::Coordinate(j + 1));
+        return Err(Refusal::Coordinate(j + 1));
     }
     if !weight_ok(s, j) {
-        return Judged::Refused(Refusal::Weight(j + 1));
+        return Err(Refusal::Weight(j + 1));
     }
     if !somewhere_ok(s, j) {
-        return Judged::Refused(Refusal::FarAllZero(j + 1));
+        return Err(Refusal::FarAllZero(j + 1));
     }
-    Judged::Accepted
+    Ok(())
 }

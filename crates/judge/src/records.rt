@@ -6,7 +6,6 @@ ghost use Rattle.scene.specs.Records.{face_start, end_start, last_record, markfc
 ghost use Rattle.scene.specs.Tables.{corner_at};
 ghost use Rattle.judge.specs.Judge.{verts_at, are_corners, corners_ok, face_fault, end_fault, record_fault, records_fault};
 
-use crate::Judged;
 use crate::points::point_fault;
 use scene::offsets::{face_record, face_start, last_record};
 use scene::read::{byte, two};
@@ -72,17 +71,17 @@ fn corners_ok(s: &[u8], i: usize) -> bool
 }
 
 // Refusals 4 and 7 of the file's face i.
-fn face_fault(s: &[u8], i: usize) -> Judged
+fn face_fault(s: &[u8], i: usize) -> Result<(), Refusal>
     requires { i < 1024 }
     ensures { result ≡ face_fault s.now i }
 {
     if !face_marked(s, i) {
-        return Judged::Refused(Refusal::Mark(face_record(s, i)));
+        return Err(Refusal::Mark(face_record(s, i)));
     }
     if !corners_ok(s, i) {
-        return Judged::Refused(Refusal::Corner(face_record(s, i)));
+        return Err(Refusal::Corner(face_record(s, i)));
     }
-    Judged::Accepted
+    Ok(())
 }
 
 fn end_marked(s: &[u8]) -> bool
@@ -92,17 +91,17 @@ fn end_marked(s: &[u8]) -> bool
 }
 
 // Refusal 4 of the last record.
-fn end_fault(s: &[u8]) -> Judged
+fn end_fault(s: &[u8]) -> Result<(), Refusal>
     ensures { result ≡ end_fault s.now }
 {
     if !end_marked(s) {
-        return Judged::Refused(Refusal::Mark(last_record(s)));
+        return Err(Refusal::Mark(last_record(s)));
     }
-    Judged::Accepted
+    Ok(())
 }
 
 // Refusals 4 to 7 and 14 of record k, from 1 to the last.
-fn record_fault(s: &[u8], k: usize) -> Judged
+fn record_fault(s: &[u8], k: usize) -> Result<(), Refusal>
     requires { (1 ≤ k) × (k ≤ last_record s.now) }
     ensures { result ≡ record_fault limits s.now k }
 {
@@ -116,16 +115,12 @@ fn record_fault(s: &[u8], k: usize) -> Judged
     end_fault(s)
 }
 
-pub fn records_fault(s: &[u8]) -> Judged
+pub fn records_fault(s: &[u8]) -> Result<(), Refusal>
     ensures { result ≡ records_fault limits s.now }
 {
     let e = last_record(s) + 1;
-    let mut k = 1;
-    while k < e {
-        if let Judged::Refused(r) = record_fault(s, k) {
-            return Judged::Refused(r);
-        }
-        k += 1;
+    for k in 1..e {
+        record_fault(s, k)?;
     }
-    Judged::Accepted
+    Ok(())
 }

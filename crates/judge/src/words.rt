@@ -49,10 +49,8 @@ pub fn words_of(s: &[u8], a: usize, n: usize, words: &mut Words) -> u64
     ensures { AreWords s.now a n words.new × (result ≡ used_word s.now a n) }
 {
     let mut used: u64 = 0;
-    let mut k = 0;
-    while k < n {
+    for k in 0..n {
         used = used | turn_face(words, s, a + k);
-        k += 1;
     }
     used
 }
@@ -70,14 +68,7 @@ pub fn are_alone(words: &Words, n: usize) -> bool
     requires { n < places }
     ensures { result ≡ true → Alone words.now n }
 {
-    let mut v = 0;
-    while v < n + 1 {
-        if !is_alone(words, v) {
-            return false;
-        }
-        v += 1;
-    }
-    true
+    (0..n + 1).all(|v| is_alone(words, v))
 }
 
 // v and w are together in an even number of faces.

@@ -1,20 +1,19 @@
 // How many pairs are pierced, and how many vertices are enclosed.
-ghost use Rattle.std.specs.Prelude.{◌≡◌};
+ghost use Rattle.std.specs.Prelude.{◌≡◌, Ok};
 ghost use Rattle.scene.specs.View.{view_of};
 ghost use Rattle.judge.specs.Judge.{judged};
-ghost use Rattle.judge.specs.declared.Judged.TheVariants.{Accepted};
 ghost use Rattle.questions.specs.Answers.{counts_in, counted_of};
 
-use judge::Judged;
 use pierce_engine::Engine;
-use questions::{Counted, Counts};
+use questions::Counts;
+use scene::Refusal;
 use survey::answers::{count_inside, count_pairs};
 use survey_edges::{ENDS, Ends, Masks};
 use survey_scene::survey_of;
 
 // Of an accepted scene.
 fn counts_of(engine: Engine, s: &[u8]) -> Counts
-    requires { judged s.now ≡ Accepted }
+    requires { judged s.now ≡ Ok tt }
     ensures { result ≡ counts_in (view_of s.now) }
 {
     let mut aends: Ends = [0; ENDS];
@@ -29,11 +28,9 @@ fn counts_of(engine: Engine, s: &[u8]) -> Counts
     }
 }
 
-pub fn count(engine: Engine, s: &[u8]) -> Counted
+pub fn count(engine: Engine, s: &[u8]) -> Result<Counts, Refusal>
     ensures { result ≡ counted_of s.now }
 {
-    if let Judged::Refused(r) = judge::judge(s) {
-        return Counted::Refused(r);
-    }
-    Counted::Counts(counts_of(engine, s))
+    judge::judge(s)?;
+    Ok(counts_of(engine, s))
 }

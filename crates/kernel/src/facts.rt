@@ -1,21 +1,20 @@
 // Everything that is asked of a whole scene in one answer, for which it is judged, decoded and surveyed once: the verdict, the counts, the
 // words of the enclosed vertices, and the listing into a lent list where that has room.
-ghost use Rattle.std.specs.Prelude.{◌≡◌};
+ghost use Rattle.std.specs.Prelude.{◌≡◌, Ok};
 ghost use Rattle.judge.specs.Judge.{judged};
-ghost use Rattle.judge.specs.declared.Judged.TheVariants.{Accepted};
 ghost use Rattle.scene.specs.View.{view_of};
 ghost use Rattle.survey_scene.specs.Facts.{IsSurvey, Gathered};
 
-use judge::Judged;
 use pierce_engine::Engine;
-use questions::{Counts, Facts, Surveyed};
+use questions::{Counts, Facts};
+use scene::Refusal;
 use survey::answers::count_inside;
 use survey_edges::{ENDS, Ends, Masks};
 use survey_scene::{survey_of, verdict_read, write_read};
 
 // Of an accepted scene.
 fn gather(engine: Engine, s: &[u8], out: &mut [u16]) -> Facts
-    requires { judged s.now ≡ Accepted }
+    requires { judged s.now ≡ Ok tt }
     ensures { Gathered (view_of s.now) out.old out.new result }
 {
     let mut aends: Ends = [0; ENDS];
@@ -38,11 +37,9 @@ fn gather(engine: Engine, s: &[u8], out: &mut [u16]) -> Facts
 }
 
 // A list that has not three places for each pair keeps its contents; the facts then say how many pairs there are.
-pub fn survey(engine: Engine, s: &[u8], out: &mut [u16]) -> Surveyed
+pub fn survey(engine: Engine, s: &[u8], out: &mut [u16]) -> Result<Facts, Refusal>
     ensures { IsSurvey s.now out.old out.new result }
 {
-    if let Judged::Refused(r) = judge::judge(s) {
-        return Surveyed::Refused(r);
-    }
-    Surveyed::Facts(gather(engine, s, out))
+    judge::judge(s)?;
+    Ok(gather(engine, s, out))
 }

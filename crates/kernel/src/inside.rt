@@ -1,13 +1,10 @@
 // How many vertices of one solid the other encloses.
-ghost use Rattle.std.specs.Prelude.{◌≡◌};
+ghost use Rattle.std.specs.Prelude.{◌≡◌, Ok};
 ghost use Rattle.scene.specs.View.{view_of};
 ghost use Rattle.judge.specs.Judge.{judged};
-ghost use Rattle.judge.specs.declared.Judged.TheVariants.{Accepted};
 ghost use Rattle.questions.specs.Answers.{inside_fault, inside_in, inside_of};
 
-use judge::Judged;
 use pierce_engine::Engine;
-use questions::Enclosing;
 use scene::offsets::points;
 use scene::read::solid;
 use scene::{Corners, Refusal, Rows, Scene, decode, is_within};
@@ -15,18 +12,18 @@ use survey::answers::count_inside;
 use survey::survey_solid;
 use survey_edges::{ENDS, Ends, Masks};
 
-fn inside_fault(k: usize) -> Judged
+fn inside_fault(k: usize) -> Result<(), Refusal>
     ensures { result ≡ inside_fault k }
 {
     if !is_within(1, 2, k) {
-        return Judged::Refused(Refusal::NoSuchNumber);
+        return Err(Refusal::NoSuchNumber);
     }
-    Judged::Accepted
+    Ok(())
 }
 
 // Of an accepted scene.
 fn inside_of(engine: Engine, s: &[u8], k: usize) -> usize
-    requires { judged s.now ≡ Accepted }
+    requires { judged s.now ≡ Ok tt }
     ensures { result ≡ inside_in (view_of s.now) k }
 {
     let mut rows: Rows = [0; Scene::ROWS];
@@ -42,14 +39,10 @@ fn inside_of(engine: Engine, s: &[u8], k: usize) -> usize
 }
 
 // Of solid k, 1 for A and 2 for B.
-pub fn inside(engine: Engine, s: &[u8], k: usize) -> Enclosing
+pub fn inside(engine: Engine, s: &[u8], k: usize) -> Result<usize, Refusal>
     ensures { result ≡ inside_of s.now k }
 {
-    if let Judged::Refused(r) = judge::judge(s) {
-        return Enclosing::Refused(r);
-    }
-    if let Judged::Refused(r) = inside_fault(k) {
-        return Enclosing::Refused(r);
-    }
-    Enclosing::Count(inside_of(engine, s, k))
+    judge::judge(s)?;
+    inside_fault(k)?;
+    Ok(inside_of(engine, s, k))
 }

@@ -1,21 +1,18 @@
 // The listing: every pierced pair once, into a lent list of numbers, three for each.
-ghost use Rattle.std.specs.Prelude.{◌≡◌};
+ghost use Rattle.std.specs.Prelude.{◌≡◌, Ok};
 ghost use Rattle.judge.specs.Judge.{judged};
-ghost use Rattle.judge.specs.declared.Judged.TheVariants.{Accepted};
 ghost use Rattle.scene.specs.View.{view_of};
 ghost use Rattle.questions.specs.Answers.{listing_in, IsListed, IsPart};
 ghost use Rattle.questions.specs.Listings.{PouredIf};
 
-use judge::Judged;
 use pierce_engine::Engine;
-use questions::Listed;
 use scene::Refusal;
 use survey_edges::{ENDS, Ends, Masks};
 use survey_scene::{survey_of, write_read};
 
 // Of an accepted scene.
 fn write_pairs(engine: Engine, s: &[u8], from: usize, all: bool, out: &mut [u16]) -> usize
-    requires { judged s.now ≡ Accepted }
+    requires { judged s.now ≡ Ok tt }
     ensures { PouredIf (listing_in (view_of s.now)) from all out.old out.new result }
 {
     let mut aends: Ends = [0; ENDS];
@@ -27,26 +24,27 @@ fn write_pairs(engine: Engine, s: &[u8], from: usize, all: bool, out: &mut [u16]
 }
 
 // The whole listing, or refusal 10 with the count.
-pub fn listing(engine: Engine, s: &[u8], out: &mut [u16]) -> Listed
+pub fn listing(engine: Engine, s: &[u8], out: &mut [u16]) -> Result<usize, Refusal>
     ensures { IsListed s.now out.old out.new result }
 {
-    if let Judged::Refused(r) = judge::judge(s) {
-        return Listed::Refused(r);
-    }
+    judge::judge(s)?;
     let n = write_pairs(engine, s, 0, true, out);
     if n > out.len() / 3 {
-        return Listed::Refused(Refusal::ListTooShort(n));
+        return Err(Refusal::ListTooShort(n));
     }
-    Listed::Count(n)
+    Ok(n)
 }
 
 // The part of the listing from the pair numbered `from` on (from 0) for which the lent list has room; the answer counts the whole. A
 // program prints a listing longer than its buffer part by part.
-pub fn listing_part(engine: Engine, s: &[u8], from: usize, out: &mut [u16]) -> Listed
+pub fn listing_part(
+    engine: Engine,
+    s: &[u8],
+    from: usize,
+    out: &mut [u16],
+) -> Result<usize, Refusal>
     ensures { IsPart s.now from out.old out.new result }
 {
-    if let Judged::Refused(r) = judge::judge(s) {
-        return Listed::Refused(r);
-    }
-    Listed::Count(write_pairs(engine, s, from, false, out))
+    judge::judge(s)?;
+    Ok(write_pairs(engine, s, from, false, out))
 }

@@ -1,18 +1,15 @@
 // Questions about a solid: the faces that an edge pierces, and whether a vertex is enclosed.
-ghost use Rattle.std.specs.Prelude.{◌≡◌};
+ghost use Rattle.std.specs.Prelude.{◌≡◌, Ok};
 ghost use Rattle.scene.specs.View.{view_of};
 ghost use Rattle.pierce_masks.specs.Faces.{value_of};
 ghost use Rattle.judge.specs.Judge.{judged};
-ghost use Rattle.judge.specs.declared.Judged.TheVariants.{Accepted};
 ghost use Rattle.questions.specs.Answers.{is_vertex_of, edge_and_solid, ends_off_solid, mask_fault, mask_in, said_mask, masked_of, enclosed_fault};
 ghost use Rattle.questions.specs.Answers.{other_solid, enclosed_of};
 ghost use Rattle.questions.specs.Asked.{Outside};
 
 use crate::points::is_point;
-use judge::Judged;
 use pierce_engine::Engine;
 use pierce_masks::Mask;
-use questions::{Answer, Masked};
 use scene::offsets::{points, vertices};
 use scene::read::{counts, solid};
 use scene::{Corners, Refusal, Rows, Scene, decode, is_within};
@@ -49,21 +46,21 @@ fn are_outside(s: &[u8], u: usize, v: usize, k: usize) -> bool
     !is_vertex_of(s, k, v)
 }
 
-fn mask_fault(s: &[u8], u: usize, v: usize, k: usize) -> Judged
+fn mask_fault(s: &[u8], u: usize, v: usize, k: usize) -> Result<(), Refusal>
     ensures { result ≡ mask_fault (view_of s.now) u v k }
 {
     if !has_edge_and_solid(s, u, v, k) {
-        return Judged::Refused(Refusal::NoSuchNumber);
+        return Err(Refusal::NoSuchNumber);
     }
     if !are_outside(s, u, v, k) {
-        return Judged::Refused(Refusal::NotDistinct);
+        return Err(Refusal::NotDistinct);
     }
-    Judged::Accepted
+    Ok(())
 }
 
 // The mask of u, v against the solid k of an accepted scene.
 fn mask_of(engine: Engine, s: &[u8], u: usize, v: usize, k: usize) -> Mask
-    requires { (judged s.now ≡ Accepted) × Outside (view_of s.now) u v k }
+    requires { (judged s.now ≡ Ok tt) × Outside (view_of s.now) u v k }
     ensures { value_of result ≡ mask_in (view_of s.now) u v k }
 {
     let mut rows: Rows = [0; Scene::ROWS];
@@ -75,26 +72,28 @@ fn mask_of(engine: Engine, s: &[u8], u: usize, v: usize, k: usize) -> Mask
 }
 
 // The mask of u, v against solid k, with the number of its ones.
-pub fn mask(engine: Engine, s: &[u8], u: usize, v: usize, k: usize) -> Masked
+pub fn mask(
+    engine: Engine,
+    s: &[u8],
+    u: usize,
+    v: usize,
+    k: usize,
+) -> Result<(Mask, usize), Refusal>
     ensures { said_mask result ≡ masked_of s.now u v k }
 {
-    if let Judged::Refused(r) = judge::judge(s) {
-        return Masked::Refused(r);
-    }
-    if let Judged::Refused(r) = mask_fault(s, u, v, k) {
-        return Masked::Refused(r);
-    }
+    judge::judge(s)?;
+    mask_fault(s, u, v, k)?;
     let m = mask_of(engine, s, u, v, k);
-    Masked::Faces(m, pierce_masks::ones(m))
+    Ok((m, pierce_masks::ones(m)))
 }
 
-fn enclosed_fault(s: &[u8], i: usize) -> Judged
+fn enclosed_fault(s: &[u8], i: usize) -> Result<(), Refusal>
     ensures { result ≡ enclosed_fault (view_of s.now) i }
 {
     if !is_within(1, vertices(s), i) {
-        return Judged::Refused(Refusal::NoSuchNumber);
+        return Err(Refusal::NoSuchNumber);
     }
-    Judged::Accepted
+    Ok(())
 }
 
 // The solid that may enclose vertex i.
@@ -109,17 +108,10 @@ fn other_solid(s: &[u8], i: usize) -> usize
 }
 
 // Whether the vertex with point number i is enclosed by the other solid.
-pub fn enclosed(engine: Engine, s: &[u8], i: usize) -> Answer
+pub fn enclosed(engine: Engine, s: &[u8], i: usize) -> Result<bool, Refusal>
     ensures { result ≡ enclosed_of s.now i }
 {
-    if let Judged::Refused(r) = judge::judge(s) {
-        return Answer::Refused(r);
-    }
-    if let Judged::Refused(r) = enclosed_fault(s, i) {
-        return Answer::Refused(r);
-    }
-    if pierce_masks::is_odd(mask_of(engine, s, i, points(s), other_solid(s, i))) {
-        return Answer::Yes;
-    }
-    Answer::No
+    judge::judge(s)?;
+    enclosed_fault(s, i)?;
+    Ok(pierce_masks::is_odd(mask_of(engine, s, i, points(s), other_solid(s, i))))
 }

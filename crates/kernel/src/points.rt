@@ -3,9 +3,8 @@ ghost use Rattle.std.specs.Prelude.{◌≡◌};
 ghost use Rattle.scene.specs.View.{view_of};
 ghost use Rattle.questions.specs.Answers.{is_point, are_points, differ, sign_fault, sign_of, ends_off_face, edge_and_face, pierces_fault, pierces_of};
 
-use judge::Judged;
+use orient::Terms;
 use pierce_engine::Engine;
-use questions::{Answer, Signed};
 use scene::offsets::points;
 use scene::read::corners;
 use scene::{Face, Refusal, Rows, Scene, decode, is_within, offsets};
@@ -53,32 +52,28 @@ fn differ(a: usize, b: usize, c: usize, d: usize) -> bool
     c != d
 }
 
-fn sign_fault(s: &[u8], a: usize, b: usize, c: usize, d: usize) -> Judged
+fn sign_fault(s: &[u8], a: usize, b: usize, c: usize, d: usize) -> Result<(), Refusal>
     ensures { result ≡ sign_fault (view_of s.now) a b c d }
 {
     if !are_points(s, a, b, c, d) {
-        return Judged::Refused(Refusal::NoSuchNumber);
+        return Err(Refusal::NoSuchNumber);
     }
     if !differ(a, b, c, d) {
-        return Judged::Refused(Refusal::NotDistinct);
+        return Err(Refusal::NotDistinct);
     }
-    Judged::Accepted
+    Ok(())
 }
 
 // The sign of points a, b, c and d, in the order asked.
-pub fn sign(s: &[u8], a: usize, b: usize, c: usize, d: usize) -> Signed
+pub fn sign(s: &[u8], a: usize, b: usize, c: usize, d: usize) -> Result<(Terms, bool), Refusal>
     ensures { result ≡ sign_of s.now a b c d }
 {
-    if let Judged::Refused(r) = judge::judge(s) {
-        return Signed::Refused(r);
-    }
-    if let Judged::Refused(r) = sign_fault(s, a, b, c, d) {
-        return Signed::Refused(r);
-    }
+    judge::judge(s)?;
+    sign_fault(s, a, b, c, d)?;
     let mut rows: Rows = [0; Scene::ROWS];
     decode::rows(s, &mut rows);
     let terms = orient::terms_at(&rows, a, b, c, d);
-    Signed::Sign(terms, orient::positive_at(&rows, a, b, c, d))
+    Ok((terms, orient::positive_at(&rows, a, b, c, d)))
 }
 
 // No end of the edge is a corner of the face, and the ends differ.
@@ -112,32 +107,25 @@ fn has_edge_and_face(s: &[u8], u: usize, v: usize, f: usize) -> bool
     is_within(1, offsets::faces(s), f)
 }
 
-fn pierces_fault(s: &[u8], u: usize, v: usize, f: usize) -> Judged
+fn pierces_fault(s: &[u8], u: usize, v: usize, f: usize) -> Result<(), Refusal>
     ensures { result ≡ pierces_fault (view_of s.now) u v f }
 {
     if !has_edge_and_face(s, u, v, f) {
-        return Judged::Refused(Refusal::NoSuchNumber);
+        return Err(Refusal::NoSuchNumber);
     }
     if !is_clear_of(s, u, v, f) {
-        return Judged::Refused(Refusal::NotDistinct);
+        return Err(Refusal::NotDistinct);
     }
-    Judged::Accepted
+    Ok(())
 }
 
 // Whether the edge from u to v pierces face f.
-pub fn pierces(engine: Engine, s: &[u8], u: usize, v: usize, f: usize) -> Answer
+pub fn pierces(engine: Engine, s: &[u8], u: usize, v: usize, f: usize) -> Result<bool, Refusal>
     ensures { result ≡ pierces_of s.now u v f }
 {
-    if let Judged::Refused(r) = judge::judge(s) {
-        return Answer::Refused(r);
-    }
-    if let Judged::Refused(r) = pierces_fault(s, u, v, f) {
-        return Answer::Refused(r);
-    }
+    judge::judge(s)?;
+    pierces_fault(s, u, v, f)?;
     let mut rows: Rows = [0; Scene::ROWS];
     decode::rows(s, &mut rows);
-    if pierce_engine::pierces(engine, &rows, points(s), u, v, corners(s, f)) {
-        return Answer::Yes;
-    }
-    Answer::No
+    Ok(pierce_engine::pierces(engine, &rows, points(s), u, v, corners(s, f)))
 }

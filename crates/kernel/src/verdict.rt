@@ -2,16 +2,14 @@
 ghost use Rattle.std.specs.Prelude.{◌≡◌};
 ghost use Rattle.questions.specs.Answers.{verdict_of};
 
-use judge::Judged;
 use pierce_engine::Engine;
 use questions::Verdict;
+use scene::Refusal;
 use survey_scene::{first_or_enclosed, verdict_by};
 
-pub fn verdict_of(engine: Engine, s: &[u8]) -> Verdict
+pub fn verdict_of(engine: Engine, s: &[u8]) -> Result<Verdict, Refusal>
     ensures { result ≡ verdict_of s.now }
 {
-    if let Judged::Refused(r) = judge::judge(s) {
-        return Verdict::Refused(r);
-    }
-    verdict_by(s, first_or_enclosed(engine, s))
+    judge::judge(s)?;
+    Ok(verdict_by(s, first_or_enclosed(engine, s)))
 }

@@ -21,3 +21,5 @@ pub mod Runs
 pub mod Lowest
 pub mod Parts
 pub mod Never
+pub mod Exits
+pub mod Chains

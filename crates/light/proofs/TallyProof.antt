@@ -1,6 +1,6 @@
 -- Over any calls each count grows by how often its colour was answered; from sixteen zeros it is how often. The first million calls are
 -- answered with a colour, and those after them with 16. Assumes nothing.
-use Rattle.std.specs.Prelude.{◌≡◌, refl, ◌⊎◌, Bool, not, ◌||◌, List, [], ◌∷◌, ℕ, zero, suc, ◌+◌, ◌*◌, ◌≤◌, ◌<◌, eqb, leb, ltb, length}
+use Rattle.std.specs.Prelude.{◌≡◌, refl, ◌⊎◌, Bool, not, ◌||◌, List, [], ◌∷◌, ℕ, zero, suc, ◌+◌, ◌*◌, ◌≤◌, ◌<◌, eqb, leb, ltb, length, Ok, Err}
 use Rattle.std.proofs.Math.Path.{sym, ap, subst}
 use Rattle.std.proofs.Common.{◌∙◌, inl, inr, add-zero, zero-add, add_assoc, arith, eqb→eq, ltb→lt, nltb→le, eq-eqb, ne_eqb, le-leb, leb-true, leb-false}
 use Rattle.std.proofs.Math.Bool.{true, false, cond}
@@ -10,8 +10,8 @@ use Rattle.questions.specs.Answers.{verdict_of}
 use Rattle.light.specs.Light.{light_number, colour_of, count_of, more, total, is_full, light_of, left_of}
 use Rattle.light.specs.Cases.{colour_lt}
 use Rattle.light.specs.Words.{put_length, word_put, word_other}
-use Rattle.light.specs.declared.Light.{Light}
-use Rattle.light.specs.declared.Light.TheVariants.{Uncounted}
+use Rattle.light.specs.Light.{Lit}
+use Rattle.light.specs.declared.LightError.TheVariants.{Uncounted}
 use Rattle.light.specs.Tally.{one, after, times, zeros, full_light, open_light}
 
 -- ---- one more of a colour
@@ -81,7 +81,7 @@ full_is l e = ap (λ (b : Bool). not b || leb 1000000 (total l)) (eq-eqb (length
 
 module _ (s l : List ℕ) where
   abbrev c : ℕ
-  c = light_number (colour_of (verdict_of s))
+  c = light_number (Ok (colour_of (verdict_of s)))
 
   full_left : is_full l ≡ true → left_of s l ≡ l
   unfolding left_of
@@ -102,12 +102,12 @@ module _ (s l : List ℕ) where
         go true h = (
           ap (λ (m : List ℕ). count_of m k) (full_left h) ∙ sym (add-zero (count_of l k))
               ∙ ap (λ (b : Bool). count_of l k + cond b 1 0) (sym (ne_eqb 16 k (sixteen k small)))
-              ∙ ap (λ (r : Light). count_of l k + one k r) (sym (full_light s l h)),
+              ∙ ap (λ (r : Lit). count_of l k + one k r) (sym (full_light s l h)),
           ap length (full_left h) ∙ e,
         )
         go false h = (
           ap (λ (m : List ℕ). count_of m k) (open_left h) ∙ more_count l c (colour_lt (verdict_of s)) e (below h) k
-              ∙ ap (λ (r : Light). count_of l k + one k r) (sym (open_light s l h)),
+              ∙ ap (λ (r : Lit). count_of l k + one k r) (sym (open_light s l h)),
           ap length (open_left h) ∙ more_length l c (colour_lt (verdict_of s)) e (below h),
         )
 
@@ -168,13 +168,13 @@ pub from_zeros : (k : ℕ) → k < 4 → (ss : List (List ℕ)) → count_of (af
 from_zeros k h ss = tallied k h ss zeros refl ∙ ap (λ (n : ℕ). n + times k ss zeros) (nought k h) ∙ zero-add (times k ss zeros)
 
 -- fewer than a million calls leave room for one more; from the millionth on there is none
-pub first_million : (ss : List (List ℕ)) (s : List ℕ) → length ss < 1000000 → light_of s (after ss zeros) ≡ colour_of (verdict_of s)
+pub first_million : (ss : List (List ℕ)) (s : List ℕ) → length ss < 1000000 → light_of s (after ss zeros) ≡ Ok (colour_of (verdict_of s))
 first_million ss s h =
     let t = each_counted ss zeros refl (omega arith) in
     open_light s (after ss zeros) (open_at (after ss zeros) (after_length ss zeros refl) (omega arith))
 
 pub then_none : (ss : List (List ℕ)) (s : List ℕ) → 1000000 ≤ length ss →
-    (light_of s (after ss zeros) ≡ Uncounted) × (left_of s (after ss zeros) ≡ after ss zeros)
+    (light_of s (after ss zeros) ≡ Err Uncounted) × (left_of s (after ss zeros) ≡ after ss zeros)
 then_none ss s h =
     let t = filled ss zeros refl (omega arith) (omega arith) in
     let f = full_at (after ss zeros) (after_length ss zeros refl) (omega arith) in

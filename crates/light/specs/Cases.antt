@@ -1,9 +1,9 @@
 -- What the tests of a call say, and a colour's number. What a call answers and leaves by them stands in `CasesProof`. Assumes nothing.
-use Rattle.std.specs.Prelude.{◌≡◌, refl, Bool, true, false, not, ◌||◌, List, ℕ, ◌<◌, eqb, leb, length}
+use Rattle.std.specs.Prelude.{◌≡◌, refl, Bool, true, false, not, ◌||◌, List, ℕ, ◌<◌, eqb, leb, length, Err, Ok}
 use Rattle.std.proofs.Common.{sym, ◌∙◌, arith, eq-eqb, ne_eqb, eqb-true}
 use Rattle.std.proofs.Math.Path.{ap}
 use Rattle.questions.specs.Answers.{verdict_of}
-use Rattle.questions.specs.declared.Verdict.{Verdict}
+use Rattle.questions.specs.Types.{Concluded}
 use Rattle.questions.specs.declared.Verdict.TheVariants as verdict
 use Rattle.light.specs.Light.{light_number, colour_of, total, is_full}
 use Rattle.light.specs.declared.Light.{Light}
@@ -30,13 +30,13 @@ sixteen l e p = go (eqb (length l) 16) (eqb-true (length l) 16) (sym e ∙ p)
     go false f h = let k : ◌≡◌ {A = ℕ} 0 1 = cc in absurd (omega arith)
 
 -- a verdict's colour is one of four
-pub colour_lt : (v : Verdict) → light_number (colour_of v) < 4
-colour_lt (verdict.Cross u v f) = omega arith
-colour_lt (verdict.AInB p) = omega arith
-colour_lt (verdict.BInA p) = omega arith
-colour_lt verdict.Apart = omega arith
-colour_lt (verdict.Refused r) = omega arith
+pub colour_lt : (v : Concluded) → light_number (Ok (colour_of v)) < 4
+colour_lt (Ok (verdict.Cross u v f)) = omega arith
+colour_lt (Ok (verdict.AInB p)) = omega arith
+colour_lt (Ok (verdict.BInA p)) = omega arith
+colour_lt (Ok verdict.Apart) = omega arith
+colour_lt (Err r) = omega arith
 
-pub counts_one : (s l : List ℕ) {b : Bool} {r : Light} {k : ℕ} → b ≡ is_full l → b ≡ false → r ≡ colour_of (verdict_of s) → k ≡ light_number r →
+pub counts_one : (s l : List ℕ) {b : Bool} {r : Light} {k : ℕ} → b ≡ is_full l → b ≡ false → r ≡ colour_of (verdict_of s) → k ≡ light_number (Ok r) →
     (length l ≡ 16) × (k < 4)
 counts_one s l e p q n = (sixteen l e p, rw (n, q) (colour_lt (verdict_of s)))

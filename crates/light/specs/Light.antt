@@ -1,26 +1,32 @@
 -- What the fit light answers, and what it leaves of the sixteen lent bytes: four counts of four bytes, low byte first, in the order of the
 -- colours. Assumes nothing.
-use Rattle.std.specs.Prelude.{◌≡◌, Bool, not, cond, ◌||◌, List, ℕ, ◌+◌, ◌*◌, ◌/◌, ◌%◌, eqb, leb, length, get_or, set}
+use Rattle.std.specs.Prelude.{◌≡◌, Bool, not, cond, ◌||◌, List, ℕ, ◌+◌, ◌*◌, ◌/◌, ◌%◌, eqb, leb, length, get_or, set, Result, Err, Ok}
 use Rattle.questions.specs.Answers.{verdict_of}
-use Rattle.questions.specs.declared.Verdict.{Verdict}
+use Rattle.questions.specs.Types.{Concluded}
 use Rattle.questions.specs.declared.Verdict.TheVariants as verdict
 use Rattle.light.specs.declared.Light.{Light}
-use Rattle.light.specs.declared.Light.TheVariants.{Green, Amber, Red, Dark, Uncounted}
+use Rattle.light.specs.declared.Light.TheVariants.{Green, Amber, Red, Dark}
+use Rattle.light.specs.declared.LightError.{LightError}
+use Rattle.light.specs.declared.LightError.TheVariants.{Uncounted}
 
-abbrev pub light_number : Light → ℕ
-light_number Green = 0
-light_number Amber = 1
-light_number Red = 2
-light_number Dark = 3
-light_number Uncounted = 16
+-- a colour, or that none is counted
+abbrev pub Lit : Type 0
+Lit = Result Light LightError
+
+abbrev pub light_number : Lit → ℕ
+light_number (Ok Green) = 0
+light_number (Ok Amber) = 1
+light_number (Ok Red) = 2
+light_number (Ok Dark) = 3
+light_number (Err Uncounted) = 16
 
 -- green for apart, amber for enclosed, red for crossing, dark for refused
-abbrev pub colour_of : Verdict → Light
-colour_of (verdict.Cross u v f) = Red
-colour_of (verdict.AInB p) = Amber
-colour_of (verdict.BInA p) = Amber
-colour_of verdict.Apart = Green
-colour_of (verdict.Refused r) = Dark
+abbrev pub colour_of : Concluded → Light
+colour_of (Ok (verdict.Cross u v f)) = Red
+colour_of (Ok (verdict.AInB p)) = Amber
+colour_of (Ok (verdict.BInA p)) = Amber
+colour_of (Ok verdict.Apart) = Green
+colour_of (Err r) = Dark
 
 -- ---- the counts
 
@@ -47,14 +53,14 @@ is_full l = not (eqb (length l) 16) || leb 1000000 (total l)
 
 -- ---- the light
 
-unfoldable pub light_of : List ℕ → List ℕ → Light
-light_of s l = cond (is_full l) Uncounted (colour_of (verdict_of s))
+unfoldable pub light_of : List ℕ → List ℕ → Lit
+light_of s l = cond (is_full l) (Err Uncounted) (Ok (colour_of (verdict_of s)))
 
 -- the counts afterwards: as they were where nothing is counted
 unfoldable pub left_of : List ℕ → List ℕ → List ℕ
-left_of s l = cond (is_full l) l (more l (light_number (colour_of (verdict_of s))))
+left_of s l = cond (is_full l) l (more l (light_number (Ok (colour_of (verdict_of s)))))
 
 -- l is what the lent bytes held, l' what they hold afterwards
-pub record IsLight (s l l' : List ℕ) (r : Light) : Type 0 where
+pub record IsLight (s l l' : List ℕ) (r : Lit) : Type 0 where
   pub answer : r ≡ light_of s l
   pub held : l' ≡ left_of s l

@@ -11,38 +11,42 @@ use questions::Verdict;
 // The counts hold this many answers.
 pub const MOST: u64 = 1000000;
 
-// The colours, and the one refusal of the light's own: the counts are not sixteen bytes, or are full.
-#[derive(Clone, Copy)]
+#[derive(Clone, Copy, Debug, PartialEq, Eq)]
 pub enum Light {
     Green,
     Amber,
     Red,
     Dark,
+}
+
+// The one refusal of the light's own: the counts are not sixteen bytes, or are full.
+#[derive(Clone, Copy, Debug, PartialEq, Eq)]
+pub enum LightError {
     Uncounted,
 }
 
-pub fn number(l: Light) -> usize
+pub fn number(l: Result<Light, LightError>) -> usize
     ensures { result ≡ light_number l }
 {
     match l {
-        Light::Green => 0,
-        Light::Amber => 1,
-        Light::Red => 2,
-        Light::Dark => 3,
-        Light::Uncounted => 16,
+        Ok(Light::Green) => 0,
+        Ok(Light::Amber) => 1,
+        Ok(Light::Red) => 2,
+        Ok(Light::Dark) => 3,
+        Err(LightError::Uncounted) => 16,
     }
 }
 
 // Shows the light, and counts its colour.
-pub fn light_of(s: &[u8], counts: &mut [u8]) -> Light
+pub fn light_of(s: &[u8], counts: &mut [u8]) -> Result<Light, LightError>
     ensures { IsLight s.now counts.old counts.new result }
 {
     if is_full(counts) {
-        return Light::Uncounted;
+        return Err(LightError::Uncounted);
     }
     let l = colour(s);
-    count_one(counts, number(l));
-    l
+    count_one(counts, number(Ok(l)));
+    Ok(l)
 }
 
 // The colour of the verdict.
@@ -51,11 +55,11 @@ fn colour(s: &[u8]) -> Light
 {
     let v = kernel::verdict::verdict_of(Engine::Plain, s);
     match v {
-        Verdict::Cross(_, _, _) => Light::Red,
-        Verdict::AInB(_) => Light::Amber,
-        Verdict::BInA(_) => Light::Amber,
-        Verdict::Apart => Light::Green,
-        Verdict::Refused(_) => Light::Dark,
+        Ok(Verdict::Cross(_, _, _)) => Light::Red,
+        Ok(Verdict::AInB(_)) => Light::Amber,
+        Ok(Verdict::BInA(_)) => Light::Amber,
+        Ok(Verdict::Apart) => Light::Green,
+        Err(_) => Light::Dark,
     }
 }
 

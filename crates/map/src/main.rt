@@ -1,12 +1,12 @@
 // map M11 M12 ... M44 [FILE] writes the image of a scene under a map, whose entries are the sixteen words, row by row.
 #![tactic(auto)]
 
-use asked::{Asked, Entries, map_of, row_of};
+use asked::{map_of, row_of};
 use cli::is_option;
-use cli_words::{Word, number_at};
+use cli_words::number_at;
+use map_image::Map;
 use map_image::image::image;
-use map_image::{Imaged, Map};
-use scene::Scene;
+use scene::{Row, Scene};
 
 mod asked;
 mod line;
@@ -17,7 +17,7 @@ const ENTRIES: usize = 16;
 
 const FILE: usize = ENTRIES + 1;
 
-fn row_at(rt: &HostRuntime, i: usize, j: usize, k: usize, l: usize) -> Entries {
+fn row_at(rt: &HostRuntime, i: usize, j: usize, k: usize, l: usize) -> Option<Row> {
     row_of(
         number_at(rt, i),
         number_at(rt, j),
@@ -26,7 +26,7 @@ fn row_at(rt: &HostRuntime, i: usize, j: usize, k: usize, l: usize) -> Entries {
     )
 }
 
-fn map_asked(rt: &HostRuntime) -> Asked {
+fn map_asked(rt: &HostRuntime) -> Option<Map> {
     map_of(
         row_at(rt, 1, 2, 3, 4),
         row_at(rt, 5, 6, 7, 8),
@@ -37,20 +37,15 @@ fn map_asked(rt: &HostRuntime) -> Asked {
 
 // The first of the sixteen words that is no number.
 fn wrong_word(rt: &HostRuntime) -> usize {
-    let mut i = 1;
-    while i < ENTRIES {
-        if let Word::None = number_at(rt, i) {
-            return i;
-        }
-        i += 1;
-    }
-    i
+    (1..ENTRIES)
+        .find(|i| number_at(rt, *i).is_none())
+        .unwrap_or(ENTRIES)
 }
 
 fn write_image(rt: &HostRuntime, s: &[u8], m: Map, out: &mut [u8]) {
     match image(s, m, out) {
-        Imaged::Refused(f) => said::refused(rt, s, f),
-        Imaged::Written(n) => {
+        Err(f) => said::refused(rt, s, f),
+        Ok(n) => {
             cli::answer(rt, b"map", &out[0..n]);
         }
     }
@@ -85,7 +80,7 @@ fn main(rt: HostRuntime) {
         return;
     }
     match map_asked(&rt) {
-        Asked::Map(m) => run_on_file(&rt, m),
-        Asked::Wrong => said::no_map(&rt, wrong_word(&rt)),
+        Some(m) => run_on_file(&rt, m),
+        None => said::no_map(&rt, wrong_word(&rt)),
     }
 }

@@ -1,10 +1,9 @@
 // What is said on standard error, and the help.
 use crate::line;
 use cli::to_error;
-use judge::Judged;
 use map_image::Fault;
 use print::{newline, word};
-use scene::Refusal;
+use scene::{Numbered, Refusal};
 
 // Whether the first word asked for help or for the version.
 pub fn help(rt: &HostRuntime) -> bool {
@@ -78,8 +77,8 @@ fn image(rt: &HostRuntime, number: usize) {
 fn explain(rt: &HostRuntime, s: &[u8], f: Fault) {
     let j = judge::judge(s);
     match j {
-        Judged::Refused(r) => scene(rt, s, r),
-        Judged::Accepted => image(rt, map_image::number(f)),
+        Err(r) => scene(rt, s, r),
+        Ok(()) => image(rt, f.number()),
     }
 }
 

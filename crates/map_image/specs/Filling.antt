@@ -1,5 +1,5 @@
 -- Rows stored in the front part of a list are stored in that part: what stands behind it stays. Assumes nothing.
-use Rattle.std.specs.Prelude.{◌≡◌, refl, List, [], ◌∷◌, ◌++◌, ℕ, zero, suc, ◌+◌, ◌≤◌, ◌<◌, length, drop, set}
+use Rattle.std.specs.Prelude.{◌≡◌, refl, List, [], ◌∷◌, ◌++◌, ℕ, zero, suc, ◌+◌, ◌≤◌, ◌<◌, length, drop, set, Ok}
 use Rattle.std.proofs.Common.{ap, ◌∙◌, arith, length-set}
 use Rattle.std.proofs.lemmas.List.Edits.{sets}
 use Rattle.std.proofs.lemmas.List.{set-append_left}
@@ -9,7 +9,6 @@ use Rattle.scene.specs.Write.{row_put, row_bytes}
 use Rattle.scene.specs.Written.{row_length}
 use Rattle.scene.specs.declared.Row.{Row}
 use Rattle.judge.specs.Judge.{judged}
-use Rattle.judge.specs.declared.Judged.TheVariants.{Accepted}
 use Rattle.map_image.specs.Image.{image_row, image_bytes}
 use Rattle.map_image.specs.Ready.{point_room}
 use Rattle.map_image.specs.declared.Map.{Map}
@@ -37,7 +36,7 @@ filled_front g (suc n) a b h =
     ap (λ (l : List ℕ). row_put l n (g n)) (filled_front g n a b (λ j k. h j (omega arith)))
     ∙ row_front (filled row_put g n a) b n (g n) (rw (filled_length g n a) (h n (omega arith)))
 
-pub filled_image : (s : List ℕ) (m : Map) (d : List ℕ) → judged s ≡ Accepted → {l l₁ : List ℕ} →
+pub filled_image : (s : List ℕ) (m : Map) (d : List ℕ) → judged s ≡ Ok tt → {l l₁ : List ℕ} →
     l₁ ≡ s ++ drop (length s) d → l ≡ filled row_put (image_row m s) (verts s + 1) l₁ → l ≡ image_bytes m s ++ drop (length s) d
 unfolding image_bytes
 filled_image s m d ok e p =

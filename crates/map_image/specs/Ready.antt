@@ -1,5 +1,5 @@
 -- An accepted scene and a table with entries in range: their products are small enough. Assumes nothing.
-use Rattle.std.specs.Prelude.{◌≡◌, refl, true, List, ℕ, ◌+◌, ◌≤◌, nat_abs, length}
+use Rattle.std.specs.Prelude.{◌≡◌, refl, true, List, ℕ, ◌+◌, ◌≤◌, nat_abs, length, Ok}
 use Rattle.std.proofs.Common.{sym, subst, ap, ◌∙◌, le_trans, arith, lit≤}
 use Rattle.std.proofs.Math.Decide.{ℕ_discrete}
 use Rattle.laws.specs.Decides.{decides}
@@ -13,7 +13,6 @@ use Rattle.scene.specs.declared.Row.{Row}
 use Rattle.judge.specs.Judge.{judged}
 use Rattle.judge.specs.Laws.{rule_ok, rule_rest}
 use Rattle.judge.specs.Tests.{first_iff}
-use Rattle.judge.specs.declared.Judged.TheVariants.{Accepted}
 use Rattle.rules.proofs.Accepted.{accepted}
 use Rattle.rules.proofs.Given.{rows_within}
 use Rattle.clean.specs.Sizes.{most_entry, RowSmall, row_small}
@@ -23,7 +22,7 @@ use Rattle.map_image.specs.declared.Map.{Map}
 
 -- a scene that is accepted, and a table of which each entry is in its range
 pub record Mappable (s : List ℕ) (m : Map) : Type 0 where
-  pub accepted : judged s ≡ Accepted
+  pub accepted : judged s ≡ Ok tt
   pub entries : entries_ok m ≡ true
 
 -- ---- the table
@@ -55,7 +54,7 @@ columns_small {m} e h = subst MapSmall (sym e) (omega arith)
 
 -- ---- the scene's rows
 
-module _ (s : List ℕ) (ok : judged s ≡ Accepted) where
+module _ (s : List ℕ) (ok : judged s ≡ Ok tt) where
   pub file_row_small : (j : ℕ) → j ≤ verts s → {r : Row} → r ≡ row_at s j → RowSmall most_entry r
   file_row_small j b {r} e = subst (RowSmall most_entry) (sym e) (by (ℕ_discrete j 0))
     where
@@ -77,14 +76,14 @@ pub record RowIn (j : ℕ) (r : Row) : Type 0 where
   pub z : nat_abs r.z ≤ limits.most_coordinate
   pub weight : (least_weight j ≤ nat_abs r.w) × (nat_abs r.w ≤ limits.most_weight)
 
-row_in_law : (j : ℕ) (r : Row) → row_fault j r ≡ Accepted → RowIn j r
+row_in_law : (j : ℕ) (r : Row) → row_fault j r ≡ Ok tt → RowIn j r
 unfolding row_fault coordinates_ok weight_ok within
 row_in_law j r h =
     let c = simp decides at (rule_ok _ _ _ h) in
     let w = simp decides at (rule_ok _ _ _ (rule_rest _ _ _ h)) in
     record { x = c.0; y = c.1.0; z = c.1.1; weight = w }
 
-module _ (s : List ℕ) (m : Map) (h : rows_fault m s ≡ Accepted) where
+module _ (s : List ℕ) (m : Map) (h : rows_fault m s ≡ Ok tt) where
   pub rows_in : (j : ℕ) → j ≤ verts s → RowIn j (image_row m s j)
   unfolding rows_fault point_fault
   rows_in j b = row_in_law j (image_row m s j) ((first_iff (point_fault m s) 0 (verts s + 1)).0 h j (omega arith) (omega arith))

@@ -3,8 +3,9 @@
 
 ghost use Rattle.std.specs.Prelude.{◌≡◌};
 ghost use Rattle.map_image.specs.Image.{fault_number, fault_place};
+ghost use Rattle.map_image.specs.declared.Fault.TheVariants.{Scene};
 
-use scene::{Refusal, Row};
+use scene::{Numbered, Refusal, Row};
 
 pub mod image;
 mod rows;
@@ -31,35 +32,32 @@ pub enum Fault {
     Singular,
 }
 
-// How many bytes the image has.
-#[derive(Clone, Copy)]
-pub enum Imaged {
-    Refused(Fault),
-    Written(usize),
-}
+impl From<Refusal> for Fault {
+    ghost from_gives = { λ r f. f ≡ Scene r };
 
-#[derive(Clone, Copy)]
-enum Checked {
-    Fine,
-    Faulty(Fault),
-}
-
-pub fn number(f: Fault) -> usize
-    ensures { result ≡ fault_number f }
-{
-    match f {
-        Fault::Scene(r) => scene::number(r),
-        Fault::Entry => 17,
-        Fault::Singular => 18,
+    fn from(r: Refusal) -> Fault {
+        Fault::Scene(r)
     }
 }
 
-pub fn place(f: Fault) -> usize
-    ensures { result ≡ fault_place f }
-{
-    match f {
-        Fault::Scene(r) => scene::place(r),
-        Fault::Entry => 0,
-        Fault::Singular => 0,
+impl Numbered for Fault {
+    ghost number = { fault_number };
+
+    ghost place = { fault_place };
+
+    fn number(self) -> usize {
+        match self {
+            Fault::Scene(r) => r.number(),
+            Fault::Entry => 17,
+            Fault::Singular => 18,
+        }
+    }
+
+    fn place(self) -> usize {
+        match self {
+            Fault::Scene(r) => r.place(),
+            Fault::Entry => 0,
+            Fault::Singular => 0,
+        }
     }
 }

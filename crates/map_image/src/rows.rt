@@ -1,8 +1,6 @@
 // Rows times the table, and the tests of their sizes.
 ghost use Rattle.std.specs.Prelude.{◌≡◌, ◌≤◌, nat_abs};
 ghost use Rattle.scene.specs.Limits.{limits, most_points, least_weight};
-ghost use Rattle.scene.specs.Records.{verts};
-ghost use Rattle.scene.specs.Tables.{row_at};
 ghost use Rattle.clean.specs.Clean.{is_zero};
 ghost use Rattle.clean.specs.Sizes.{most_entry, RowSmall};
 ghost use Rattle.map_image.specs.Mapped.{determinant_of};
@@ -11,8 +9,6 @@ ghost use Rattle.map_image.specs.Columns.{column_x, column_y, column_z, column_w
 
 use crate::Map;
 use clean::planes::{dot, plane};
-use judge::Judged;
-use scene::read::{byte, row};
 use scene::{Refusal, Row, Scene, is_within};
 
 // The x of four rows, their y, their z, their w.
@@ -109,11 +105,7 @@ pub fn is_singular(m: Map) -> bool
 fn size(v: i64) -> usize
     ensures { result ≡ nat_abs v }
 {
-    if v < 0 {
-        (-1 - v) as usize + 1
-    } else {
-        v as usize
-    }
+    v.unsigned_abs() as usize
 }
 
 fn row_upto(most: usize, r: Row) -> bool
@@ -176,26 +168,15 @@ fn weight_ok(j: usize, r: Row) -> bool
 }
 
 // Refusals 5 and 6 of the image of the file's point j, before anything is narrowed.
-pub fn row_fault(j: usize, r: Row) -> Judged
+pub fn row_fault(j: usize, r: Row) -> Result<(), Refusal>
     requires { j ≤ most_points limits }
     ensures { result ≡ row_fault j r }
 {
     if !coordinates_ok(r) {
-        return Judged::Refused(Refusal::Coordinate(j + 1));
+        return Err(Refusal::Coordinate(j + 1));
     }
     if !weight_ok(j, r) {
-        return Judged::Refused(Refusal::Weight(j + 1));
+        return Err(Refusal::Weight(j + 1));
     }
-    Judged::Accepted
-}
-
-// The row of the file's point j: 0 is the far point, then come the vertices.
-pub fn file_row(s: &[u8], j: usize) -> Row
-    requires { j ≤ verts s.now }
-    ensures { result ≡ row_at s.now j }
-{
-    if j == 0 {
-        return row(s, byte(s, 2) + byte(s, 4) + 1);
-    }
-    row(s, j)
+    Ok(())
 }

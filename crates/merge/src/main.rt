@@ -7,10 +7,10 @@ ghost use Rattle.std.specs.Prelude.{◌≤◌, length};
 use check::same;
 use class_print::ROOM;
 use class_read::Reading;
-use class_sum::Merged;
+use class_sum::SumError;
 use class_tally::Report;
 use cli::Source;
-use cli_words::{Word, number_at};
+use cli_words::number_at;
 use print::size;
 use std::io;
 
@@ -19,13 +19,9 @@ mod said;
 // 2^47 pieces are 2^63 bytes, more than a file has: the loop ends.
 const MOST_PIECES: usize = 140737488355328;
 
-// How many reports the command line asks for.
+// Behind --reports stands no number of reports.
 #[derive(Clone, Copy)]
-enum Asked {
-    Any,
-    Exactly(usize),
-    Wrong,
-}
+struct NoNumber;
 
 // How far a text was read, why it could not be read further, and what is known there.
 #[derive(Clone, Copy)]
@@ -35,24 +31,18 @@ struct Text {
     reading: Reading,
 }
 
-// What is known behind an input, where it stands.
-#[derive(Clone, Copy)]
-struct Known {
-    stands: bool,
-    reading: Reading,
-}
-
-fn reports_asked(rt: &HostRuntime) -> Asked {
+// How many reports the command line asks for, where it does.
+fn reports_asked(rt: &HostRuntime) -> Result<Option<usize>, NoNumber> {
     if !cli::is_word(rt, 1, b"--reports") {
-        return Asked::Any;
+        return Ok(None);
     }
-    let Word::Number(n) = number_at(rt, 2) else {
-        return Asked::Wrong;
+    let Some(n) = number_at(rt, 2) else {
+        return Err(NoNumber);
     };
     if n < 0 {
-        return Asked::Wrong;
+        return Err(NoNumber);
     }
-    Asked::Exactly(size(n))
+    Ok(Some(size(n)))
 }
 
 fn is_name(rt: &HostRuntime, i: usize, name: &[u8], room: &mut [u8]) -> bool {
@@ -65,20 +55,12 @@ fn is_named_before(rt: &HostRuntime, first: usize, i: usize) -> bool {
     let mut room = [0u8; 4096];
     let mut name = [0u8; 4096];
     let n = cli::word_at(rt, i, &mut name);
-    let mut k = first;
-    while k < i {
-        if is_name(rt, k, &name[..n], &mut room) {
-            return true;
-        }
-        k += 1;
-    }
-    false
+    (first..i).any(|k| is_name(rt, k, &name[..n], &mut room))
 }
 
 // Whether the words from the first file on are names; the first that is none is told.
 fn are_names(rt: &HostRuntime, first: usize, count: usize) -> bool {
-    let mut i = first;
-    while i < count {
+    for i in first..count {
         if cli::is_option(rt, i) {
             said::no_file(rt, i);
             return false;
@@ -87,7 +69,6 @@ fn are_names(rt: &HostRuntime, first: usize, count: usize) -> bool {
             said::twice(rt, i);
             return false;
         }
-        i += 1;
     }
     true
 }
@@ -108,8 +89,7 @@ fn read_text(file: &mut Source, known: Reading) -> Text {
     let mut error = None;
     let mut r = known;
     let mut bytes = 0;
-    let mut left = MOST_PIECES;
-    while left > 0 {
+    for _ in 0..MOST_PIECES {
         let got = cli::read(file, &mut piece);
         error = got.error;
         let n = got.count;
@@ -119,7 +99,6 @@ fn read_text(file: &mut Source, known: Reading) -> Text {
         if f.end < piece.len() {
             break;
         }
-        left -= 1;
     }
     Text {
         error,
@@ -131,12 +110,12 @@ fn read_text(file: &mut Source, known: Reading) -> Text {
 // Whether a text ends with a whole report, and its sums can be told; what is wrong is said.
 fn stands(rt: &HostRuntime, name: &[u8], r: Reading, bytes: usize) -> bool {
     match class_sum::sum_of(r) {
-        Merged::Sum(_) => true,
-        Merged::TooLarge => {
+        Ok(_) => true,
+        Err(SumError::TooLarge) => {
             said::wrong_at(rt, name, b"a sum reaches 2^64 - 1", bytes);
             false
         }
-        Merged::NoReport => {
+        Err(SumError::NoReport) => {
             said::wrong_at(rt, name, b"no class report, or only a part of one", bytes);
             false
         }
@@ -157,43 +136,30 @@ fn text_stands(rt: &HostRuntime, name: &[u8], t: Text, may_be_empty: bool) -> bo
     stands(rt, name, r, t.bytes)
 }
 
-// Reads the input that word i names, from what is known before it.
-fn read_input(rt: &HostRuntime, i: usize, alone: bool, known: Reading) -> Known {
+// Reads the input that word i names, from what is known before it; what is known behind it, where it stands.
+fn read_input(rt: &HostRuntime, i: usize, alone: bool, known: Reading) -> Option<Reading> {
     let mut name = [0u8; 4096];
     let n = name_of(rt, i, &mut name);
-    let Some(mut file) = cli::open_at(rt, b"merge", i) else {
-        return Known {
-            stands: false,
-            reading: known,
-        };
-    };
+    let mut file = cli::open_at(rt, b"merge", i)?;
     let t = read_text(&mut file, known);
-    let stands = text_stands(rt, &name[0..n], t, alone);
-    let reading = t.reading;
-    Known { stands, reading }
+    text_stands(rt, &name[0..n], t, alone).then_some(t.reading)
 }
 
-// Reads one input after the other, as far as they stand.
-fn read_inputs(rt: &HostRuntime, first: usize, count: usize) -> Known
+// Reads one input after the other, where all stand.
+fn read_inputs(rt: &HostRuntime, first: usize, count: usize) -> Option<Reading>
     requires { first ≤ 3 }
 {
     let alone = cli::is_standard(rt, first) && count <= first + 1;
-    let mut k = read_input(rt, first, alone, class_sum::nothing());
-    let mut i = first + 1;
-    while i < count {
-        if !k.stands {
-            break;
-        }
-        let r = k.reading;
-        k = read_input(rt, i, false, r);
-        i += 1;
+    let mut known = read_input(rt, first, alone, class_sum::nothing())?;
+    for i in first + 1..count {
+        known = read_input(rt, i, false, known)?;
     }
-    k
+    Some(known)
 }
 
 // Whether as many reports were read as are asked for; other numbers are said.
-fn is_asked(rt: &HostRuntime, a: Asked, read: usize) -> bool {
-    if let Asked::Exactly(n) = a {
+fn is_asked(rt: &HostRuntime, asked: Option<usize>, read: usize) -> bool {
+    if let Some(n) = asked {
         if read != n {
             said::number(rt, read, n);
             return false;
@@ -208,22 +174,20 @@ fn print(rt: &HostRuntime, r: Report) {
     cli::answer(rt, b"merge", &out[0..p]);
 }
 
-fn merge_inputs(rt: &HostRuntime, first: usize, a: Asked)
+fn merge_inputs(rt: &HostRuntime, first: usize, asked: Option<usize>)
     requires { first ≤ 3 }
 {
     let count = cli::word_count(rt);
     if !are_names(rt, first, count) {
         return;
     }
-    let k = read_inputs(rt, first, count);
-    if !k.stands {
+    let Some(r) = read_inputs(rt, first, count) else {
+        return;
+    };
+    if !is_asked(rt, asked, r.reports) {
         return;
     }
-    let r = k.reading;
-    if !is_asked(rt, a, r.reports) {
-        return;
-    }
-    if let Merged::Sum(s) = class_sum::sum_of(r) {
+    if let Ok(s) = class_sum::sum_of(r) {
         print(rt, s);
     }
 }
@@ -232,10 +196,9 @@ fn main(rt: HostRuntime) {
     if said::help(&rt) {
         return;
     }
-    let a = reports_asked(&rt);
-    match a {
-        Asked::Any => merge_inputs(&rt, 1, a),
-        Asked::Exactly(_) => merge_inputs(&rt, 3, a),
-        Asked::Wrong => said::no_number(&rt),
+    match reports_asked(&rt) {
+        Ok(None) => merge_inputs(&rt, 1, None),
+        Ok(asked) => merge_inputs(&rt, 3, asked),
+        Err(_) => said::no_number(&rt),
     }
 }

@@ -60,18 +60,14 @@ fn number(rt: &HostRuntime, i: usize) -> Number {
     signed_number(w, 0, w.len())
 }
 
-// The first of the far point's words that is no number, or 0.
-fn wrong_number(rt: &HostRuntime) -> usize {
-    if !is_number(rt, 3) {
-        return 3;
+// The first of the far point's words that is no number.
+fn wrong_number(rt: &HostRuntime) -> Option<usize> {
+    for i in 3..7 {
+        if !is_number(rt, i) {
+            return Some(i);
+        }
     }
-    if !is_number(rt, 4) {
-        return 4;
-    }
-    if !is_number(rt, 5) {
-        return 5;
-    }
-    if is_number(rt, 6) { 0 } else { 6 }
+    None
 }
 
 fn say_wrong(rt: &HostRuntime, i: usize) {
@@ -82,18 +78,15 @@ fn say_wrong(rt: &HostRuntime, i: usize) {
     to_error(rt, b": this number of the far point is no whole number\n");
 }
 
-// The solid whose text is asked for, or 0 where the words are wrong.
-fn solid_asked(rt: &HostRuntime) -> usize {
+// The solid whose text is asked for, where the words are right.
+fn solid_asked(rt: &HostRuntime) -> Option<usize> {
     if cli::has_word(rt, 4) || is_option(rt, 3) {
-        return 0;
+        return None;
     }
     if is_word(rt, 2, b"1") {
-        return 1;
+        return Some(1);
     }
-    if is_word(rt, 2, b"2") {
-        return 2;
-    }
-    0
+    is_word(rt, 2, b"2").then_some(2)
 }
 
 fn has_files(rt: &HostRuntime) -> bool {
@@ -105,9 +98,8 @@ fn make(rt: &HostRuntime) {
         say_usage(rt);
         return;
     }
-    let k = wrong_number(rt);
-    if k != 0 {
-        say_wrong(rt, k);
+    if let Some(i) = wrong_number(rt) {
+        say_wrong(rt, i);
         return;
     }
     if is_word(rt, 1, b"-") && is_word(rt, 2, b"-") {
@@ -137,10 +129,8 @@ fn main(rt: HostRuntime) {
         make(&rt);
         return;
     }
-    let k = solid_asked(&rt);
-    if k == 0 {
-        say_usage(&rt);
-        return;
+    match solid_asked(&rt) {
+        Some(k) => writing::write_solid(&rt, k),
+        None => say_usage(&rt),
     }
-    writing::write_solid(&rt, k);
 }

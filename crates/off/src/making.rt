@@ -1,7 +1,7 @@
 // The scene of two files and a far point, on standard output; or on standard error why there is none.
 use crate::write;
 use cli::to_error;
-use off_scene::{Fault, Made};
+use off_scene::Fault;
 use off_solids::points::Point;
 use scene::Scene;
 
@@ -20,8 +20,8 @@ fn say_fault(rt: &HostRuntime, a: &[u8], b: &[u8], f: Fault) {
 fn write_scene(rt: &HostRuntime, a: &[u8], b: &[u8], far: Point) {
     let mut out = [0u8; Scene::LONGEST];
     match off_scene::scene_of(a, b, far, &mut out) {
-        Made::Scene(n) => write(rt, &out[..n]),
-        Made::Refused(f) => say_fault(rt, a, b, f),
+        Ok(n) => write(rt, &out[..n]),
+        Err(f) => say_fault(rt, a, b, f),
     }
 }
 

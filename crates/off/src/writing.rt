@@ -1,14 +1,12 @@
 // A solid of a scene as an object text, on standard output; or on standard error why the scene is refused.
 use crate::write;
 use cli::to_error;
-use judge::Judged;
-use off_scene::Fault;
 use print::{newline, word};
 use scene::{Refusal, Scene};
 
 fn say_refused(rt: &HostRuntime, s: &[u8], r: Refusal) {
     let mut out = [0u8; 512];
-    let p = off_words::refused(&mut out, 0, Fault::OfScene(r));
+    let p = print_refusals::refused(&mut out, 0, r);
     let q = word(&mut out, p, b"why: ");
     let e = print_why::sentence(s, r, &mut out, q);
     let n = newline(&mut out, e);
@@ -24,8 +22,8 @@ fn write_text(rt: &HostRuntime, s: &[u8], k: usize) {
 
 fn write_read(rt: &HostRuntime, s: &[u8], k: usize) {
     match judge::judge(s) {
-        Judged::Accepted => write_text(rt, s, k),
-        Judged::Refused(r) => say_refused(rt, s, r),
+        Ok(()) => write_text(rt, s, k),
+        Err(r) => say_refused(rt, s, r),
     }
 }
 

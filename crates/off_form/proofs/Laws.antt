@@ -1,5 +1,6 @@
 -- The laws of the form, in the form in which a loop's turn, a call's answer and a branch arrive. Assumes nothing.
-use Rattle.std.specs.Prelude.{ℕ, suc, ◌+◌, ◌*◌, ◌-◌, ◌<◌, ◌≤◌, ◌^◌, ◌≡◌, refl, List, Bool, true, not, ◌&&◌, length, eqb}
+use Rattle.std.specs.Prelude.{ℕ, suc, ◌+◌, ◌*◌, ◌-◌, ◌<◌, ◌≤◌, ◌^◌, ◌≡◌, List, Bool, true, not, ◌&&◌, length, eqb, Option, Some, None, MatchOption, Result, Ok, Err}
+use Rattle.std.specs.Option.{unwrap_or}
 use Rattle.std.proofs.Math.Path.{sym, ap, ap₂}
 use Rattle.std.proofs.Common.{◌∙◌, arith, mul-le-mul_left, rules, eq-eqb, ne_eqb}
 use Rattle.std.proofs.Math.Bool.{false, cond}
@@ -10,22 +11,8 @@ use Rattle.off_items.specs.Numbers.{is_whole, size_of, whole_from, largest, at_m
 use Rattle.off_items.specs.Laws.{at_most_low, at_most_high}
 use Rattle.off_form.specs.Form.{is_three, is_four, keyword, go_on, wholes, face_from, faces_from, end_from, numbers_of, counts_then, form_of}
 use Rattle.off_form.proofs.Places.{after_in, wholes_reach, wholes_many, face_reach, faces_reach, faces_many}
-use Rattle.off_form.specs.declared.Reading.{Reading}
-use Rattle.off_form.specs.declared.Reading.TheVariants.{At, Outside, Sides}
-
--- ---- one reading after another
-
-module _ {o x : Reading} (rest : ℕ → Reading) (p : o ≡ x) where
-  pub go_at : {k : ℕ} {w : Reading} → o ≡ At k → w ≡ rest k → w ≡ go_on x rest
-  go_at q e = e ∙ ap (λ (r : Reading). go_on r rest) (sym q ∙ p)
-
-  pub go_outside : {k : ℕ} → o ≡ Outside k → Outside k ≡ go_on x rest
-  go_outside q = ap (λ (r : Reading). go_on r rest) (sym q ∙ p)
-
-  pub go_sides : {k : ℕ} → o ≡ Sides k → Sides k ≡ go_on x rest
-  go_sides q = ap (λ (r : Reading). go_on r rest) (sym q ∙ p)
-
-pub ruleset goes = (go_at, go_outside, go_sides, rules)
+use Rattle.off_form.specs.declared.Flaw.{Flaw}
+use Rattle.off_form.specs.declared.Flaw.TheVariants.{Outside, Sides}
 
 -- ---- the loop over numbers: at `at`, i of n read, the rest is w
 
@@ -41,45 +28,47 @@ all n = omega arith
 pub wholes_begin : (g : Bool) (s : List ℕ) (n at : ℕ) → wholes g (n - 0) s at ≡ wholes g n s at
 wholes_begin g s n at = ap (λ (k : ℕ). wholes g k s at) (all n)
 
-module _ (g : Bool) (s : List ℕ) (n i at : ℕ) {w : Reading} (inv : wholes g (n - i) s at ≡ w) where
-  pub wholes_stop : n ≤ i → At at ≡ w
+module _ (g : Bool) (s : List ℕ) (n i at : ℕ) {w : Result ℕ Flaw} (inv : wholes g (n - i) s at ≡ w) where
+  pub wholes_stop : n ≤ i → Ok at ≡ w
   unfolding wholes
   wholes_stop h = sym (ap (λ (k : ℕ). wholes g k s at) (none n i h)) ∙ inv
 
   -- the item from b up to e is whole, or not
   module _ (h : i < n) {b e : ℕ} {o : Bool} (pb : b ≡ start_of s at) (pe : e ≡ end_of s at) (p : o ≡ is_whole g s b e) where
-    turn : cond o (wholes g (n - (i + 1)) s e) (Outside b) ≡ w
+    turn : cond o (wholes g (n - (i + 1)) s e) (Err (Outside b)) ≡ w
     unfolding wholes
     turn =
-        ap (λ (t : Bool). cond t (wholes g (n - (i + 1)) s e) (Outside b)) (p ∙ ap₂ (is_whole g s) pb pe)
-        ∙ ap₂ (λ (j k : ℕ). cond (whole_from g s at) (wholes g (n - (i + 1)) s j) (Outside k)) pe pb
+        ap (λ (t : Bool). cond t (wholes g (n - (i + 1)) s e) (Err (Outside b))) (p ∙ ap₂ (is_whole g s) pb pe)
+        ∙ ap₂ (λ (j k : ℕ). cond (whole_from g s at) (wholes g (n - (i + 1)) s j) (Err (Outside k))) pe pb
         ∙ sym (ap (λ (k : ℕ). wholes g k s at) (down n i h)) ∙ inv
 
-    pub wholes_found : not o ≡ true → Outside b ≡ w
-    wholes_found q = ap (λ (t : Bool). cond t (wholes g (n - (i + 1)) s e) (Outside b)) (sym (not-true o q)) ∙ turn
+    pub wholes_found : not o ≡ true → Err (Outside b) ≡ w
+    wholes_found q = ap (λ (t : Bool). cond t (wholes g (n - (i + 1)) s e) (Err (Outside b))) (sym (not-true o q)) ∙ turn
 
     pub wholes_next : not o ≡ false → wholes g (n - (i + 1)) s e ≡ w
-    wholes_next q = ap (λ (t : Bool). cond t (wholes g (n - (i + 1)) s e) (Outside b)) (sym (not-false o q)) ∙ turn
+    wholes_next q = ap (λ (t : Bool). cond t (wholes g (n - (i + 1)) s e) (Err (Outside b))) (sym (not-false o q)) ∙ turn
 
 -- ---- a face, and the loop over faces
 
 module _ (s : List ℕ) (at : ℕ) {b e : ℕ} {o : Bool} (pb : b ≡ start_of s at) (pe : e ≡ end_of s at) (p : o ≡ is_whole false s b e) where
-  face_all : cond o (cond (eqb (size_of false s b e) 3) (wholes false 3 s e) (Sides b)) (Outside b) ≡ face_from s at
+  face_all : cond o (cond (eqb (size_of false s b e) 3) (wholes false 3 s e) (Err (Sides b))) (Err (Outside b)) ≡ face_from s at
   unfolding face_from
   face_all =
-      ap (λ (t : Bool). cond t (cond (eqb (size_of false s b e) 3) (wholes false 3 s e) (Sides b)) (Outside b)) p
-      ∙ ap₂ (λ (j k : ℕ). cond (is_whole false s j k) (cond (eqb (size_of false s j k) 3) (wholes false 3 s k) (Sides j)) (Outside j)) pb pe
+      ap (λ (t : Bool). cond t (cond (eqb (size_of false s b e) 3) (wholes false 3 s e) (Err (Sides b))) (Err (Outside b))) p
+      ∙ ap₂
+      (λ (j k : ℕ). cond (is_whole false s j k) (cond (eqb (size_of false s j k) 3) (wholes false 3 s k) (Err (Sides j))) (Err (Outside j)))
+      pb pe
 
-  pub face_outside : not o ≡ true → Outside b ≡ face_from s at
+  pub face_outside : not o ≡ true → Err (Outside b) ≡ face_from s at
   face_outside q =
-      ap (λ (t : Bool). cond t (cond (eqb (size_of false s b e) 3) (wholes false 3 s e) (Sides b)) (Outside b))
+      ap (λ (t : Bool). cond t (cond (eqb (size_of false s b e) 3) (wholes false 3 s e) (Err (Sides b))) (Err (Outside b)))
       (sym (not-true o q)) ∙ face_all
 
   module _ (q : not o ≡ false) {n : ℕ} (r : n ≡ at_most largest (size_of false s b e)) where
-    face_by : {t : Bool} → eqb (size_of false s b e) 3 ≡ t → cond t (wholes false 3 s e) (Sides b) ≡ face_from s at
+    face_by : {t : Bool} → eqb (size_of false s b e) 3 ≡ t → cond t (wholes false 3 s e) (Err (Sides b)) ≡ face_from s at
     face_by f =
-        ap (λ (t : Bool). cond t (wholes false 3 s e) (Sides b)) (sym f)
-        ∙ ap (λ (t : Bool). cond t (cond (eqb (size_of false s b e) 3) (wholes false 3 s e) (Sides b)) (Outside b))
+        ap (λ (t : Bool). cond t (wholes false 3 s e) (Err (Sides b))) (sym f)
+        ∙ ap (λ (t : Bool). cond t (cond (eqb (size_of false s b e) 3) (wholes false 3 s e) (Err (Sides b))) (Err (Outside b)))
         (sym (not-false o q)) ∙ face_all
 
     three : n ≡ 3 → size_of false s b e ≡ 3
@@ -89,39 +78,36 @@ module _ (s : List ℕ) (at : ℕ) {b e : ℕ} {o : Bool} (pb : b ≡ start_of s
         by (yes h) = omega (arith, at_most_low largest (size_of false s b e) (omega arith))
         by (no h) = absurd (omega (arith, at_most_high largest (size_of false s b e) (omega arith)))
 
-    pub face_sides : (n ≡ 3 → ⊥) → Sides b ≡ face_from s at
+    pub face_sides : (n ≡ 3 → ⊥) → Err (Sides b) ≡ face_from s at
     face_sides f = face_by (ne_eqb (size_of false s b e) 3 (λ g. f (r ∙ ap (at_most largest) g ∙ at_most_low largest 3 (omega arith))))
 
-    pub face_corners : {x : Reading} → n ≡ 3 → x ≡ wholes false 3 s e → x ≡ face_from s at
+    pub face_corners : {x : Result ℕ Flaw} → n ≡ 3 → x ≡ wholes false 3 s e → x ≡ face_from s at
     face_corners f x = x ∙ face_by (eq-eqb (size_of false s b e) 3 (three f))
 
 pub faces_begin : (s : List ℕ) (n at : ℕ) → faces_from (n - 0) s at ≡ faces_from n s at
 faces_begin s n at = ap (λ (k : ℕ). faces_from k s at) (all n)
 
-module _ (s : List ℕ) (n i at : ℕ) {w : Reading} (inv : faces_from (n - i) s at ≡ w) where
-  pub faces_stop : n ≤ i → At at ≡ w
+module _ (s : List ℕ) (n i at : ℕ) {w : Result ℕ Flaw} (inv : faces_from (n - i) s at ≡ w) where
+  pub faces_stop : n ≤ i → Ok at ≡ w
   unfolding faces_from
   faces_stop h = sym (ap (λ (k : ℕ). faces_from k s at) (none n i h)) ∙ inv
 
-  module _ {o : Reading} (h : i < n) (p : o ≡ face_from s at) where
+  module _ {o : Result ℕ Flaw} (h : i < n) (p : o ≡ face_from s at) where
     faces_turn : go_on o (faces_from (n - (i + 1)) s) ≡ w
     unfolding faces_from
-    faces_turn = ap (λ (r : Reading). go_on r (faces_from (n - (i + 1)) s)) p ∙ sym (ap (λ (k : ℕ). faces_from k s at) (down n i h)) ∙ inv
+    faces_turn = ap (λ (r : Result ℕ Flaw). go_on r (faces_from (n - (i + 1)) s)) p ∙ sym (ap (λ (k : ℕ). faces_from k s at) (down n i h)) ∙ inv
 
-    pub faces_outside : {k : ℕ} → o ≡ Outside k → Outside k ≡ w
-    faces_outside q = ap (λ (r : Reading). go_on r (faces_from (n - (i + 1)) s)) (sym q) ∙ faces_turn
+    pub faces_flaw : {f : Flaw} → o ≡ Err f → Err f ≡ w
+    faces_flaw q = ap (λ (r : Result ℕ Flaw). go_on r (faces_from (n - (i + 1)) s)) (sym q) ∙ faces_turn
 
-    pub faces_sides : {k : ℕ} → o ≡ Sides k → Sides k ≡ w
-    faces_sides q = ap (λ (r : Reading). go_on r (faces_from (n - (i + 1)) s)) (sym q) ∙ faces_turn
+    pub faces_next : {k : ℕ} → o ≡ Ok k → faces_from (n - (i + 1)) s k ≡ w
+    faces_next q = ap (λ (r : Result ℕ Flaw). go_on r (faces_from (n - (i + 1)) s)) (sym q) ∙ faces_turn
 
-    pub faces_next : {k : ℕ} → o ≡ At k → faces_from (n - (i + 1)) s k ≡ w
-    faces_next q = ap (λ (r : Reading). go_on r (faces_from (n - (i + 1)) s)) (sym q) ∙ faces_turn
-
-pub ruleset reads = (wholes_stop, wholes_found, wholes_next, faces_stop, faces_outside, faces_sides, faces_next, rules)
+pub ruleset reads = (wholes_stop, wholes_found, wholes_next, faces_stop, faces_flaw, faces_next, rules)
 
 -- ---- where a reading ends, within the text
 
-module _ (s : List ℕ) {at k : ℕ} {o : Reading} (h : at ≤ length s) (q : o ≡ At k) where
+module _ (s : List ℕ) {at k : ℕ} {o : Result ℕ Flaw} (h : at ≤ length s) (q : o ≡ Ok k) where
   pub wholes_within : (g : Bool) (n : ℕ) → o ≡ wholes g n s at → k ≤ length s
   wholes_within g n p = (wholes_reach s g n at h (sym p ∙ q)).within
 
@@ -131,7 +117,7 @@ module _ (s : List ℕ) {at k : ℕ} {o : Reading} (h : at ≤ length s) (q : o 
   pub faces_within : (n : ℕ) → o ≡ faces_from n s at → k ≤ length s
   faces_within n p = (faces_reach s n at h (sym p ∙ q)).within
 
-pub counts_within : (s : List ℕ) {k : ℕ} {o : Reading} → o ≡ At k → o ≡ wholes false 3 s (after s 1) → k ≤ length s
+pub counts_within : (s : List ℕ) {k : ℕ} {o : Result ℕ Flaw} → o ≡ Ok k → o ≡ wholes false 3 s (after s 1) → k ≤ length s
 counts_within s q p = wholes_within s (after_in s 1) q false 3 p
 
 -- ---- counts above what a text holds: c is the count n, or the largest number told
@@ -151,7 +137,7 @@ module _ (s : List ℕ) (short : length s < 2 ^ 63) (at : ℕ) (within : at ≤ 
       by (yes k) = omega (arith, at_most_low largest n (omega arith))
       by (no k) = omega arith
 
-  pub faces_held : {r : Reading} → r ≡ faces_from c s at → r ≡ faces_from n s at
+  pub faces_held : {r : Result ℕ Flaw} → r ≡ faces_from c s at → r ≡ faces_from n s at
   faces_held p = p ∙ by (dec_lt c largest)
     where
       by : Dec (c < largest) → faces_from c s at ≡ faces_from n s at
@@ -159,10 +145,10 @@ module _ (s : List ℕ) (short : length s < 2 ^ 63) (at : ℕ) (within : at ≤ 
       by (no k) = faces_many s c n at within (omega arith) (omega (arith, large largest (omega arith) (omega arith)))
 
   module _ {per d : ℕ} (f : d ≡ per) where
-    pub numbers_few : {m : ℕ} {r : Reading} → c < largest → m ≡ c * d → r ≡ wholes true m s at → r ≡ wholes true (n * per) s at
+    pub numbers_few : {m : ℕ} {r : Result ℕ Flaw} → c < largest → m ≡ c * d → r ≡ wholes true m s at → r ≡ wholes true (n * per) s at
     numbers_few k q p = p ∙ ap (λ (m : ℕ). wholes true m s at) (q ∙ ap₂ (λ (x y : ℕ). x * y) (small k) f)
 
-    pub numbers_many : {r : Reading} → 2 ^ 62 ≤ c → 3 ≤ d → r ≡ wholes true largest s at → r ≡ wholes true (n * per) s at
+    pub numbers_many : {r : Result ℕ Flaw} → 2 ^ 62 ≤ c → 3 ≤ d → r ≡ wholes true largest s at → r ≡ wholes true (n * per) s at
     numbers_many k l p =
         p ∙ wholes_many s true largest (n * per) at within (omega arith)
         (let a = large (2 ^ 62) k (omega arith) in let b : n * 3 ≤ n * per = mul-le-mul_left n (omega arith) in omega arith)
@@ -205,28 +191,25 @@ keyword_low s i n = by (is_three s i n) (is_four s i n)
     by false true = omega arith
     by false false = omega arith
 
-keyword_some : (s : List ℕ) (i n : ℕ) → (keyword s i n ≡ 0 → ⊥) → 3 ≤ keyword s i n
-unfolding keyword
-keyword_some s i n = by (is_three s i n) (is_four s i n)
-  where
-    by : (a b : Bool) → (◌≡◌ {A = ℕ} (cond a 3 (cond b 4 0)) 0 → ⊥) → 3 ≤ cond a 3 (cond b 4 0)
-    by true b h = omega arith
-    by false true h = omega arith
-    by false false h = absurd (h refl)
+-- what the keyword is told as, where there is none
+pub keyword_told : (w : ℕ) (o : Option ℕ) → MatchOption o (w ≡ 0) (λ per. (per ≡ w) × (3 ≤ per)) → unwrap_or o 0 ≡ w
+keyword_told w None h = sym h
+keyword_told w (Some n) h = h.0
 
 -- ---- the end, and the whole
 
 module _ (s : List ℕ) (at : ℕ) {b : ℕ} (p : b ≡ start_of s at) where
-  pub end_reached : b ≡ length s → At at ≡ end_from s at
+  pub end_reached : b ≡ length s → Ok at ≡ end_from s at
   unfolding end_from
-  end_reached q = sym (ap (λ (t : Bool). cond t (At at) (Outside (start_of s at))) (eq-eqb (start_of s at) (length s) (sym p ∙ q)))
+  end_reached q = sym (ap (λ (t : Bool). cond t (Ok at) (Err (Outside (start_of s at)))) (eq-eqb (start_of s at) (length s) (sym p ∙ q)))
 
-  pub end_outside : (b ≡ length s → ⊥) → Outside b ≡ end_from s at
+  pub end_outside : (b ≡ length s → ⊥) → Err (Outside b) ≡ end_from s at
   unfolding end_from
   end_outside q =
-      ap Outside p ∙ sym (ap (λ (t : Bool). cond t (At at) (Outside (start_of s at))) (ne_eqb (start_of s at) (length s) (λ e. q (p ∙ e))))
+      ap (λ (i : ℕ). Err (Outside i)) p
+      ∙ sym (ap (λ (t : Bool). cond t (Ok at) (Err (Outside (start_of s at)))) (ne_eqb (start_of s at) (length s) (λ e. q (p ∙ e))))
 
-pub counts_from : (s : List ℕ) {at : ℕ} {r : Reading} → at ≡ after s 1 → r ≡ wholes false 3 s at → r ≡ wholes false 3 s (after s 1)
+pub counts_from : (s : List ℕ) {at : ℕ} {r : Result ℕ Flaw} → at ≡ after s 1 → r ≡ wholes false 3 s at → r ≡ wholes false 3 s (after s 1)
 counts_from s p e = e ∙ ap (wholes false 3 s) p
 
 pub numbers_low : (s : List ℕ) {n : ℕ} → n ≡ numbers_of s → n ≤ 4
@@ -237,16 +220,14 @@ module _ (s : List ℕ) {b e n : ℕ} (p : b ≡ start_of s 0) (q : e ≡ end_of
   pub keyword_first : n ≡ numbers_of s
   keyword_first = k ∙ ap₂ (λ (i j : ℕ). keyword s i (j - i)) p q
 
-  pub form_outside : n ≡ 0 → Outside b ≡ form_of s
+  pub form_outside : n ≡ 0 → Err (Outside b) ≡ form_of s
   unfolding form_of
   form_outside z =
-      ap Outside p ∙ sym (ap (λ (t : Bool). cond t (Outside (start_of s 0)) (counts_then s)) (eq-eqb (numbers_of s) 0 (sym keyword_first ∙ z)))
+      ap (λ (i : ℕ). Err (Outside i)) p
+      ∙ sym (ap (λ (t : Bool). cond t (Err (Outside (start_of s 0))) (counts_then s)) (eq-eqb (numbers_of s) 0 (sym keyword_first ∙ z)))
 
-  module _ (h : n ≡ 0 → ⊥) where
-    pub keyword_high : 3 ≤ n
-    keyword_high = omega (arith, keyword_some s b (e - b) (λ z. h (k ∙ z)))
-
-    pub form_counts : {r : Reading} → r ≡ counts_then s → r ≡ form_of s
-    unfolding form_of
-    form_counts x =
-        x ∙ sym (ap (λ (t : Bool). cond t (Outside (start_of s 0)) (counts_then s)) (ne_eqb (numbers_of s) 0 (λ z. h (keyword_first ∙ z))))
+  pub form_counts : (n ≡ 0 → ⊥) → {r : Result ℕ Flaw} → r ≡ counts_then s → r ≡ form_of s
+  unfolding form_of
+  form_counts h x =
+      x
+      ∙ sym (ap (λ (t : Bool). cond t (Err (Outside (start_of s 0))) (counts_then s)) (ne_eqb (numbers_of s) 0 (λ z. h (keyword_first ∙ z))))

@@ -1,6 +1,6 @@
 -- A reading's offset is within the text, also where it is that of a fault. Assumes nothing.
 use Prim.Native.Nat.{ℕ, zero, suc, ◌*◌, ◌≤◌}
-use Rattle.std.specs.Prelude.{List, Bool, cond, length, eqb}
+use Rattle.std.specs.Prelude.{List, Bool, cond, length, eqb, Result, Ok, Err}
 use Rattle.std.proofs.Math.Bool.{true, false}
 use Rattle.std.proofs.Common.{arith}
 use Rattle.off_items.specs.Items.{start_of, end_of, after}
@@ -8,23 +8,22 @@ use Rattle.off_items.specs.Numbers.{whole_from, size_from}
 use Rattle.off_form.specs.Form.{go_on, wholes, face_from, faces_from, end_from, numbers_of, vertices_of}
 use Rattle.off_form.specs.Form.{faces_of, faces_then, vertices_then, form_of}
 use Rattle.off_form.proofs.Places.{start_in, end_in, after_in}
-use Rattle.off_form.specs.declared.Reading.{Reading}
-use Rattle.off_form.specs.declared.Reading.TheVariants.{At, Outside, Sides}
+use Rattle.off_form.specs.declared.Flaw.{Flaw}
+use Rattle.off_form.specs.declared.Flaw.TheVariants.{Outside, Sides}
 
-abbrev pub Placed : List ℕ → Reading → Type 0
-Placed s (At k) = k ≤ length s
-Placed s (Outside k) = k ≤ length s
-Placed s (Sides k) = k ≤ length s
+abbrev pub Placed : List ℕ → Result ℕ Flaw → Type 0
+Placed s (Ok k) = k ≤ length s
+Placed s (Err (Outside k)) = k ≤ length s
+Placed s (Err (Sides k)) = k ≤ length s
 
 module _ (s : List ℕ) where
-  either : (b : Bool) (x y : Reading) → Placed s x → Placed s y → Placed s (cond b x y)
+  either : (b : Bool) (x y : Result ℕ Flaw) → Placed s x → Placed s y → Placed s (cond b x y)
   either true x y p q = p
   either false x y p q = q
 
-  goes : (r : Reading) (rest : ℕ → Reading) → Placed s r → ((k : ℕ) → k ≤ length s → Placed s (rest k)) → Placed s (go_on r rest)
-  goes (At k) rest p h = h k p
-  goes (Outside k) rest p h = p
-  goes (Sides k) rest p h = p
+  goes : (r : Result ℕ Flaw) (rest : ℕ → Result ℕ Flaw) → Placed s r → ((k : ℕ) → k ≤ length s → Placed s (rest k)) → Placed s (go_on r rest)
+  goes (Ok k) rest p h = h k p
+  goes (Err f) rest p h = p
 
   wholes_placed : (g : Bool) (n at : ℕ) → at ≤ length s → Placed s (wholes g n s at)
   unfolding wholes

@@ -2,7 +2,7 @@
 -- such count. Assumes nothing.
 use Prim.Native.Nat.{ℕ, zero, suc, ◌+◌, ◌<◌, ◌≤◌}
 use Rattle.std.proofs.Math.Path.{◌≡◌, refl}
-use Rattle.std.specs.Prelude.{List, [], ◌∷◌, Bool, ◌&&◌, drop, eqb}
+use Rattle.std.specs.Prelude.{List, [], ◌∷◌, Bool, ◌&&◌, drop, eqb, Result, Ok, Err}
 use Rattle.std.proofs.Math.Bool.{true, false, cond}
 use native.Mathlib.Omega.{arith}
 use Rattle.std.proofs.Common.{ltb-true, length-drop}
@@ -10,8 +10,8 @@ use Rattle.std.proofs.Math.ListN.{length}
 use Rattle.off_items.specs.Items.{separates, begins, comments, gap, word, start_of, word_end, end_of, after}
 use Rattle.off_items.specs.Numbers.{minus_at, body_of, is_whole, whole_from, size_from}
 use Rattle.off_form.specs.Form.{go_on, wholes, face_from, faces_from}
-use Rattle.off_form.specs.declared.Reading.{Reading}
-use Rattle.off_form.specs.declared.Reading.TheVariants.{At, Outside, Sides}
+use Rattle.off_form.specs.declared.Flaw.{Flaw}
+use Rattle.off_form.specs.declared.Flaw.TheVariants.{Outside, Sides}
 
 gap_le : (m : Bool) (l : List ℕ) → gap m l ≤ length l
 unfolding gap
@@ -75,13 +75,13 @@ pub record Reached (s : List ℕ) (at k : ℕ) : Type 0 where
   pub within : k ≤ length s
 
 module _ (s : List ℕ) where
-  pub wholes_reach : (g : Bool) (n at : ℕ) {k : ℕ} → at ≤ length s → wholes g n s at ≡ At k → Reached s at k
+  pub wholes_reach : (g : Bool) (n at : ℕ) {k : ℕ} → at ≤ length s → wholes g n s at ≡ Ok k → Reached s at k
   unfolding wholes
   wholes_reach g zero at {k} h e = let f : at ≡ k = cc in record { from = omega arith; within = omega arith }
   wholes_reach g (suc n) at {k} h e = by (whole_from g s at) refl (wholes_reach g n (end_of s at) (end_in s at h)) e
     where
-      by : (b : Bool) → whole_from g s at ≡ b → (wholes g n s (end_of s at) ≡ At k → Reached s (end_of s at) k) →
-          cond b (wholes g n s (end_of s at)) (Outside (start_of s at)) ≡ At k → Reached s at k
+      by : (b : Bool) → whole_from g s at ≡ b → (wholes g n s (end_of s at) ≡ Ok k → Reached s (end_of s at) k) →
+          cond b (wholes g n s (end_of s at)) (Err (Outside (start_of s at))) ≡ Ok k → Reached s at k
       by true p rest q =
           let r = rest q in
           record { from = omega (arith, r.from, whole_moves g s at p); within = r.within }
@@ -96,37 +96,38 @@ module _ (s : List ℕ) where
     where
       by : (b : Bool) → whole_from g s at ≡ b →
           (length s < n + end_of s at → length s < m + end_of s at → wholes g n s (end_of s at) ≡ wholes g m s (end_of s at)) →
-          cond b (wholes g n s (end_of s at)) (Outside (start_of s at)) ≡ cond b (wholes g m s (end_of s at)) (Outside (start_of s at))
+          cond b (wholes g n s (end_of s at)) (Err (Outside (start_of s at)))
+          ≡ cond b (wholes g m s (end_of s at)) (Err (Outside (start_of s at)))
       by true p rest =
           let l = whole_moves g s at p in
           rest (omega arith) (omega arith)
       by false p rest = refl
 
-  pub face_reach : (at : ℕ) {k : ℕ} → at ≤ length s → face_from s at ≡ At k → Reached s (suc at) k
+  pub face_reach : (at : ℕ) {k : ℕ} → at ≤ length s → face_from s at ≡ Ok k → Reached s (suc at) k
   unfolding face_from
   face_reach at {k} h e = by (whole_from false s at) (eqb (size_from false s at) 3) refl e
     where
       by : (b t : Bool) → whole_from false s at ≡ b →
-          cond b (cond t (wholes false 3 s (end_of s at)) (Sides (start_of s at))) (Outside (start_of s at)) ≡ At k → Reached s (suc at) k
+          cond b (cond t (wholes false 3 s (end_of s at)) (Err (Sides (start_of s at)))) (Err (Outside (start_of s at))) ≡ Ok k →
+          Reached s (suc at) k
       by true true p q =
           let r = wholes_reach false 3 (end_of s at) (end_in s at h) q in
           record { from = omega (arith, r.from, whole_moves false s at p); within = r.within }
       by true false p q = let z : ◌≡◌ {A = ℕ} 0 1 = cc in absurd (omega arith)
       by false t p q = let z : ◌≡◌ {A = ℕ} 0 1 = cc in absurd (omega arith)
 
-  pub faces_reach : (n at : ℕ) {k : ℕ} → at ≤ length s → faces_from n s at ≡ At k → Reached s at k
+  pub faces_reach : (n at : ℕ) {k : ℕ} → at ≤ length s → faces_from n s at ≡ Ok k → Reached s at k
   unfolding faces_from
   faces_reach zero at {k} h e = let f : at ≡ k = cc in record { from = omega arith; within = omega arith }
   faces_reach (suc n) at {k} h e = by (face_from s at) refl (λ j. faces_reach n j) e
     where
-      by : (r : Reading) → face_from s at ≡ r → ((j : ℕ) → j ≤ length s → faces_from n s j ≡ At k → Reached s j k) →
-          go_on r (faces_from n s) ≡ At k → Reached s at k
-      by (At j) p rest q =
+      by : (r : Result ℕ Flaw) → face_from s at ≡ r → ((j : ℕ) → j ≤ length s → faces_from n s j ≡ Ok k → Reached s j k) →
+          go_on r (faces_from n s) ≡ Ok k → Reached s at k
+      by (Ok j) p rest q =
           let f = face_reach at h p in
           let r = rest j f.within q in
           record { from = omega (arith, f.from, r.from); within = r.within }
-      by (Outside j) p rest q = let z : ◌≡◌ {A = ℕ} 0 1 = cc in absurd (omega arith)
-      by (Sides j) p rest q = let z : ◌≡◌ {A = ℕ} 0 1 = cc in absurd (omega arith)
+      by (Err f) p rest q = let z : ◌≡◌ {A = ℕ} 0 1 = cc in absurd (omega arith)
 
   pub faces_many : (n m at : ℕ) → at ≤ length s → length s < n + at → length s < m + at → faces_from n s at ≡ faces_from m s at
   unfolding faces_from
@@ -134,11 +135,10 @@ module _ (s : List ℕ) where
   faces_many (suc n) zero at h a b = absurd (omega arith)
   faces_many (suc n) (suc m) at h a b = by (face_from s at) refl (λ j. faces_many n m j)
     where
-      by : (r : Reading) → face_from s at ≡ r →
+      by : (r : Result ℕ Flaw) → face_from s at ≡ r →
           ((j : ℕ) → j ≤ length s → length s < n + j → length s < m + j → faces_from n s j ≡ faces_from m s j) →
           go_on r (faces_from n s) ≡ go_on r (faces_from m s)
-      by (At j) p rest =
+      by (Ok j) p rest =
           let f = face_reach at h p in
           rest j f.within (omega (arith, f.from)) (omega (arith, f.from))
-      by (Outside j) p rest = refl
-      by (Sides j) p rest = refl
+      by (Err f) p rest = refl

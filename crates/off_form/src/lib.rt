@@ -1,7 +1,7 @@
 // The form of an object text: where it is at fault, or that it is not, and its counts.
 #![tactic(auto)]
 
-ghost use Rattle.std.specs.Prelude.{◌≡◌, true, false, ◌+◌, ◌*◌, ◌^◌, ◌≤◌, ◌<◌, length};
+ghost use Rattle.std.specs.Prelude.{◌≡◌, true, false, ◌+◌, ◌*◌, ◌^◌, ◌≤◌, ◌<◌, length, MatchOption};
 ghost use Rattle.off_items.specs.Items.{after};
 ghost use Rattle.off_items.specs.Numbers.{size_of, largest, at_most};
 ghost use Rattle.off_form.specs.Form.{is_off, is_three, is_four, keyword, numbers_of, vertices_of, faces_of};
@@ -13,16 +13,15 @@ use off_items::numbers::{LARGEST, is_whole, size};
 use off_items::{Item, next};
 use scene::read::byte;
 
-// Read up to an offset; or the first byte of the first item outside the form, or that is the size of a face and not 3.
-#[derive(Clone, Copy)]
-pub enum Reading {
-    At(usize),
+// Why a text is not of the form: the first byte of the first item outside it, or that is the size of a face and not 3.
+#[derive(Clone, Copy, Debug, PartialEq, Eq)]
+pub enum Flaw {
     Outside(usize),
     Sides(usize),
 }
 
 // What a text's first four items tell: by the keyword how many numbers each vertex has, 3 or 4, and 0 where it is neither OFF nor 4OFF; the
-// counts of vertices and of faces; and where the four end.
+// counts of vertices and of faces; and where the four end. `per` is a number, not a kind: `theorem_off` `Redrawn` multiplies by it.
 #[derive(Clone, Copy)]
 pub struct Head {
     pub per: usize,
@@ -68,17 +67,18 @@ fn is_four(text: &[u8], i: usize, n: usize) -> bool
     is_off(text, i + 1)
 }
 
-fn keyword(text: &[u8], i: usize, n: usize) -> usize
+// How many numbers each vertex has, by the keyword.
+fn keyword(text: &[u8], i: usize, n: usize) -> Option<usize>
     requires { i ≤ length text.now }
-    ensures { result ≡ keyword text.now i n }
+    ensures { MatchOption result (keyword text.now i n ≡ 0) (λ per. (per ≡ keyword text.now i n) × (3 ≤ per)) }
 {
     if is_three(text, i, n) {
-        return 3;
+        return Some(3);
     }
     if is_four(text, i, n) {
-        return 4;
+        return Some(4);
     }
-    0
+    None
 }
 
 fn count(text: &[u8], i: Item) -> usize
@@ -108,63 +108,53 @@ pub fn head_of(text: &[u8]) -> Head
     ensures { Headed text.now result }
 {
     let k = next(text, 0);
-    head_from(text, k.end, keyword(text, k.start, k.end - k.start))
+    head_from(
+        text,
+        k.end,
+        keyword(text, k.start, k.end - k.start).unwrap_or(0),
+    )
 }
 
 // n whole numbers from `at` on.
-fn wholes(text: &[u8], at: usize, n: usize, signed: bool) -> Reading
+fn wholes(text: &[u8], at: usize, n: usize, signed: bool) -> Result<usize, Flaw>
     requires { at ≤ length text.now }
     ensures { result ≡ wholes signed n text.now at }
 {
     let mut k = at;
-    let mut i = 0;
-    while i < n {
+    for _ in 0..n {
         let w = next(text, k);
         if !is_whole(text, w.start, w.end, signed) {
-            return Reading::Outside(w.start);
+            return Err(Flaw::Outside(w.start));
         }
         k = w.end;
-        i += 1;
     }
-    Reading::At(k)
+    Ok(k)
 }
 
-fn face(text: &[u8], at: usize) -> Reading
+fn face(text: &[u8], at: usize) -> Result<usize, Flaw>
     requires { at ≤ length text.now }
     ensures { result ≡ face_from text.now at }
 {
     let w = next(text, at);
     if !is_whole(text, w.start, w.end, false) {
-        return Reading::Outside(w.start);
+        return Err(Flaw::Outside(w.start));
     }
     if size(text, w.start, w.end, false) != 3 {
-        return Reading::Sides(w.start);
+        return Err(Flaw::Sides(w.start));
     }
     wholes(text, w.end, 3, false)
 }
 
 // n faces from `at` on.
-fn faces(text: &[u8], at: usize, n: usize) -> Reading
+fn faces(text: &[u8], at: usize, n: usize) -> Result<usize, Flaw>
     requires { at ≤ length text.now }
     ensures { result ≡ faces_from n text.now at }
 {
     let mut k = at;
-    let mut i = 0;
-    while i < n {
-        match face(text, k) {
-            Reading::At(e) => {
-                k = e;
-            }
-            Reading::Outside(p) => {
-                return Reading::Outside(p);
-            }
-            Reading::Sides(p) => {
-                return Reading::Sides(p);
-            }
-        }
-        i += 1;
+    for _ in 0..n {
+        k = face(text, k)?;
     }
-    Reading::At(k)
+    Ok(k)
 }
 
 // v vertices' numbers, three or four each.
@@ -179,7 +169,7 @@ fn times(v: usize, per: usize) -> usize
 }
 
 // The vertices' numbers. A count that is larger than any text is long tells no more than the largest number does.
-fn vertices(text: &[u8], at: usize, h: Head) -> Reading
+fn vertices(text: &[u8], at: usize, h: Head) -> Result<usize, Flaw>
     requires { (at ≤ length text.now) × (3 ≤ h.per) × Headed text.now h }
     ensures { result ≡ wholes true (vertices_of text.now * numbers_of text.now) text.now at }
 {
@@ -189,7 +179,7 @@ fn vertices(text: &[u8], at: usize, h: Head) -> Reading
     wholes(text, at, LARGEST, true)
 }
 
-fn all_faces(text: &[u8], at: usize, h: Head) -> Reading
+fn all_faces(text: &[u8], at: usize, h: Head) -> Result<usize, Flaw>
     requires { (at ≤ length text.now) × Headed text.now h }
     ensures { result ≡ faces_from (faces_of text.now) text.now at }
 {
@@ -197,66 +187,56 @@ fn all_faces(text: &[u8], at: usize, h: Head) -> Reading
 }
 
 // Nothing from `at` on.
-fn end(text: &[u8], at: usize) -> Reading
+fn end(text: &[u8], at: usize) -> Result<usize, Flaw>
     requires { at ≤ length text.now }
     ensures { result ≡ end_from text.now at }
 {
     let i = next(text, at).start;
     if i == text.len() {
-        return Reading::At(at);
+        return Ok(at);
     }
-    Reading::Outside(i)
+    Err(Flaw::Outside(i))
 }
 
-fn faces_then(text: &[u8], at: usize, h: Head) -> Reading
+fn faces_then(text: &[u8], at: usize, h: Head) -> Result<usize, Flaw>
     requires { (at ≤ length text.now) × Headed text.now h }
     ensures { result ≡ faces_then text.now at }
 {
-    match all_faces(text, at, h) {
-        Reading::At(e) => end(text, e),
-        Reading::Outside(p) => Reading::Outside(p),
-        Reading::Sides(p) => Reading::Sides(p),
-    }
+    let e = all_faces(text, at, h)?;
+    end(text, e)
 }
 
-fn vertices_then(text: &[u8], at: usize, h: Head) -> Reading
+fn vertices_then(text: &[u8], at: usize, h: Head) -> Result<usize, Flaw>
     requires { (at ≤ length text.now) × (3 ≤ h.per) × Headed text.now h }
     ensures { result ≡ vertices_then text.now at }
 {
-    match vertices(text, at, h) {
-        Reading::At(e) => faces_then(text, e, h),
-        Reading::Outside(p) => Reading::Outside(p),
-        Reading::Sides(p) => Reading::Sides(p),
-    }
+    let e = vertices(text, at, h)?;
+    faces_then(text, e, h)
 }
 
 // The three items behind the keyword, which ends at `at`.
-fn counts(text: &[u8], at: usize) -> Reading
+fn counts(text: &[u8], at: usize) -> Result<usize, Flaw>
     requires { (at ≡ after text.now 1) × (at ≤ length text.now) }
     ensures { result ≡ wholes false 3 text.now (after text.now 1) }
 {
     wholes(text, at, 3, false)
 }
 
-fn counts_then(text: &[u8], at: usize, per: usize) -> Reading
+fn counts_then(text: &[u8], at: usize, per: usize) -> Result<usize, Flaw>
     requires { (at ≡ after text.now 1) × (at ≤ length text.now) × (per ≡ numbers_of text.now) × (3 ≤ per) }
     ensures { result ≡ counts_then text.now }
 {
-    match counts(text, at) {
-        Reading::At(e) => vertices_then(text, e, head_from(text, at, per)),
-        Reading::Outside(p) => Reading::Outside(p),
-        Reading::Sides(p) => Reading::Sides(p),
-    }
+    let e = counts(text, at)?;
+    vertices_then(text, e, head_from(text, at, per))
 }
 
 // Where the text is at fault first, or where what it tells ends.
-pub fn form(text: &[u8]) -> Reading
+pub fn form(text: &[u8]) -> Result<usize, Flaw>
     ensures { result ≡ form_of text.now }
 {
     let k = next(text, 0);
-    let per = keyword(text, k.start, k.end - k.start);
-    if per == 0 {
-        return Reading::Outside(k.start);
-    }
+    let Some(per) = keyword(text, k.start, k.end - k.start) else {
+        return Err(Flaw::Outside(k.start));
+    };
     counts_then(text, k.end, per)
 }

@@ -1,7 +1,8 @@
 // The items of a text, and the whole numbers that they tell.
 #![tactic(auto)]
 
-ghost use Rattle.std.specs.Prelude.{◌≡◌, ◌≤◌, length};
+ghost use Rattle.std.specs.Prelude.{◌≡◌, ◌≤◌, eqb, length};
+ghost use Rattle.std.specs.List.{position};
 ghost use Rattle.off_items.specs.Items.{separates, start_of, word_end, end_of};
 ghost use Rattle.off_items.specs.Lines.{line_end};
 
@@ -25,19 +26,21 @@ fn separates(c: u8) -> bool
     c == b'#'
 }
 
+fn first_newline(text: &[u8]) -> Option<usize>
+    ensures { result ≡ position (λ c. eqb c 10) text.now }
+{
+    text.iter().position(|c| *c == b'\n')
+}
+
 // Where the line that byte i is on ends: at its newline, or at the text's end.
 fn line_end(text: &[u8], i: usize) -> usize
     requires { i ≤ length text.now }
     ensures { (result ≡ line_end text.now i) × (i ≤ result) × (result ≤ length text.now) }
 {
-    let mut k = i;
-    while k < text.len() {
-        if text[k] == b'\n' {
-            return k;
-        }
-        k += 1;
+    match first_newline(&text[i..]) {
+        Some(k) => i + k,
+        None => text.len(),
     }
-    k
 }
 
 // Where the first item from `at` on starts: at the text's end where there is none. A comment is passed at once, by its line's end.
@@ -60,19 +63,21 @@ fn start(text: &[u8], at: usize) -> usize
     i
 }
 
+fn first_separator(text: &[u8]) -> Option<usize>
+    ensures { result ≡ position separates text.now }
+{
+    text.iter().position(|c| separates(*c))
+}
+
 // Where the item that starts at `start` ends.
 fn end(text: &[u8], start: usize) -> usize
     requires { start ≤ length text.now }
     ensures { (result ≡ word_end text.now start) × (start ≤ result) × (result ≤ length text.now) }
 {
-    let mut i = start;
-    while i < text.len() {
-        if separates(text[i]) {
-            return i;
-        }
-        i += 1;
+    match first_separator(&text[start..]) {
+        Some(k) => start + k,
+        None => text.len(),
     }
-    i
 }
 
 // The first item from `at` on, empty and at the text's end where there is none.

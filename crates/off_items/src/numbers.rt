@@ -1,7 +1,7 @@
 // Whole numbers of any length. What is above the largest number of 64 bits is told as that, which is outside every limit.
 ghost use Rattle.std.specs.Prelude.{◌≡◌, ◌+◌, ◌*◌, ◌-◌, ◌≤◌, ◌<◌, length, true};
-ghost use Rattle.std.proofs.Math.Seq.{slice};
-ghost use Rattle.off_items.specs.Numbers.{is_digit, digits, value, minus_at, body_of, is_whole, size_of, largest, at_most};
+ghost use Rattle.std.specs.List.{list_all, fold};
+ghost use Rattle.off_items.specs.Numbers.{is_digit, minus_at, body_of, is_whole, size_of, largest, at_most};
 
 use scene::read::byte;
 
@@ -19,26 +19,19 @@ pub fn is_digit(c: u8) -> bool
     c <= b'9'
 }
 
-fn digits(text: &[u8], start: usize, end: usize) -> bool
-    requires { end ≤ length text.now }
-    ensures { result ≡ digits (slice start end text.now) }
+fn digits(text: &[u8]) -> bool
+    ensures { result ≡ list_all is_digit text.now }
 {
-    let mut i = start;
-    while i < end {
-        if !is_digit(text[i]) {
-            return false;
-        }
-        i += 1;
-    }
-    true
+    text.iter().all(|c| is_digit(*c))
 }
 
 fn digit(c: u8) -> usize
     ensures { (result ≡ c - 48) × (result < 256) }
 {
-    if c < 48 { 0 } else { (c - 48) as usize }
+    usize::from(c.saturating_sub(48))
 }
 
+#[tactic(auto, using(crate::specs::Laws::at_most_low, crate::specs::Laws::at_most_high))]
 fn behind(n: usize, d: usize) -> usize
     requires { d < 256 }
     ensures { result ≡ at_most largest (10 * n + d) }
@@ -46,23 +39,13 @@ fn behind(n: usize, d: usize) -> usize
     if n < FEW {
         return 10 * n + d;
     }
-    if n > (LARGEST - d) / 10 {
-        return LARGEST;
-    }
-    10 * n + d
+    n.saturating_mul(10).saturating_add(d)
 }
 
-fn value(text: &[u8], start: usize, end: usize) -> usize
-    requires { end ≤ length text.now }
-    ensures { result ≡ at_most largest (value 0 (slice start end text.now)) }
+fn value(text: &[u8]) -> usize
+    ensures { result ≡ fold (λ n c. at_most largest (10 * n + (c - 48))) 0 text.now }
 {
-    let mut n = 0;
-    let mut i = start;
-    while i < end {
-        n = behind(n, digit(text[i]));
-        i += 1;
-    }
-    n
+    text.iter().fold(0, |n, c| behind(n, digit(*c)))
 }
 
 fn minus_at(text: &[u8], i: usize, signed: bool) -> bool
@@ -92,7 +75,7 @@ pub fn is_whole(text: &[u8], i: usize, e: usize, signed: bool) -> bool
 {
     let b = body(text, i, signed);
     if b < e {
-        return digits(text, b, e);
+        return digits(&text[b..e]);
     }
     false
 }
@@ -102,7 +85,11 @@ pub fn size(text: &[u8], i: usize, e: usize, signed: bool) -> usize
     requires { (i ≤ e) × (e ≤ length text.now) }
     ensures { result ≡ at_most largest (size_of signed text.now i e) }
 {
-    value(text, body(text, i, signed), e)
+    let b = body(text, i, signed);
+    if b < e {
+        return value(&text[b..e]);
+    }
+    0
 }
 
 // A whole number below zero or not, by its size.

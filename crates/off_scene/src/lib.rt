@@ -3,15 +3,15 @@
 
 ghost use Rattle.std.specs.Prelude.{◌≡◌, length};
 ghost use Rattle.off_solids.specs.Fitted.{scene_of};
-ghost use Rattle.off_scene.specs.Made.{number_of, place_of, placed, judged_of, counted_of, second_of, made_of, Makes};
+ghost use Rattle.off_scene.specs.Made.{number_of, place_of, fault_in, placed, judged_of, counted_of, second_of, made_of, Makes};
 ghost use Rattle.off_scene.specs.Counts.{head_fits};
+ghost use Rattle.off_scene.specs.declared.Fault.TheVariants.{OfScene};
 
-use judge::Judged;
-use off_form::{Head, Reading, form, head_of};
+use off_form::{Flaw, Head, form, head_of};
 use off_solids::points::Point;
 use off_solids::whole::put_scene;
 use scene::write::copy;
-use scene::{Refusal, Scene, is_within};
+use scene::{Numbered, Refusal, Scene, is_within};
 
 // Why there is no scene: an item outside the form, a face that is not a triangle, each with its offset; or a refusal of the scene's.
 #[derive(Clone, Copy)]
@@ -21,30 +21,44 @@ pub enum Fault {
     OfScene(Refusal),
 }
 
-// The length of the scene that was written, or why there is none.
-#[derive(Clone, Copy)]
-pub enum Made {
-    Scene(usize),
-    Refused(Fault),
-}
+impl From<Flaw> for Fault {
+    ghost from_gives = { λ f r. r ≡ fault_in 0 f };
 
-pub fn number(f: Fault) -> usize
-    ensures { result ≡ number_of f }
-{
-    match f {
-        Fault::Outside(_) => 20,
-        Fault::Sides(_) => 21,
-        Fault::OfScene(r) => scene::number(r),
+    fn from(f: Flaw) -> Fault {
+        match f {
+            Flaw::Outside(p) => Fault::Outside(p),
+            Flaw::Sides(p) => Fault::Sides(p),
+        }
     }
 }
 
-pub fn place(f: Fault) -> usize
-    ensures { result ≡ place_of f }
-{
-    match f {
-        Fault::Outside(p) => p,
-        Fault::Sides(p) => p,
-        Fault::OfScene(r) => scene::place(r),
+impl From<Refusal> for Fault {
+    ghost from_gives = { λ r f. f ≡ OfScene r };
+
+    fn from(r: Refusal) -> Fault {
+        Fault::OfScene(r)
+    }
+}
+
+impl Numbered for Fault {
+    ghost number = { number_of };
+
+    ghost place = { place_of };
+
+    fn number(self) -> usize {
+        match self {
+            Fault::Outside(_) => 20,
+            Fault::Sides(_) => 21,
+            Fault::OfScene(r) => r.number(),
+        }
+    }
+
+    fn place(self) -> usize {
+        match self {
+            Fault::Outside(p) => p,
+            Fault::Sides(p) => p,
+            Fault::OfScene(r) => r.place(),
+        }
     }
 }
 
@@ -59,64 +73,60 @@ fn counts_fit(h: Head) -> bool
 }
 
 // The scene s in the lent buffer, where there is room.
-fn placed(s: &[u8], out: &mut [u8]) -> Made
+fn placed(s: &[u8], out: &mut [u8]) -> Result<usize, Fault>
     ensures { Makes (placed s.now (length out.old)) s.now out.old out.new result }
 {
     let n = s.len();
     if out.len() < n {
-        return Made::Refused(Fault::OfScene(Refusal::BufferTooShort(n)));
+        return Err(Fault::OfScene(Refusal::BufferTooShort(n)));
     }
     copy(s, out);
-    Made::Scene(n)
+    Ok(n)
 }
 
-fn judged(s: &[u8], out: &mut [u8]) -> Made
+fn judged(s: &[u8], out: &mut [u8]) -> Result<usize, Fault>
     ensures { Makes (judged_of s.now (length out.old)) s.now out.old
         out.new result }
 {
-    match judge::judge(s) {
-        Judged::Accepted => placed(s, out),
-        Judged::Refused(r) => Made::Refused(Fault::OfScene(r)),
-    }
+    judge::judge(s)?;
+    placed(s, out)
 }
 
 // Two texts of the form. The scene is made in bytes of its own, so that a refusal leaves the lent ones as they are.
-fn counted(a: &[u8], b: &[u8], far: Point, out: &mut [u8]) -> Made
+fn counted(a: &[u8], b: &[u8], far: Point, out: &mut [u8]) -> Result<usize, Fault>
     ensures { Makes (counted_of a.now b.now far (length out.old))
         (scene_of a.now b.now far) out.old out.new result }
 {
     let h = head_of(a);
     let g = head_of(b);
     if !counts_fit(h) {
-        return Made::Refused(Fault::OfScene(Refusal::Counts));
+        return Err(Fault::OfScene(Refusal::Counts));
     }
     if !counts_fit(g) {
-        return Made::Refused(Fault::OfScene(Refusal::Counts));
+        return Err(Fault::OfScene(Refusal::Counts));
     }
     let mut own = [0u8; Scene::LONGEST];
     let n = put_scene(&mut own, a, h, b, g, far);
     judged(&own[..n], out)
 }
 
-fn second(a: &[u8], b: &[u8], far: Point, out: &mut [u8]) -> Made
+fn second(a: &[u8], b: &[u8], far: Point, out: &mut [u8]) -> Result<usize, Fault>
     ensures { Makes (second_of a.now b.now far (length out.old))
         (scene_of a.now b.now far) out.old out.new result }
 {
     match form(b) {
-        Reading::At(_) => counted(a, b, far, out),
-        Reading::Outside(p) => Made::Refused(Fault::Outside(a.len() + p)),
-        Reading::Sides(p) => Made::Refused(Fault::Sides(a.len() + p)),
+        Ok(_) => counted(a, b, far, out),
+        Err(Flaw::Outside(p)) => Err(Fault::Outside(a.len() + p)),
+        Err(Flaw::Sides(p)) => Err(Fault::Sides(a.len() + p)),
     }
 }
 
-// The scene of two texts and a far point, at the front of the lent buffer; or the first refusal, which leaves the buffer as it is.
-pub fn scene_of(a: &[u8], b: &[u8], far: Point, out: &mut [u8]) -> Made
+// The scene of two texts and a far point, at the front of the lent buffer, and its length; or the first refusal, which leaves the buffer as
+// it is.
+pub fn scene_of(a: &[u8], b: &[u8], far: Point, out: &mut [u8]) -> Result<usize, Fault>
     ensures { Makes (made_of a.now b.now far (length out.old))
         (scene_of a.now b.now far) out.old out.new result }
 {
-    match form(a) {
-        Reading::At(_) => second(a, b, far, out),
-        Reading::Outside(p) => Made::Refused(Fault::Outside(p)),
-        Reading::Sides(p) => Made::Refused(Fault::Sides(p)),
-    }
+    form(a)?;
+    second(a, b, far, out)
 }

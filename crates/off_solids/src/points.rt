@@ -32,10 +32,8 @@ pub fn past(text: &[u8], at: usize, k: usize) -> usize
     ensures { (result ≡ past text.now at k) × (result ≤ length text.now) }
 {
     let mut e = at;
-    let mut i = 0;
-    while i < k {
+    for _ in 0..k {
         e = pass(text, e);
-        i += 1;
     }
     e
 }

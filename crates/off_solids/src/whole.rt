@@ -18,11 +18,9 @@ fn put_rows(out: &mut [u8], k: usize, text: &[u8], h: Head)
     let n = h.vertices;
     let per = h.per;
     let mut at = h.at;
-    let mut i = 0;
-    while i < n {
+    for i in 0..n {
         put_point(out, k + 9 * i, Scene::VX, vertex_at(text, at, per));
         at = past(text, at, per);
-        i += 1;
     }
 }
 
@@ -32,11 +30,9 @@ fn put_faces(out: &mut [u8], k: usize, text: &[u8], h: Head)
 {
     let n = h.faces;
     let mut at = past(text, h.at, h.vertices * h.per);
-    let mut i = 0;
-    while i < n {
+    for i in 0..n {
         put_face(out, k + 5 * i, face_at(text, at));
         at = past(text, at, 4);
-        i += 1;
     }
 }
 

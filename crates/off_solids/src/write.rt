@@ -12,10 +12,11 @@ use off_items::numbers::Number;
 use scene::{Face, Scene};
 
 // n, or `most` where n is above it.
+#[tactic(auto, using(off_items::specs::Laws::at_most_low, off_items::specs::Laws::at_most_high))]
 fn at_most(most: usize, n: usize) -> usize
     ensures { result ≡ at_most most n }
 {
-    if n <= most { n } else { most }
+    n.min(most)
 }
 
 // The number that stands for one of size m, below zero or not, where half and above stand for those below.

@@ -1,12 +1,11 @@
 -- Why two texts make no scene, as two lines: the refusal's number and place, and in words what stands there and which rule it breaks.
 -- Assumes nothing.
-use Rattle.std.specs.Prelude.{ℕ, ◌-◌, ◌≡◌, Bool, true, false, List, [], ◌∷◌, ◌++◌, length}
+use Rattle.std.specs.Prelude.{ℕ, ◌-◌, ◌≡◌, Bool, true, false, List, [], ◌∷◌, ◌++◌, length, Result, Ok, Err}
 use Rattle.std.proofs.Common.{sym, ap, ◌∙◌}
 use Rattle.print.specs.Put.{Put}
 use Rattle.print.specs.Text.{ascii, decimal, line}
 use Rattle.off_form.specs.Form.{form_of}
-use Rattle.off_form.specs.declared.Reading.{Reading}
-use Rattle.off_form.specs.declared.Reading.TheVariants as reading
+use Rattle.off_form.specs.declared.Flaw.{Flaw}
 use Rattle.off_scene.specs.Made.{number_of, place_of}
 use Rattle.off_scene.specs.declared.Fault.{Fault}
 use Rattle.off_scene.specs.declared.Fault.TheVariants.{Outside, Sides, OfScene}
@@ -25,11 +24,10 @@ spotted name s k = name ++ ((32 ∷ decimal (line_of s k)) ++ (ascii ", column" 
 abbrev pub fault_at : List ℕ → List ℕ → ℕ → Bool → List ℕ
 fault_at name s k sides = spotted name s k ++ standing sides s k
 
--- by the reading of the first text, at offset k of two: the first is at fault, or else the second
-abbrev pub fault_by : Reading → List ℕ → List ℕ → ℕ → Bool → List ℕ
-fault_by (reading.At e) a b k sides = fault_at (ascii "second text, line") b (k - length a) sides
-fault_by (reading.Outside e) a b k sides = fault_at (ascii "first text, line") a k sides
-fault_by (reading.Sides e) a b k sides = fault_at (ascii "first text, line") a k sides
+-- by the form of the first text, at offset k of two: the first is at fault, or else the second
+abbrev pub fault_by : Result ℕ Flaw → List ℕ → List ℕ → ℕ → Bool → List ℕ
+fault_by (Ok e) a b k sides = fault_at (ascii "second text, line") b (k - length a) sides
+fault_by (Err f) a b k sides = fault_at (ascii "first text, line") a k sides
 
 abbrev pub in_texts : List ℕ → List ℕ → ℕ → Bool → List ℕ
 in_texts a b k sides = fault_by (form_of a) a b k sides
@@ -44,21 +42,16 @@ fault_of a b f = refused_line f ++ words_of a b f
 
 -- ---- from the calls' answers: by which case the words were put
 
-module _ {l : List ℕ} {at : ℕ} {m : List ℕ} {p : ℕ} (a b : List ℕ) (k : ℕ) (g : Bool) {o : Reading} (q : o ≡ form_of a) where
-  read_put : {x : Reading} → o ≡ x → Put l at (fault_by x a b k g) m p → Put l at (in_texts a b k g) m p
-  read_put e x = put_as (ap (λ (r : Reading). fault_by r a b k g) (sym e ∙ q)) x
+module _ {l : List ℕ} {at : ℕ} {m : List ℕ} {p : ℕ} (a b : List ℕ) (k : ℕ) (g : Bool) {o : Result ℕ Flaw} (q : o ≡ form_of a) where
+  read_put : {x : Result ℕ Flaw} → o ≡ x → Put l at (fault_by x a b k g) m p → Put l at (in_texts a b k g) m p
+  read_put e x = put_as (ap (λ (r : Result ℕ Flaw). fault_by r a b k g) (sym e ∙ q)) x
 
-  pub in_second : {e j : ℕ} → o ≡ reading.At e → j ≡ k - length a → Put l at (fault_at (ascii "second text, line") b j g) m p →
+  pub in_second : {e j : ℕ} → o ≡ Ok e → j ≡ k - length a → Put l at (fault_at (ascii "second text, line") b j g) m p →
       Put l at (in_texts a b k g) m p
   in_second e d x = read_put e (put_as (ap (λ (j : ℕ). fault_at (ascii "second text, line") b j g) d) x)
 
-  pub in_first : {e : ℕ} → o ≡ reading.Outside e → Put l at (fault_at (ascii "first text, line") a k g) m p →
-      Put l at (in_texts a b k g) m p
+  pub in_first : {f : Flaw} → o ≡ Err f → Put l at (fault_at (ascii "first text, line") a k g) m p → Put l at (in_texts a b k g) m p
   in_first e x = read_put e x
-
-  pub in_first_face : {e : ℕ} → o ≡ reading.Sides e → Put l at (fault_at (ascii "first text, line") a k g) m p →
-      Put l at (in_texts a b k g) m p
-  in_first_face e x = read_put e x
 
 pub fault_put : {l : List ℕ} {at : ℕ} {m : List ℕ} {p : ℕ} (a b : List ℕ) {o x : Fault} → o ≡ x → Put l at (words_of a b x) m p →
     Put l at (words_of a b o) m p

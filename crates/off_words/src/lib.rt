@@ -3,27 +3,19 @@
 
 ghost use Rattle.std.specs.Prelude.{◌≡◌, ◌-◌};
 ghost use Rattle.print.specs.Put.{Put};
-ghost use Rattle.off_words.specs.Faults.{refused_line, spotted, fault_at, in_texts, words_of, fault_of};
+ghost use Rattle.off_words.specs.Faults.{spotted, fault_at, in_texts, words_of, fault_of};
 
 use crate::spots::spot_of;
 use crate::stands::standing;
-use off_form::{Reading, form};
+use off_form::form;
 use off_scene::Fault;
 use print::{newline, next_number, word};
+use print_refusals::refused;
 
 pub mod records;
 pub mod shown;
 pub mod spots;
 pub mod stands;
-
-pub fn refused(out: &mut [u8], at: usize, f: Fault) -> usize
-    ensures { Put out.old at (refused_line f) out.new result }
-{
-    let p = word(out, at, b"refused");
-    let q = next_number(out, p, off_scene::number(f));
-    let e = next_number(out, q, off_scene::place(f));
-    newline(out, e)
-}
 
 // The byte at offset k of the text that is named.
 fn spotted(out: &mut [u8], at: usize, name: &[u8], text: &[u8], k: usize) -> usize
@@ -39,7 +31,7 @@ fn spotted(out: &mut [u8], at: usize, name: &[u8], text: &[u8], k: usize) -> usi
 pub fn minus(m: usize, n: usize) -> usize
     ensures { result ≡ m - n }
 {
-    if m < n { 0 } else { m - n }
+    m.saturating_sub(n)
 }
 
 // And what stands there.
@@ -55,9 +47,8 @@ fn in_texts(out: &mut [u8], at: usize, a: &[u8], b: &[u8], k: usize, sides: bool
     ensures { Put out.old at (in_texts a.now b.now k sides) out.new result }
 {
     match form(a) {
-        Reading::At(_) => fault_at(out, at, b"second text, line", b, minus(k, a.len()), sides),
-        Reading::Outside(_) => fault_at(out, at, b"first text, line", a, k, sides),
-        Reading::Sides(_) => fault_at(out, at, b"first text, line", a, k, sides),
+        Ok(_) => fault_at(out, at, b"second text, line", b, minus(k, a.len()), sides),
+        Err(_) => fault_at(out, at, b"first text, line", a, k, sides),
     }
 }
 

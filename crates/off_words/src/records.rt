@@ -5,7 +5,7 @@ ghost use Rattle.off_words.specs.Records.{of_first, of_second, face_in, rest_in,
 use crate::minus;
 use off_form::head_of;
 use print::{next_number, word};
-use scene::Refusal;
+use scene::{Numbered, Refusal};
 
 fn of_first(out: &mut [u8], at: usize, w: &[u8], n: usize) -> usize
     ensures { Put out.old at (of_first w.now n) out.new result }
@@ -121,7 +121,7 @@ fn rule(out: &mut [u8], at: usize, n: usize) -> usize
 pub fn words(out: &mut [u8], at: usize, a: &[u8], b: &[u8], r: Refusal) -> usize
     ensures { Put out.old at (refusal_of a.now b.now r) out.new result }
 {
-    let n = scene::number(r);
-    let p = thing(out, at, a, b, n, scene::place(r));
+    let n = r.number();
+    let p = thing(out, at, a, b, n, r.place());
     rule(out, p, n)
 }

@@ -24,10 +24,8 @@ fn bytes(out: &mut [u8], at: usize, w: &[u8]) -> usize
         return out.len();
     }
     let mut p = at;
-    let mut i = 0;
-    while i < w.len() {
-        p = byte(out, p, shown_byte(w[i]));
-        i += 1;
+    for c in w {
+        p = byte(out, p, shown_byte(*c));
     }
     p
 }

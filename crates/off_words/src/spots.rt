@@ -34,12 +34,9 @@ fn last(text: &[u8]) -> Spot
 {
     let mut line = 1;
     let mut column = 1;
-    let mut i = 0;
-    while i < text.len() {
-        let c = text[i];
-        line = line_behind(line, c);
-        column = column_behind(column, c);
-        i += 1;
+    for c in text {
+        line = line_behind(line, *c);
+        column = column_behind(column, *c);
     }
     Spot { line, column }
 }
@@ -47,7 +44,7 @@ fn last(text: &[u8]) -> Spot
 fn least(m: usize, n: usize) -> usize
     ensures { (result ≡ min m n) × (result ≤ n) }
 {
-    if m < n { m } else { n }
+    m.min(n)
 }
 
 // The byte at offset k, or the text's end where it has none.

@@ -25,14 +25,7 @@ pub enum Stand {
 fn holds(w: &[u8], c: u8) -> bool
     ensures { result ≡ holds c w.now }
 {
-    let mut i = 0;
-    while i < w.len() {
-        if w[i] == c {
-            return true;
-        }
-        i += 1;
-    }
-    false
+    w.contains(&c)
 }
 
 fn is_marked(w: &[u8]) -> bool

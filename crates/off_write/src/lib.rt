@@ -31,12 +31,10 @@ fn is_weighted(s: &[u8], first: usize, n: usize) -> bool
     requires { (first < 1024) × (n < 1024) }
     ensures { result ≡ weighted (run (row (tables_of s.now)) first n) }
 {
-    let mut i = 0;
-    while i < n {
+    for i in 0..n {
         if !is_one(row(s, first + i)) {
             return true;
         }
-        i += 1;
     }
     false
 }
@@ -96,10 +94,8 @@ fn vertices(out: &mut [u8], at: usize, s: &[u8], first: usize, n: usize, is_four
         return out.len();
     }
     let mut p = at;
-    let mut i = 0;
-    while i < n {
+    for i in 0..n {
         p = vertex(out, p, row(s, first + i), is_four);
-        i += 1;
     }
     p
 }
@@ -108,7 +104,7 @@ fn vertices(out: &mut [u8], at: usize, s: &[u8], first: usize, n: usize, is_four
 fn from_zero(corner: usize, low: usize) -> usize
     ensures { result ≡ corner - low - 1 }
 {
-    if corner <= low { 0 } else { corner - low - 1 }
+    corner.saturating_sub(low).saturating_sub(1)
 }
 
 fn triangle(out: &mut [u8], at: usize, f: Face, low: usize) -> usize
@@ -130,10 +126,8 @@ fn faces(out: &mut [u8], at: usize, s: &[u8], first: usize, n: usize, low: usize
         return out.len();
     }
     let mut p = at;
-    let mut i = 0;
-    while i < n {
+    for i in 0..n {
         p = triangle(out, p, corners(s, first + i), low);
-        i += 1;
     }
     p
 }

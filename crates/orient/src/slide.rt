@@ -28,12 +28,12 @@ fn negative_weights(a: Point, b: Point, c: Point, d: Point) -> usize
 fn swapped(p: Point, q: Point) -> usize
     ensures { (result ≡ swapped p q) × (result ≤ 1) }
 {
-    if q.n < p.n { 1 } else { 0 }
+    usize::from(q.n < p.n)
 }
 
 // 1 where the weight is negative; 0 is not.
 fn negative(p: Point) -> usize
     ensures { (result ≡ negative p) × (result ≤ 1) }
 {
-    if p.w < 0 { 1 } else { 0 }
+    usize::from(p.w < 0)
 }

@@ -1,18 +1,17 @@
 -- A block of scenes that the judge does not refuse with 1, 2 or 3, end to end: it has exactly these scenes, so that its report tallies each
 -- of them as one. The proofs stand in `PackedProof`. Assumes nothing.
-use Rattle.std.specs.Prelude.{◌≡◌, Bool, true, List, [], ◌∷◌, ◌++◌, map, ℕ, ltb}
+use Rattle.std.specs.Prelude.{◌≡◌, Bool, true, List, [], ◌∷◌, ◌++◌, map, ℕ, ltb, Ok, Err}
 use Rattle.laws.specs.Lists.{Each}
 use Rattle.scene.specs.Refusal.{number_of}
 use Rattle.judge.specs.Judge.{judged}
-use Rattle.judge.specs.declared.Judged.{Judged}
-use Rattle.judge.specs.declared.Judged.TheVariants.{Accepted, Refused}
+use Rattle.judge.specs.Judge.{Judged}
 use Rattle.class_block.specs.Block.{scenes_of}
 use Rattle.class_tally.specs.Tally.{mark_of, tally_of, marks_of}
 
 -- a block passes over any other refusal
 abbrev pub passes : Judged → Bool
-passes Accepted = true
-passes (Refused r) = ltb 3 (number_of r)
+passes (Ok _) = true
+passes (Err r) = ltb 3 (number_of r)
 
 abbrev pub Whole : List ℕ → Type 0
 Whole s = passes (judged s) ≡ true

@@ -1,7 +1,7 @@
 -- The proofs of `Packed`: one scene is a block of itself, and blocks of whole scenes are joined. Assumes nothing.
 use Rattle.std.proofs.Math.Path.{◌≡◌, refl}
 use Rattle.std.proofs.Common.{sym, ap, ap₂, ◌∙◌, subst, arith}
-use Rattle.std.specs.Prelude.{Bool, ◌&&◌, List, [], ◌∷◌, ◌++◌, map, ℕ, ltb, length, take, drop}
+use Rattle.std.specs.Prelude.{Bool, ◌&&◌, List, [], ◌∷◌, ◌++◌, map, ℕ, ltb, length, take, drop, Ok, Err}
 use Rattle.std.proofs.Math.Bool.{true, false}
 use borrow.Author.Tests.{le-leb, eqb-true}
 use Rattle.std.proofs.Math.Dec.{eqb}
@@ -13,15 +13,14 @@ use Rattle.scene.specs.Refusal.{number_of}
 use Rattle.scene.specs.declared.Refusal.{Refusal}
 use Rattle.scene.specs.declared.Refusal.TheVariants.{Opening, Counts, Length}
 use Rattle.judge.specs.Judge.{refuse_unless, and_then, opens, counts_ok, header_fault, judged_at, judged}
-use Rattle.judge.specs.declared.Judged.{Judged}
-use Rattle.judge.specs.declared.Judged.TheVariants.{Accepted, Refused}
+use Rattle.judge.specs.Judge.{Judged}
 use Rattle.class_block.specs.Block.{headed, whole, scenes_of}
 use Rattle.class_block.specs.Parts.{Ended}
 use Rattle.class_block.proofs.PartsProof.{parts}
 use Rattle.class_tally.specs.Tally.{mark_of, tally_of, marks_of}
 use Rattle.pack.specs.Packed.{passes, Whole, end_to_end, Packed}
 
-pub number_passes : {j : Judged} {r : Refusal} {n : ℕ} → j ≡ Refused r → n ≡ number_of r → ltb 3 n ≡ passes j
+pub number_passes : {j : Judged} {r : Refusal} {n : ℕ} → j ≡ Err r → n ≡ number_of r → ltb 3 n ≡ passes j
 number_passes q e = ap (ltb 3) e ∙ sym (ap passes q)
 
 pub passes_by : {a : Bool} (s : List ℕ) {j : Judged} → j ≡ judged s → a ≡ passes j → a ≡ passes (judged s)
@@ -36,7 +35,7 @@ module _ (s : List ℕ) (ok : Whole s) where
   header = go (opens s) (counts_ok limits s) (eqb (length s) (length_of s)) refl _ ok
     where
       go : (a b c : Bool) → eqb (length s) (length_of s) ≡ c → (k : Judged) →
-          passes (and_then (refuse_unless a Opening (refuse_unless b Counts (refuse_unless c Length Accepted))) k) ≡ true →
+          passes (and_then (refuse_unless a Opening (refuse_unless b Counts (refuse_unless c Length (Ok tt)))) k) ≡ true →
           ((a && b) ≡ true) × (length s ≡ length_of s)
       go true true true e k p = (refl, eqb-true (length s) (length_of s) e)
       go true true false e k p = absurd (let z : ◌≡◌ {A = ℕ} 0 1 = cc in omega arith)

@@ -9,9 +9,8 @@ ghost use Rattle.pack.specs.Packed.{passes};
 use class_tally::Tally;
 use class_tally::files::sum;
 use cli_files::{MOST_FILES, Walk, progress};
-use judge::Judged;
 use print::{newline, next_number, word};
-use scene::{Refusal, Scene};
+use scene::{Numbered, Refusal, Scene};
 use std::io::ErrorKind;
 use std::rt::Env;
 use std::{fs, io};
@@ -58,12 +57,12 @@ fn written(rt: &HostRuntime, program: &[u8], p: Packing, dir: &[u8], block: &[u8
 }
 
 // Whether it can stand in a block: one that is refused with 1, 2 or 3 would end the block's report.
-fn passes(j: Judged) -> bool
+fn passes(j: Result<(), Refusal>) -> bool
     ensures { result ≡ passes j }
 {
     match j {
-        Judged::Accepted => true,
-        Judged::Refused(r) => scene::number(r) > 3,
+        Ok(()) => true,
+        Err(r) => r.number() > 3,
     }
 }
 
@@ -71,13 +70,13 @@ fn say_refused(rt: &HostRuntime, program: &[u8], name: &[u8], r: Refusal) {
     let mut out = [0u8; 4160];
     let a = word(&mut out, 0, name);
     let b = word(&mut out, a, b": left out, refused");
-    let c = next_number(&mut out, b, scene::number(r));
-    let e = next_number(&mut out, c, scene::place(r));
+    let c = next_number(&mut out, b, r.number());
+    let e = next_number(&mut out, c, r.place());
     cli::say(rt, program, &out[0..e]);
 }
 
-fn say_judged(rt: &HostRuntime, program: &[u8], name: &[u8], j: Judged) {
-    if let Judged::Refused(r) = j {
+fn say_judged(rt: &HostRuntime, program: &[u8], name: &[u8], j: Result<(), Refusal>) {
+    if let Err(r) = j {
         say_refused(rt, program, name, r);
     }
 }
@@ -165,12 +164,11 @@ fn packed(
     let mut q = p;
     let r = cli_files::step(rt, program, q.walk, piece, name, s);
     q.walk = r.walk;
-    let k = r.name;
     let n = r.count;
-    q.over = !r.found;
-    if !r.found {
+    let Some(k) = r.name else {
+        q.over = true;
         return q;
-    }
+    };
     taken(rt, program, q, r.whole, dir, &name[..k], &s[..n], block)
 }
 
@@ -185,13 +183,11 @@ fn all_packed(
     block: &mut [u8],
 ) -> Packing {
     let mut p = first;
-    let mut left = MOST_FILES;
-    while left > 0 {
+    for _ in 0..MOST_FILES {
         p = packed(rt, program, p, dir, piece, name, s, block);
         if p.over {
             break;
         }
-        left -= 1;
     }
     p
 }

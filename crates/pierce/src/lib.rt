@@ -66,14 +66,12 @@ fn helper(n: usize, u: usize, v: usize, f: Face) -> usize
     requires { n ≤ most_points limits }
     ensures { result ≡ helper n u v f }
 {
-    let mut h: usize = 1;
-    while h <= n {
+    for h in 1..n + 1 {
         if can_help(u, v, f, h) {
             return h;
         }
-        h += 1;
     }
-    h
+    n + 1
 }
 
 // i is none of u, v and the face's corners.

@@ -69,11 +69,9 @@ fn word(
     ensures { result ≡ mask_against n (row_in rows.now) (face_in corners.now) u v first count }
 {
     let mut word: u64 = 0;
-    let mut k: usize = 0;
-    while k < count {
+    for k in 0..count {
         let f = face_in(corners, first + 1 + k);
         word = word | bit(pierces(engine, rows, n, u, v, f)) << k;
-        k += 1;
     }
     word
 }
@@ -96,5 +94,5 @@ pub fn pierces(engine: Engine, rows: &Rows, n: usize, u: usize, v: usize, f: Fac
 fn bit(c: bool) -> u64
     ensures { result ≡ digit c }
 {
-    if c { 1 } else { 0 }
+    u64::from(c)
 }

@@ -35,13 +35,9 @@ pub fn word(out: &mut [u8], at: usize, w: &[u8]) -> usize
     if out.len() <= at {
         return out.len();
     }
-    let mut p = at;
-    let mut i = 0;
-    while i < w.len() {
-        p = byte(out, p, w[i]);
-        i += 1;
-    }
-    p
+    let n = w.len().min(out.len() - at);
+    out[at..at + n].copy_from_slice(&w[..n]);
+    at + n
 }
 
 // How many digits n has.
@@ -81,11 +77,9 @@ fn digits(out: &mut [u8], at: usize, n: usize, k: usize)
     ensures { out.new ≡ put out.old at (decimal n) }
 {
     let mut rest = n;
-    let mut i = k - 1;
-    while rest >= 10 {
+    for i in (1..k).rev() {
         store(out, at, i, digit(rest % 10));
         rest /= 10;
-        i -= 1;
     }
     store(out, at, 0, digit(rest));
 }
@@ -142,15 +136,11 @@ pub fn number(out: &mut [u8], at: usize, n: usize) -> usize
     many_digits(out, at, n)
 }
 
-// The size of a number. (-z alone would not fit for the lowest.)
+// The size of a number.
 pub fn size(z: i64) -> usize
     ensures { result ≡ nat_abs z }
 {
-    if z < 0 {
-        ((0 - (z + 1)) as usize) + 1
-    } else {
-        z as usize
-    }
+    z.unsigned_abs() as usize
 }
 
 pub fn signed(out: &mut [u8], at: usize, z: i64) -> usize

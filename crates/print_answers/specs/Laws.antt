@@ -1,16 +1,14 @@
 -- A mask's line by its words, a record's by its refusal, and the turns of filling lent places. Assumes nothing.
-use Rattle.std.specs.Prelude.{ℕ, ◌+◌, ◌-◌, ◌*◌, ◌/◌, ◌%◌, ◌^◌, ◌≤◌, ◌<◌, min, Bool, not, ◌≡◌, refl, List, [], ◌∷◌, ◌++◌, length, take, drop, set}
+use Rattle.std.specs.Prelude.{ℕ, ◌+◌, ◌-◌, ◌*◌, ◌/◌, ◌%◌, ◌^◌, ◌≤◌, ◌<◌, min, Bool, not, ◌≡◌, refl, List, [], ◌∷◌, ◌++◌, length, take, drop, set, Ok, Err}
 use Rattle.std.proofs.Common.{sym, ap, ap₂, ◌∙◌, subst, add-one, arith, take-suc-set, take_all, take_at, drop_at, length-take-le}
 use Rattle.laws.specs.Lists.{run_append}
 use Rattle.scene.specs.declared.Refusal.{Refusal}
-use Rattle.judge.specs.declared.Judged.{Judged}
-use Rattle.judge.specs.declared.Judged.TheVariants.{Accepted, Refused}
+use Rattle.judge.specs.Judge.{Judged}
 use Rattle.record.specs.Shown.{shown, refusal}
 use Rattle.pierce_masks.specs.Faces.{value_of}
 use Rattle.pierce_masks.specs.declared.Mask.{Mask}
 use Rattle.questions.specs.Answers.{faces_are, IsListed}
-use Rattle.questions.specs.declared.Listed.{Listed}
-use Rattle.questions.specs.declared.Masked.TheVariants as masked
+use Rattle.questions.specs.Types.{Listed}
 use Rattle.print.specs.Text.{ascii, decimal, line, text}
 use Rattle.print.specs.Back.{Words}
 use Rattle.print.specs.Put.{behind, Put, end_to_end}
@@ -22,7 +20,7 @@ use Rattle.print_answers.specs.Said.{words_line, shown_line, listed_line}
 use Rattle.print_answers.specs.Lent.{pattern, filled, are_touched, IsLent, rows_of, lent_text}
 
 pub words_are : (m : Mask) (ones : ℕ) → m.low < 2 ^ 64 → {l : List ℕ} {at : ℕ} {l' : List ℕ} {p : ℕ} →
-    Put l at (line (mask_line (masked.Faces m ones))) l' p → Put l at (line (words_line (faces_are (value_of m) ones))) l' p
+    Put l at (line (mask_line (Ok (m, ones)))) l' p → Put l at (line (words_line (faces_are (value_of m) ones))) l' p
 unfolding value_of
 words_are m ones h {l} {at} {l'} {p} x =
     let low : m.low ≡ (m.low + 2 ^ 64 * m.high) % 2 ^ 64 = omega arith in
@@ -32,11 +30,11 @@ words_are m ones h {l} {at} {l'} {p} x =
 
 -- of o, what `record_refusal` answered
 module _ (s : List ℕ) (k : ℕ) {o : Judged} (j : o ≡ refusal s k) {l : List ℕ} {at : ℕ} {l' : List ℕ} {p : ℕ} where
-  pub shown_refused : {r : Refusal} → o ≡ Refused r → Put l at (line (refused_line r)) l' p →
+  pub shown_refused : {r : Refusal} → o ≡ Err r → Put l at (line (refused_line r)) l' p →
       Put l at (line (shown_line (refusal s k) (shown s k))) l' p
   shown_refused e x = by_case (λ (i : Judged). shown_line i (shown s k)) (sym j ∙ e) x
 
-  pub shown_all : {t : List ℕ} → o ≡ Accepted → t ≡ shown s k → Put l at (line (record_line t)) l' p →
+  pub shown_all : {t : List ℕ} → o ≡ Ok tt → t ≡ shown s k → Put l at (line (record_line t)) l' p →
       Put l at (line (shown_line (refusal s k) (shown s k))) l' p
   shown_all e q x = by_case (λ (i : Judged). shown_line i (shown s k)) (sym j ∙ e) (by_case record_line (sym q) x)
 

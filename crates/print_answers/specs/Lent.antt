@@ -1,11 +1,10 @@
 -- A listing into lent places: they are filled before it, and afterwards its rows are shown, and whether it left the others alone.
 -- Assumes nothing.
-use Rattle.std.specs.Prelude.{ℕ, ◌-◌, ◌*◌, ◌/◌, ◌%◌, min, ◌≡◌, Bool, not, List, ◌++◌, eqb, length, get_or, take, drop}
+use Rattle.std.specs.Prelude.{ℕ, ◌-◌, ◌*◌, ◌/◌, ◌%◌, min, ◌≡◌, Bool, not, List, ◌++◌, eqb, length, get_or, take, drop, Ok, Err}
 use Rattle.laws.specs.Lists.{run}
 use Rattle.laws.specs.Range.{any_of}
 use Rattle.questions.specs.Answers.{IsListed}
-use Rattle.questions.specs.declared.Listed.{Listed}
-use Rattle.questions.specs.declared.Listed.TheVariants as listed
+use Rattle.questions.specs.Types.{Listed}
 use Rattle.print.specs.Text.{line, text}
 use Rattle.print_lines.specs.Lines.{kept_line}
 use Rattle.print_lines.specs.Rows.{rows_in, fitting}
@@ -31,8 +30,8 @@ pub record IsLent (s : List ℕ) (places : ℕ) (d d' : List ℕ) (r : Listed) :
 
 -- how many rows the places have
 abbrev pub rows_of : Listed → ℕ
-rows_of (listed.Refused r) = 0
-rows_of (listed.Count n) = n
+rows_of (Err r) = 0
+rows_of (Ok n) = n
 
 -- the text where so many bytes have room: the line, the rows that have room, and whether the places behind them were left alone
 unfoldable pub lent_text : (room : ℕ) → Listed → List ℕ → List ℕ

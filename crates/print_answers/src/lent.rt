@@ -9,7 +9,8 @@ use kernel::lists::listing;
 use pierce_engine::Engine;
 use print_lines::rows::{ROW, kept, least, rows};
 use print_lines::{pairs, refused};
-use questions::{Listed, MOST_PAIRS};
+use questions::MOST_PAIRS;
+use scene::Refusal;
 
 // Room for the longest listing, and for its rows with the lines beside them.
 pub const PLACES: usize = 3 * MOST_PAIRS;
@@ -26,10 +27,8 @@ fn pattern(i: usize) -> u16
 fn fill(l: &mut [u16])
     ensures { l.new ≡ filled (length l.old) }
 {
-    let mut i = 0;
-    while i < l.len() {
-        l[i] = pattern(i);
-        i += 1;
+    for (i, x) in l.iter_mut().enumerate() {
+        *x = pattern(i);
     }
 }
 
@@ -44,18 +43,16 @@ fn is_touched(l: &[u16], i: usize) -> bool
 fn are_touched(l: &[u16], from: usize) -> bool
     ensures { result ≡ are_touched l.now from }
 {
-    let mut i = from;
-    while i < l.len() {
+    for i in from..l.len() {
         if is_touched(l, i) {
             return true;
         }
-        i += 1;
     }
     false
 }
 
 // The listing into so many of the lent places, or into all of them, which are filled before.
-pub fn lend(engine: Engine, s: &[u8], places: usize, l: &mut [u16]) -> Listed
+pub fn lend(engine: Engine, s: &[u8], places: usize, l: &mut [u16]) -> Result<usize, Refusal>
     ensures { IsLent s.now places l.old l.new result }
 {
     fill(l);
@@ -63,27 +60,27 @@ pub fn lend(engine: Engine, s: &[u8], places: usize, l: &mut [u16]) -> Listed
     listing(engine, s, &mut l[..n])
 }
 
-fn listed_line(a: Listed, out: &mut [u8], at: usize) -> usize
+fn listed_line(a: Result<usize, Refusal>, out: &mut [u8], at: usize) -> usize
     ensures { Put out.old at (line (listed_line a)) out.new result }
 {
     match a {
-        Listed::Refused(r) => refused(out, at, r),
-        Listed::Count(n) => pairs(out, at, n),
+        Err(r) => refused(out, at, r),
+        Ok(n) => pairs(out, at, n),
     }
 }
 
 // How many rows there are.
-fn rows_of(a: Listed) -> usize
+fn rows_of(a: Result<usize, Refusal>) -> usize
     ensures { result ≡ rows_of a }
 {
     match a {
-        Listed::Refused(_) => 0,
-        Listed::Count(n) => n,
+        Err(_) => 0,
+        Ok(n) => n,
     }
 }
 
 // What was answered, with the places.
-pub fn listed(a: Listed, l: &[u16], out: &mut [u8], at: usize) -> usize
+pub fn listed(a: Result<usize, Refusal>, l: &[u16], out: &mut [u8], at: usize) -> usize
     ensures { Put out.old at (lent_text (length out.old - at) a l.now) out.new result }
 {
     let n = rows_of(a);

@@ -12,12 +12,10 @@ ghost use Rattle.print_lines.specs.Lines.{judged_line, sign_line, answer_line, f
 ghost use Rattle.clean.specs.Answers.{clean_of};
 ghost use Rattle.print_answers.specs.Said.{words_line, shown_line, listing_line, clean_line};
 
-use judge::Judged;
 use kernel::{counts, masks, points, verdict};
 use pierce_engine::Engine;
 use pierce_masks::Mask;
 use print_lines::{refused, rows};
-use questions::{Counted, Masked};
 
 mod found;
 pub mod lent;
@@ -57,7 +55,7 @@ pub fn pierces(
 fn faces(m: Mask, ones: usize, out: &mut [u8], at: usize) -> usize
     ensures { Put out.old at (line (words_line (faces_are (value_of m) ones))) out.new result }
 {
-    said::mask(out, at, Masked::Faces(m, ones))
+    said::mask(out, at, Ok((m, ones)))
 }
 
 pub fn mask(
@@ -73,8 +71,8 @@ pub fn mask(
 {
     let x = masks::mask(engine, s, u, v, k);
     match x {
-        Masked::Refused(r) => refused(out, at, r),
-        Masked::Faces(m, ones) => faces(m, ones, out, at),
+        Err(r) => refused(out, at, r),
+        Ok((m, ones)) => faces(m, ones, out, at),
     }
 }
 
@@ -107,8 +105,8 @@ pub fn shown(s: &[u8], k: usize, out: &mut [u8], at: usize) -> usize
 {
     let j = record::record_refusal(s, k);
     match j {
-        Judged::Refused(r) => refused(out, at, r),
-        Judged::Accepted => rows::record(out, at, record::record(s, k)),
+        Err(r) => refused(out, at, r),
+        Ok(()) => rows::record(out, at, record::record(s, k)),
     }
 }
 
@@ -118,8 +116,8 @@ pub fn listing(engine: Engine, s: &[u8], out: &mut [u8], at: usize) -> usize
 {
     let x = counts::count(engine, s);
     match x {
-        Counted::Refused(r) => refused(out, at, r),
-        Counted::Counts(c) => print_lines::pairs(out, at, c.pairs),
+        Err(r) => refused(out, at, r),
+        Ok(c) => print_lines::pairs(out, at, c.pairs),
     }
 }
 

@@ -1,24 +1,21 @@
 // The report of a scene: its head, and then the listing, part by part, each by its own question.
-ghost use Rattle.std.specs.Prelude.{◌≡◌, ◌/◌, length};
+ghost use Rattle.std.specs.Prelude.{◌≡◌, ◌/◌, length, Ok};
 ghost use Rattle.judge.specs.Judge.{judged};
-ghost use Rattle.judge.specs.declared.Judged.TheVariants.{Accepted};
 ghost use Rattle.print_lines.specs.Rows.{IsRows};
 ghost use Rattle.print_lines.specs.Report.{part_rows, IsLent, IsHead};
 
-use judge::Judged;
 use kernel::lists;
 use pierce_engine::Engine;
 use print_lines::head::Top;
 use print_lines::rows::{RowsPut, left};
 use print_lines::{refused, rows};
 use print_report::head_read;
-use questions::Listed;
 use survey_edges::{ENDS, Ends, Masks};
 use survey_scene::survey_of;
 
 // Of an accepted scene.
 fn survey_head(engine: Engine, s: &[u8], out: &mut [u8]) -> Top
-    requires { judged s.now ≡ Accepted }
+    requires { judged s.now ≡ Ok tt }
     ensures { IsHead s.now out.old out.new result }
 {
     let mut aends: Ends = [0; ENDS];
@@ -33,7 +30,7 @@ fn survey_head(engine: Engine, s: &[u8], out: &mut [u8]) -> Top
 pub fn head(engine: Engine, s: &[u8], out: &mut [u8]) -> Top
     ensures { IsHead s.now out.old out.new result }
 {
-    if let Judged::Refused(r) = judge::judge(s) {
+    if let Err(r) = judge::judge(s) {
         return Top {
             end: refused(out, 0, r),
             rows: 0,
@@ -49,7 +46,7 @@ pub fn part(engine: Engine, s: &[u8], from: usize, list: &mut [u16], out: &mut [
 {
     let answer = lists::listing_part(engine, s, from, list);
     match answer {
-        Listed::Refused(_) => rows::rows(out, 0, list, 0),
-        Listed::Count(n) => rows::rows(out, 0, list, left(n, from)),
+        Err(_) => rows::rows(out, 0, list, 0),
+        Ok(n) => rows::rows(out, 0, list, left(n, from)),
     }
 }

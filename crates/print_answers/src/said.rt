@@ -9,7 +9,7 @@ use orient::Terms;
 use pierce_masks::Mask;
 use print::{newline, next_number, next_signed, next_word, word};
 use print_lines::refused;
-use questions::{Answer, Masked, Signed};
+use scene::Refusal;
 
 fn plus_or_minus(out: &mut [u8], at: usize, is_plus: bool) -> usize
     ensures { Put out.old at (32 ∷ cond is_plus (ascii "+") (ascii "-")) out.new result }
@@ -31,19 +31,19 @@ fn terms(out: &mut [u8], at: usize, t: Terms) -> usize
 }
 
 fn sign_line(out: &mut [u8], at: usize, t: Terms, is_plus: bool) -> usize
-    ensures { Put out.old at (line (sign_line (Signed.Sign t is_plus))) out.new result }
+    ensures { Put out.old at (line (sign_line (Ok (t, is_plus)))) out.new result }
 {
     let p = word(out, at, b"sign");
     let q = plus_or_minus(out, p, is_plus);
     terms(out, q, t)
 }
 
-pub fn sign(out: &mut [u8], at: usize, a: Signed) -> usize
+pub fn sign(out: &mut [u8], at: usize, a: Result<(Terms, bool), Refusal>) -> usize
     ensures { Put out.old at (line (sign_line a)) out.new result }
 {
     match a {
-        Signed::Refused(r) => refused(out, at, r),
-        Signed::Sign(t, is_plus) => sign_line(out, at, t, is_plus),
+        Err(r) => refused(out, at, r),
+        Ok((t, is_plus)) => sign_line(out, at, t, is_plus),
     }
 }
 
@@ -55,30 +55,30 @@ fn said(out: &mut [u8], at: usize, question: &[u8], said: &[u8]) -> usize
     newline(out, q)
 }
 
-fn yes_or_no(out: &mut [u8], at: usize, question: &[u8], a: Answer) -> usize
+fn yes_or_no(out: &mut [u8], at: usize, question: &[u8], a: Result<bool, Refusal>) -> usize
     ensures { Put out.old at (line (answer_line question.now a)) out.new result }
 {
     match a {
-        Answer::Refused(r) => refused(out, at, r),
-        Answer::Yes => said(out, at, question, b"yes"),
-        Answer::No => said(out, at, question, b"no"),
+        Err(r) => refused(out, at, r),
+        Ok(true) => said(out, at, question, b"yes"),
+        Ok(false) => said(out, at, question, b"no"),
     }
 }
 
-pub fn pierces(out: &mut [u8], at: usize, a: Answer) -> usize
+pub fn pierces(out: &mut [u8], at: usize, a: Result<bool, Refusal>) -> usize
     ensures { Put out.old at (line (answer_line (ascii "pierces") a)) out.new result }
 {
     yes_or_no(out, at, b"pierces", a)
 }
 
-pub fn enclosed(out: &mut [u8], at: usize, a: Answer) -> usize
+pub fn enclosed(out: &mut [u8], at: usize, a: Result<bool, Refusal>) -> usize
     ensures { Put out.old at (line (answer_line (ascii "enclosed") a)) out.new result }
 {
     yes_or_no(out, at, b"enclosed", a)
 }
 
 fn faces(out: &mut [u8], at: usize, m: Mask, ones: usize) -> usize
-    ensures { Put out.old at (line (mask_line (Masked.Faces m ones))) out.new result }
+    ensures { Put out.old at (line (mask_line (Ok (m, ones)))) out.new result }
 {
     let p = word(out, at, b"mask");
     let q = next_number(out, p, m.low as usize);
@@ -87,21 +87,21 @@ fn faces(out: &mut [u8], at: usize, m: Mask, ones: usize) -> usize
     newline(out, e)
 }
 
-pub fn mask(out: &mut [u8], at: usize, a: Masked) -> usize
+pub fn mask(out: &mut [u8], at: usize, a: Result<(Mask, usize), Refusal>) -> usize
     ensures { Put out.old at (line (mask_line a)) out.new result }
 {
     match a {
-        Masked::Refused(r) => refused(out, at, r),
-        Masked::Faces(m, ones) => faces(out, at, m, ones),
+        Err(r) => refused(out, at, r),
+        Ok((m, ones)) => faces(out, at, m, ones),
     }
 }
 
-pub fn clean(out: &mut [u8], at: usize, a: clean::Answer) -> usize
+pub fn clean(out: &mut [u8], at: usize, a: Result<bool, Refusal>) -> usize
     ensures { Put out.old at (line (clean_line a)) out.new result }
 {
     match a {
-        clean::Answer::Refused(r) => refused(out, at, r),
-        clean::Answer::Yes => word(out, at, b"clean yes\n"),
-        clean::Answer::No => word(out, at, b"clean no\n"),
+        Err(r) => refused(out, at, r),
+        Ok(true) => word(out, at, b"clean yes\n"),
+        Ok(false) => word(out, at, b"clean no\n"),
     }
 }

@@ -3,7 +3,7 @@
 use Prim.Native.Nat.{ℕ, zero, suc, ◌+◌, ◌-◌, ◌*◌, ◌/◌, min}
 use Rattle.std.proofs.Math.Path.{◌≡◌, refl, sym, ap, subst}
 use Rattle.std.proofs.Common.{ap₂, ◌∙◌, length-append, length-take, length-drop}
-use Rattle.std.specs.Prelude.{false, take, drop, get_or}
+use Rattle.std.specs.Prelude.{false, take, drop, get_or, Ok, Err}
 use mathlib.Core.List.{List, [], ◌∷◌, ◌++◌, map, append-nil}
 use native.Mathlib.Omega.{arith}
 use Rattle.std.proofs.Math.ListN.{length}
@@ -13,8 +13,7 @@ use Rattle.scene.specs.Records.{counts_of}
 use Rattle.scene.specs.declared.Refusal.{Refusal}
 use Rattle.scene.specs.declared.Scene.{Scene}
 use Rattle.judge.specs.Judge.{judged}
-use Rattle.judge.specs.declared.Judged.{Judged}
-use Rattle.judge.specs.declared.Judged.TheVariants.{Accepted, Refused}
+use Rattle.judge.specs.Judge.{Judged}
 use Rattle.questions.specs.Hits.{Hit}
 use Rattle.questions.specs.WritePairs.{flat, part_in}
 use Rattle.questions.specs.PairsWritten.{length_flat}
@@ -23,12 +22,10 @@ use Rattle.questions.specs.Answers.{or_refuse, verdict_in, verdict_of, counts_in
 use Rattle.questions.specs.Listings.{PouredIf}
 use Rattle.questions.proofs.Listings.{part_told}
 use Rattle.questions.specs.declared.Counts.{Counts}
-use Rattle.questions.specs.declared.Counted.{Counted}
-use Rattle.questions.specs.declared.Counted.TheVariants as counted
+use Rattle.questions.specs.Types.{Counted}
 use Rattle.questions.specs.declared.Verdict.{Verdict}
-use Rattle.questions.specs.declared.Verdict.TheVariants as verdict
-use Rattle.questions.specs.declared.Listed.{Listed}
-use Rattle.questions.specs.declared.Listed.TheVariants as listed
+use Rattle.questions.specs.Types.{Concluded}
+use Rattle.questions.specs.Types.{Listed}
 use Rattle.print.specs.Text.{line, text}
 use Rattle.print.specs.Back.{Words}
 use Rattle.print.specs.Put.{Put}
@@ -40,13 +37,13 @@ use Rattle.print_lines.specs.declared.rows.RowsPut.{RowsPut}
 abbrev pub hit_line : Hit → Words
 hit_line h = pair_line h.low h.high h.face
 
-abbrev pub head_lines : Scene → Verdict → Counts → List Words
+abbrev pub head_lines : Scene → Concluded → Counts → List Words
 head_lines h v c = scene_line h ∷ verdict_line v ∷ inside_line c ∷ pairs_line c.pairs ∷ []
 
 -- the lines above the listing, where the counts came out so
 abbrev pub head_of : List ℕ → Counted → List Words
-head_of s (counted.Refused r) = refused_line r ∷ []
-head_of s (counted.Counts c) = head_lines (counts_of s) (verdict_of s) c
+head_of s (Err r) = refused_line r ∷ []
+head_of s (Ok c) = head_lines (counts_of s) (verdict_of s) c
 
 -- the listing's; a refused scene has none
 unfoldable pub listing_lines : List ℕ → List Words
@@ -62,8 +59,8 @@ report_of s = head_of s (counted_of s) ++ listing_lines s
 
 -- how many rows follow the head
 abbrev pub rows_of : Counted → ℕ
-rows_of (counted.Refused r) = 0
-rows_of (counted.Counts c) = c.pairs
+rows_of (Err r) = 0
+rows_of (Ok c) = c.pairs
 
 -- what the list lent for a part holds afterwards
 unfoldable pub IsLent : (s : List ℕ) (from : ℕ) (d d' : List ℕ) → Type 0
@@ -87,30 +84,30 @@ one_line a {l} {m} {at} {p} x = subst (λ (t : List ℕ). Put l at t m p) (sym (
 
 -- by what the judge said
 head_by : (s : List ℕ) {j : Judged} → judged s ≡ j → {l m : List ℕ} {e n : ℕ} →
-    Put l 0 (text (head_of s (or_refuse counted.Refused j (counted.Counts (counts_in (view_of s)))))) m e →
-    n ≡ rows_of (or_refuse counted.Refused j (counted.Counts (counts_in (view_of s)))) → IsHead s l m (record { end = e; rows = n })
+    Put l 0 (text (head_of s (or_refuse Err j (Ok (counts_in (view_of s)))))) m e →
+    n ≡ rows_of (or_refuse Err j (Ok (counts_in (view_of s)))) → IsHead s l m (record { end = e; rows = n })
 unfolding counted_of
 head_by s q {l} {m} {e} {n} h k =
-    let f = ap (λ (j : Judged). or_refuse counted.Refused j (counted.Counts (counts_in (view_of s)))) (sym q) in
+    let f = ap (λ (j : Judged). or_refuse Err j (Ok (counts_in (view_of s)))) (sym q) in
     record { held = subst (λ (a : Counted). Put l 0 (text (head_of s a)) m e) f h; rows = k ∙ ap rows_of f }
 
 module _ (s : List ℕ) {l m : List ℕ} {e : ℕ} where
-  pub head_refused : {o : Judged} {r : Refusal} → o ≡ judged s → o ≡ Refused r → Put l 0 (line (refused_line r)) m e →
+  pub head_refused : {o : Judged} {r : Refusal} → o ≡ judged s → o ≡ Err r → Put l 0 (line (refused_line r)) m e →
       IsHead s l m (record { end = e; rows = 0 })
   unfolding or_refuse
   head_refused {r} p q h = head_by s (sym p ∙ q) (one_line (refused_line r) h) refl
 
   -- the counts and the verdict as they were read
-  pub head_told : judged s ≡ Accepted → {h : Scene} {v : Verdict} {c : Counts} → h ≡ counts_of s → v ≡ verdict_in (view_of s) →
+  pub head_told : judged s ≡ Ok tt → {h : Scene} {v : Verdict} {c : Counts} → h ≡ counts_of s → v ≡ verdict_in (view_of s) →
       c ≡ counts_in (view_of s) →
-      Put l 0 (text (head_lines h v c)) m e → IsHead s l m (record { end = e; rows = c.pairs })
+      Put l 0 (text (head_lines h (Ok v) c)) m e → IsHead s l m (record { end = e; rows = c.pairs })
   unfolding or_refuse verdict_of
   head_told ok {h} {v} {c} is-h is-v is_c x =
-      let w : v ≡ verdict_of s = is-v ∙ ap (λ (j : Judged). or_refuse verdict.Refused j (verdict_in (view_of s))) (sym ok) in
+      let w : Ok v ≡ verdict_of s = ap Ok is-v ∙ ap (λ (j : Judged). or_refuse Err j (Ok (verdict_in (view_of s)))) (sym ok) in
       head_by s ok
       (subst (λ (d : Counts). Put l 0 (text (head_lines (counts_of s) (verdict_of s) d)) m e) is_c
-      (subst (λ (u : Verdict). Put l 0 (text (head_lines (counts_of s) u c)) m e) w
-      (subst (λ (g : Scene). Put l 0 (text (head_lines g v c)) m e) is-h x)))
+      (subst (λ (u : Concluded). Put l 0 (text (head_lines (counts_of s) u c)) m e) w
+      (subst (λ (g : Scene). Put l 0 (text (head_lines g (Ok v) c)) m e) is-h x)))
       (ap (λ (d : Counts). d.pairs) is_c)
 
 -- ---- a part of the listing
@@ -165,40 +162,40 @@ part_rows_law hits from d =
 
 -- what a list that was lent for a part holds, and the rows that are rendered from it
 module _ (s : List ℕ) (from : ℕ) {d d' : List ℕ} {o : Listed} (part : IsPart s from d d' o) {l m : List ℕ} {r : RowsPut} where
-  pub rows_refused : {y : Refusal} → o ≡ listed.Refused y → IsRows (rows_in d' 0) l 0 m r → IsRows (part_rows s from (length d / 3)) l 0 m r
+  pub rows_refused : {y : Refusal} → o ≡ Err y → IsRows (rows_in d' 0) l 0 m r → IsRows (part_rows s from (length d / 3)) l 0 m r
   unfolding listing_lines or_refuse rows_in
   rows_refused e x = go (judged s) part.answer
     where
-      go : (j : Judged) → o ≡ or_refuse listed.Refused j (listed.Count (length (listing_in (view_of s)))) →
+      go : (j : Judged) → o ≡ or_refuse Err j (Ok (length (listing_in (view_of s)))) →
           IsRows (take (length d / 3) (drop from (or_refuse (λ _. []) j (map hit_line (listing_in (view_of s)))))) l 0 m r
-      go Accepted a = let z : ◌≡◌ {A = ℕ} 0 1 = cc in absurd (omega arith)
-      go (Refused y) a =
+      go (Ok _) a = let z : ◌≡◌ {A = ℕ} 0 1 = cc in absurd (omega arith)
+      go (Err y) a =
           let i : min 0 (length d' / 3) ≡ 0 = omega arith in
           let f : ◌≡◌ {A = List Words} (rows_in d' 0) [] = ap (run (row_in d') 0) i in
           subst (λ (ws : List Words). IsRows ws l 0 m r) (f ∙ sym (ap (take (length d / 3)) (drop-nil from) ∙ take-nil (length d / 3))) x
 
-  pub rows_listed : {n k : ℕ} → o ≡ listed.Count n → k ≡ n - from → IsRows (rows_in d' k) l 0 m r →
+  pub rows_listed : {n k : ℕ} → o ≡ Ok n → k ≡ n - from → IsRows (rows_in d' k) l 0 m r →
       IsRows (part_rows s from (length d / 3)) l 0 m r
   unfolding listing_lines or_refuse
   rows_listed {n} {k} e p x = go (judged s) part.answer part.held
     where
-      go : (j : Judged) → o ≡ or_refuse listed.Refused j (listed.Count (length (listing_in (view_of s)))) →
+      go : (j : Judged) → o ≡ or_refuse Err j (Ok (length (listing_in (view_of s)))) →
           d' ≡ or_refuse (λ _. d) j (part_in (listing_in (view_of s)) from d) →
           IsRows (take (length d / 3) (drop from (or_refuse (λ _. []) j (map hit_line (listing_in (view_of s)))))) l 0 m r
-      go Accepted a h =
+      go (Ok _) a h =
           let c : n ≡ length (listing_in (view_of s)) = cc in
           let i : k ≡ length (listing_in (view_of s)) - from = omega arith in
           subst (λ (ws : List Words). IsRows ws l 0 m r) (ap₂ rows_in h i ∙ part_rows_law (listing_in (view_of s)) from d) x
-      go (Refused y) a h = let z : ◌≡◌ {A = ℕ} 0 1 = cc in absurd (omega arith)
+      go (Err y) a h = let z : ◌≡◌ {A = ℕ} 0 1 = cc in absurd (omega arith)
 
 pub lent_is : {s : List ℕ} {from : ℕ} {d d' : List ℕ} {o : Listed} → IsPart s from d d' o → IsLent s from d d'
 unfolding IsLent
 lent_is p = p.held
 
 -- of an accepted scene's listing, poured off its survey
-module _ (s : List ℕ) (ok : judged s ≡ Accepted) (from : ℕ) {d d' : List ℕ} {n : ℕ}
+module _ (s : List ℕ) (ok : judged s ≡ Ok tt) (from : ℕ) {d d' : List ℕ} {n : ℕ}
     (pairs_written : PouredIf (listing_in (view_of s)) from false d d' n) where
-  pairs_written_part : IsPart s from d d' (listed.Count n)
+  pairs_written_part : IsPart s from d d' (Ok n)
   pairs_written_part = part_told s d (sym ok) from refl pairs_written
 
   pub rows_read : {l m : List ℕ} {r : RowsPut} {k : ℕ} → k ≡ n - from → IsRows (rows_in d' k) l 0 m r →

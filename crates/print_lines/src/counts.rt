@@ -5,10 +5,11 @@ ghost use Rattle.print_lines.specs.Lines.{counts_line};
 
 use crate::refused;
 use print::{newline, next_number, word};
-use questions::{Counted, Counts};
+use questions::Counts;
+use scene::Refusal;
 
 fn counted(out: &mut [u8], at: usize, c: Counts) -> usize
-    ensures { Put out.old at (line (counts_line (Counted.Counts c))) out.new result }
+    ensures { Put out.old at (line (counts_line (Ok c))) out.new result }
 {
     let p = word(out, at, b"counts");
     let q = next_number(out, p, c.pairs);
@@ -17,11 +18,11 @@ fn counted(out: &mut [u8], at: usize, c: Counts) -> usize
     newline(out, e)
 }
 
-pub fn counts(out: &mut [u8], at: usize, a: Counted) -> usize
+pub fn counts(out: &mut [u8], at: usize, a: Result<Counts, Refusal>) -> usize
     ensures { Put out.old at (line (counts_line a)) out.new result }
 {
     match a {
-        Counted::Refused(r) => refused(out, at, r),
-        Counted::Counts(c) => counted(out, at, c),
+        Err(r) => refused(out, at, r),
+        Ok(c) => counted(out, at, c),
     }
 }

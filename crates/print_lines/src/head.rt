@@ -6,7 +6,7 @@ ghost use Rattle.print_lines.specs.Report.{head_lines};
 use crate::verdicts::verdict_line;
 use crate::{header, inside, pairs};
 use questions::{Counts, Verdict};
-use scene::Scene;
+use scene::{Refusal, Scene};
 
 // The place behind the head, and how many rows follow it.
 #[derive(Clone, Copy)]
@@ -15,7 +15,7 @@ pub struct Top {
     pub rows: usize,
 }
 
-pub fn four_lines(out: &mut [u8], h: Scene, v: Verdict, c: Counts) -> usize
+pub fn four_lines(out: &mut [u8], h: Scene, v: Result<Verdict, Refusal>, c: Counts) -> usize
     ensures { Put out.old 0 (text (head_lines h v c)) out.new result }
 {
     let p = header(out, 0, h);

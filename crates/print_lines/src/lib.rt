@@ -5,7 +5,6 @@ ghost use Rattle.print.specs.Text.{line};
 ghost use Rattle.print.specs.Put.{Put};
 ghost use Rattle.print_lines.specs.Lines.{refused_line, scene_line, inside_line, pairs_line, pair_line, judged_line};
 
-use judge::Judged;
 use print::{newline, next_number, number, word};
 use questions::Counts;
 use scene::{Refusal, Scene};
@@ -18,10 +17,7 @@ pub mod verdicts;
 pub fn refused(out: &mut [u8], at: usize, r: Refusal) -> usize
     ensures { Put out.old at (line (refused_line r)) out.new result }
 {
-    let p = word(out, at, b"refused");
-    let q = next_number(out, p, scene::number(r));
-    let e = next_number(out, q, scene::place(r));
-    newline(out, e)
+    print_refusals::refused(out, at, r)
 }
 
 pub fn header(out: &mut [u8], at: usize, h: Scene) -> usize
@@ -61,11 +57,11 @@ pub fn pair(out: &mut [u8], at: usize, u: usize, v: usize, f: usize) -> usize
     newline(out, e)
 }
 
-pub fn judged(out: &mut [u8], at: usize, j: Judged) -> usize
+pub fn judged(out: &mut [u8], at: usize, j: Result<(), Refusal>) -> usize
     ensures { Put out.old at (line (judged_line j)) out.new result }
 {
     match j {
-        Judged::Accepted => word(out, at, b"accepted\n"),
-        Judged::Refused(r) => refused(out, at, r),
+        Ok(()) => word(out, at, b"accepted\n"),
+        Err(r) => refused(out, at, r),
     }
 }

@@ -21,17 +21,14 @@ pub struct RowsPut {
 pub fn least(a: usize, b: usize) -> usize
     ensures { result ≡ min a b }
 {
-    if a < b { a } else { b }
+    a.min(b)
 }
 
 // How many of n are left behind the first `from`.
 pub fn left(n: usize, from: usize) -> usize
     ensures { result ≡ n - from }
 {
-    if n < from {
-        return 0;
-    }
-    n - from
+    n.saturating_sub(from)
 }
 
 // Whether a row has room at a place of so many bytes.
@@ -56,15 +53,13 @@ pub fn rows(out: &mut [u8], at: usize, list: &[u16], n: usize) -> RowsPut
     }
     let m = least(n, list.len() / 3);
     let mut p = at;
-    let mut i = 0;
-    while i < m {
+    for i in 0..m {
         if !has_room(out.len(), p) {
             return RowsPut { count: i, end: p };
         }
         p = row(out, p, list[3 * i], list[3 * i + 1], list[3 * i + 2]);
-        i += 1;
     }
-    RowsPut { count: i, end: p }
+    RowsPut { count: m, end: p }
 }
 
 fn row(out: &mut [u8], at: usize, u: u16, v: u16, f: u16) -> usize
@@ -80,10 +75,8 @@ fn bytes(out: &mut [u8], at: usize, t: &[u8]) -> usize
         return out.len();
     }
     let mut p = at;
-    let mut i = 0;
-    while i < t.len() {
-        p = next_number(out, p, t[i] as usize);
-        i += 1;
+    for b in t {
+        p = next_number(out, p, *b as usize);
     }
     p
 }

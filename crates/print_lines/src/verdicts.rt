@@ -5,20 +5,21 @@ ghost use Rattle.print_lines.specs.Lines.{verdict_line, word_of};
 
 use print::{newline, word};
 use questions::Verdict;
+use scene::Refusal;
 
-pub fn verdict_word(out: &mut [u8], at: usize, v: Verdict) -> usize
+pub fn verdict_word(out: &mut [u8], at: usize, v: Result<Verdict, Refusal>) -> usize
     ensures { Put out.old at (word_of v) out.new result }
 {
     match v {
-        Verdict::Refused(_) => word(out, at, b"refused"),
-        Verdict::Cross(_, _, _) => word(out, at, b"cross"),
-        Verdict::AInB(_) => word(out, at, b"a-in-b"),
-        Verdict::BInA(_) => word(out, at, b"b-in-a"),
-        Verdict::Apart => word(out, at, b"apart"),
+        Err(_) => word(out, at, b"refused"),
+        Ok(Verdict::Cross(_, _, _)) => word(out, at, b"cross"),
+        Ok(Verdict::AInB(_)) => word(out, at, b"a-in-b"),
+        Ok(Verdict::BInA(_)) => word(out, at, b"b-in-a"),
+        Ok(Verdict::Apart) => word(out, at, b"apart"),
     }
 }
 
-pub fn verdict_line(out: &mut [u8], at: usize, v: Verdict) -> usize
+pub fn verdict_line(out: &mut [u8], at: usize, v: Result<Verdict, Refusal>) -> usize
     ensures { Put out.old at (line (verdict_line v)) out.new result }
 {
     let p = word(out, at, b"verdict ");

@@ -1,12 +1,24 @@
-// The rule that a refusal says was broken, in words, put into a lent buffer at a place; the answer is the place behind. (Why a scene is
-// refused, with the byte at fault, is said by `why`.)
+// A refusal's line, and the rule that it says was broken, in words, put into a lent buffer at a place; the answer is the place behind. (Why
+// a scene is refused, with the byte at fault, is said by `why`.)
 #![tactic(auto)]
 
 ghost use Rattle.print.specs.Put.{Put};
+ghost use Rattle.print.specs.Text.{line as Text·line};
+ghost use Rattle.print_refusals.specs.Refused.{refused_words};
 ghost use Rattle.print_refusals.specs.Rules.{beyond as Rules·beyond, weight_rule, other_rule, question_rule, rule_of, why_of};
 
 use print::{newline, next_number, number, word};
-use scene::Scene;
+use scene::{Numbered, Scene};
+
+// The refusal's number and its place, as a line.
+pub fn refused<F: Numbered + Copy>(out: &mut [u8], at: usize, f: F) -> usize
+    ensures { Put out.old at (Text·line (refused_words (F.number f) (F.place f))) out.new result }
+{
+    let p = word(out, at, b"refused");
+    let q = next_number(out, p, f.number());
+    let e = next_number(out, q, f.place());
+    newline(out, e)
+}
 
 // That something is no number of at most this size.
 fn beyond(out: &mut [u8], at: usize, w: &[u8], n: usize) -> usize

@@ -1,10 +1,9 @@
 // The report of an accepted scene, read off its survey: so one survey serves the head and every part of the listing.
 #![tactic(auto)]
 
-ghost use Rattle.std.specs.Prelude.{◌≡◌, ◌/◌, length};
+ghost use Rattle.std.specs.Prelude.{◌≡◌, ◌/◌, length, Ok};
 ghost use Rattle.scene.specs.View.{view_of};
 ghost use Rattle.judge.specs.Judge.{judged};
-ghost use Rattle.judge.specs.declared.Judged.TheVariants.{Accepted};
 ghost use Rattle.survey_scene.specs.Surveys.{SurveyIs};
 ghost use Rattle.print_lines.specs.Rows.{IsRows};
 ghost use Rattle.print_lines.specs.Report.{part_rows, IsLent, IsHead};
@@ -29,7 +28,7 @@ pub fn head_read(
     bmasks: &Masks,
     out: &mut [u8],
 ) -> Top
-    requires s_value { judged s.now ≡ Accepted }
+    requires s_value { judged s.now ≡ Ok tt }
     requires survey_is { SurveyIs (view_of s.now) aends.now amasks.now bends.now bmasks.now t }
     ensures { IsHead s.now out.old out.new result }
 {
@@ -41,7 +40,7 @@ pub fn head_read(
         b_in_a: count_inside(t.b.inside),
     };
     Top {
-        end: four_lines(out, h, v, c),
+        end: four_lines(out, h, Ok(v), c),
         rows: c.pairs,
     }
 }
@@ -58,7 +57,7 @@ pub fn part_read(
     list: &mut [u16],
     out: &mut [u8],
 ) -> RowsPut
-    requires s_value { judged s.now ≡ Accepted }
+    requires s_value { judged s.now ≡ Ok tt }
     requires survey_is { SurveyIs (view_of s.now) aends.now amasks.now bends.now bmasks.now t }
     ensures rows { IsRows (part_rows s.now from (length list.old / 3)) out.old 0 out.new result }
     ensures lent { IsLent s.now from list.old list.new }

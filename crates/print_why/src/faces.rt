@@ -82,17 +82,11 @@ fn faces_with(s: &[u8], k: usize, v: usize, w: usize) -> usize
     requires { OneByte v × OneByte w }
 {
     let o = solid_in(s, k);
-    let low = o.vert0;
-    let end = o.face0 + o.faces;
-    let mut n: usize = 0;
-    let mut f = o.face0;
-    while f < end {
-        f += 1;
-        if is_edge(s, f, low + v, low + w) {
-            n += 1;
-        }
-    }
-    n
+    let first = o.face0 + 1;
+    let (v, w) = (o.vert0 + v, o.vert0 + w);
+    (first..first + o.faces)
+        .filter(|f| is_edge(s, *f, v, w))
+        .count()
 }
 
 // The corner behind corner m.

@@ -6,9 +6,8 @@
 
 ghost use Rattle.print_why.specs.Said.{Said};
 
-use judge::Judged;
 use print::{newline, word};
-use scene::{Refusal, offsets};
+use scene::{Numbered, Refusal, offsets};
 
 mod clauses;
 mod faces;
@@ -18,20 +17,20 @@ mod places;
 mod points;
 mod records;
 
-// By the refusal's number; k is its record, or the last, beyond which none is.
-fn explain(s: &[u8], number: usize, k: usize, out: &mut [u8], at: usize) -> usize
+// By the refusal; k is its record, or the last, beyond which none is.
+fn explain(s: &[u8], r: Refusal, k: usize, out: &mut [u8], at: usize) -> usize
     ensures { Said out.old at out.new result }
 {
-    match number {
-        1 => header::opening(s, out, at),
-        2 => header::counts(s, out, at),
-        3 => header::length(s, out, at),
-        4 => header::mark(s, k, out, at),
-        5 => points::coordinate(s, k, out, at),
-        6 => points::weight(s, k, out, at),
-        7 => faces::corner(s, k, out, at),
-        8 => points::unused(s, k, out, at),
-        9 => faces::edge(s, k, out, at),
+    match r {
+        Refusal::Opening => header::opening(s, out, at),
+        Refusal::Counts => header::counts(s, out, at),
+        Refusal::Length => header::length(s, out, at),
+        Refusal::Mark(_) => header::mark(s, k, out, at),
+        Refusal::Coordinate(_) => points::coordinate(s, k, out, at),
+        Refusal::Weight(_) => points::weight(s, k, out, at),
+        Refusal::Corner(_) => faces::corner(s, k, out, at),
+        Refusal::Unused(_) => points::unused(s, k, out, at),
+        Refusal::Edge(_) => faces::edge(s, k, out, at),
         _ => points::nowhere(s, k, out, at),
     }
 }
@@ -39,23 +38,21 @@ fn explain(s: &[u8], number: usize, k: usize, out: &mut [u8], at: usize) -> usiz
 // The record where the scene is at fault. (The place of 8 is a point, whose record is the next number.)
 fn record_of(s: &[u8], r: Refusal) -> usize {
     let last = offsets::last_record(s);
-    let p = scene::place(r);
+    let p = r.place();
     if p >= last {
         return last;
     }
-    if scene::number(r) == 8 {
-        return p + 1;
+    match r {
+        Refusal::Unused(_) => p + 1,
+        _ => p,
     }
-    p
 }
 
 // Of a refusal that the judge gave.
 pub fn sentence(s: &[u8], r: Refusal, out: &mut [u8], at: usize) -> usize
     ensures { Said out.old at out.new result }
 {
-    let n = scene::number(r);
-    let k = record_of(s, r);
-    explain(s, n, k, out, at)
+    explain(s, r, record_of(s, r), out, at)
 }
 
 fn refused(s: &[u8], r: Refusal, out: &mut [u8], at: usize) -> usize
@@ -71,7 +68,7 @@ pub fn why(s: &[u8], out: &mut [u8], at: usize) -> usize
 {
     let j = judge::judge(s);
     match j {
-        Judged::Accepted => word(out, at, b"accepted\n"),
-        Judged::Refused(r) => refused(s, r, out, at),
+        Ok(()) => word(out, at, b"accepted\n"),
+        Err(r) => refused(s, r, out, at),
     }
 }

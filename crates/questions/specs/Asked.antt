@@ -1,5 +1,5 @@
 -- What a question that is not refused says of its numbers. Assumes nothing.
-use Rattle.std.specs.Prelude.{◌≡◌, ◌≢◌, Bool, true, false, ℕ, ◌+◌, leb}
+use Rattle.std.specs.Prelude.{◌≡◌, ◌≢◌, Bool, true, false, ℕ, ◌+◌, leb, Ok}
 use Rattle.std.proofs.Math.Path.{refl}
 use Rattle.std.proofs.Common.{arith}
 use borrow.Author.Tests.{not-true, leb-true, leb-false}
@@ -10,7 +10,6 @@ use Rattle.scene.specs.View.Laws.{solid_a_law, solid_b_law}
 use Rattle.scene.specs.declared.Solid.{Solid}
 use Rattle.judge.specs.Laws.{rule_ok, rule_rest}
 use Rattle.judge.specs.Tests.{within_iff}
-use Rattle.judge.specs.declared.Judged.TheVariants.{Accepted}
 use Rattle.orient.specs.Signs.{Upto, Four}
 use Rattle.questions.specs.Answers.{is_point, is_vertex, is_face, is_vertex_of, are_points, differ, sign_fault, ends_off_face, edge_and_face}
 use Rattle.questions.specs.Answers.{pierces_fault, edge_and_solid, ends_off_solid, mask_fault, other_solid, enclosed_fault}
@@ -24,7 +23,7 @@ module _ (v : View) where
   unfolding is_point
   point_upto i e = (within_iff 1 (points v) i).0 e
 
-  pub sign_four : (a b c d : ℕ) → sign_fault v a b c d ≡ Accepted → Four (Upto (points v)) a b c d
+  pub sign_four : (a b c d : ℕ) → sign_fault v a b c d ≡ Ok tt → Four (Upto (points v)) a b c d
   unfolding sign_fault are_points differ
   sign_four a b c d h =
       let p = rule_ok _ _ _ h in
@@ -53,7 +52,7 @@ module _ (v : View) where
     pub u_out : is_corner u (v.face f) ≡ false
     pub w_out : is_corner w (v.face f) ≡ false
 
-  pub pierces_ends : (u w f : ℕ) → pierces_fault v u w f ≡ Accepted → Ends u w f
+  pub pierces_ends : (u w f : ℕ) → pierces_fault v u w f ≡ Ok tt → Ends u w f
   unfolding pierces_fault edge_and_face ends_off_face is_face
   pierces_ends u w f h =
       let x = (and_iff _ _).0 (rule_ok _ _ _ h) in
@@ -81,7 +80,7 @@ module _ (v : View) where
   unfolding is_vertex_of
   not_vertex k i e w = (fails_iff _ (within_iff ((solid v k).vert0 + 1) ((solid v k).vert0 + (solid v k).verts) i)).0 e (omega arith)
 
-  pub mask_outside : (u w k : ℕ) → mask_fault v u w k ≡ Accepted → Outside u w k
+  pub mask_outside : (u w k : ℕ) → mask_fault v u w k ≡ Ok tt → Outside u w k
   unfolding mask_fault edge_and_solid ends_off_solid
   mask_outside u w k h =
       let x = (and_iff _ _).0 (rule_ok _ _ _ h) in
@@ -95,7 +94,7 @@ module _ (v : View) where
         w_out = not_vertex k w (not-true _ q.1);
       }
 
-  pub enclosed_vertex_law : (i : ℕ) → enclosed_fault v i ≡ Accepted → Upto (verts v) i
+  pub enclosed_vertex_law : (i : ℕ) → enclosed_fault v i ≡ Ok tt → Upto (verts v) i
   unfolding enclosed_fault is_vertex
   enclosed_vertex_law i h = (within_iff 1 (verts v) i).0 (rule_ok _ _ _ h)
 

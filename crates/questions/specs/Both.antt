@@ -1,13 +1,12 @@
 -- What was found is the scene's own answer. Assumes nothing.
-use Rattle.std.specs.Prelude.{◌≡◌, ℕ, ◌≤◌, ◌<◌, length}
+use Rattle.std.specs.Prelude.{◌≡◌, ℕ, ◌≤◌, ◌<◌, length, Some, None}
 use Rattle.std.proofs.Math.Path.{sym, ap}
 use Rattle.std.proofs.Common.{◌∙◌}
 use borrow.Author.Tests.{le-leb, lt-leb}
 use Rattle.scene.specs.View.{View, verts, solid}
 use Rattle.questions.specs.Hits.{lowest_enclosed}
 use Rattle.questions.specs.First.{first_of}
-use Rattle.questions.specs.declared.find.Found.{Found}
-use Rattle.questions.specs.declared.find.Found.TheVariants.{Pair, Nothing}
+use Rattle.questions.specs.Types.{Found}
 use Rattle.questions.specs.Answers.{pierce_view, listing_in, inside_in, counts_in, cross_or, enclosure_in, verdict_in}
 use Rattle.questions.specs.declared.Counts.{Counts}
 use Rattle.questions.specs.declared.Verdict.{Verdict}
@@ -21,11 +20,11 @@ module _ (v : View) where
 
   -- x is the first pair
   module _ {x : Found} (first : x ≡ first_of (listing_in v)) where
-    pub cross_is : {u w f : ℕ} → x ≡ Pair u w f → Cross u w f ≡ verdict_in v
+    pub cross_is : {u w f : ℕ} → x ≡ Some (u, w, f) → Cross u w f ≡ verdict_in v
     unfolding verdict_in
     cross_is e = ap (λ (o : Found). cross_or o (enclosure_in v)) (sym e ∙ first)
 
-    pub none_cross : {r : Verdict} → x ≡ Nothing → r ≡ enclosure_in v → r ≡ verdict_in v
+    pub none_cross : {r : Verdict} → x ≡ None → r ≡ enclosure_in v → r ≡ verdict_in v
     unfolding verdict_in
     none_cross e p = p ∙ ap (λ (o : Found). cross_or o (enclosure_in v)) (sym e ∙ first)
 

@@ -1,5 +1,5 @@
 -- A question's answer by its faults: it is refused, or answered; in the form in which a call and a branch arrive. Assumes nothing.
-use Rattle.std.specs.Prelude.{◌≡◌, refl, Bool, true, false, not, ◌&&◌, List, ℕ, ◌≤◌, ◌<◌}
+use Rattle.std.specs.Prelude.{◌≡◌, refl, Bool, true, false, not, ◌&&◌, List, ℕ, ◌≤◌, ◌<◌, Result, Ok, Err}
 use Rattle.std.proofs.Math.Path.{sym, ap}
 use Rattle.std.proofs.Common.{ap₂, ◌∙◌, le-leb}
 use Rattle.std.proofs.lemmas.Bool.{lt-leb}
@@ -10,47 +10,54 @@ use Rattle.scene.specs.declared.Scene.{Scene}
 use Rattle.scene.specs.declared.Refusal.{Refusal}
 use Rattle.scene.specs.Limits.{within}
 use Rattle.judge.specs.Judge.{and_then}
-use Rattle.judge.specs.declared.Judged.{Judged}
-use Rattle.judge.specs.declared.Judged.TheVariants.{Accepted, Refused}
-use Rattle.questions.specs.Answers.{or_refuse, yes_no, other_solid}
-use Rattle.questions.specs.declared.Answer.TheVariants.{Yes, No}
+use Rattle.judge.specs.Judge.{Judged}
+use Rattle.questions.specs.Answers.{or_refuse, other_solid}
+use Rattle.questions.specs.Types.{Answer}
 
 -- of o, what the question's faults are
 module _ {X : Type 0} (refuse : Refusal → X) (x : X) {o j : Judged} (e : o ≡ j) where
-  pub refused_so : {r : Refusal} → o ≡ Refused r → refuse r ≡ or_refuse refuse j x
+  pub refused_so : {r : Refusal} → o ≡ Err r → refuse r ≡ or_refuse refuse j x
   unfolding or_refuse
   refused_so q = ap (λ (k : Judged). or_refuse refuse k x) (sym q ∙ e)
 
-  pub answered_so : {y : X} → o ≡ Accepted → y ≡ x → y ≡ or_refuse refuse j x
+  pub answered_so : {y : X} → o ≡ Ok tt → y ≡ x → y ≡ or_refuse refuse j x
   unfolding or_refuse
   answered_so q p = p ∙ ap (λ (k : Judged). or_refuse refuse k x) (sym q ∙ e)
 
 -- the judge accepts, and the question's own faults decide
 module _ {X : Type 0} (refuse : Refusal → X) (x : X) {j k : Judged} where
-  pub own_refused : {o p : Judged} {r : Refusal} → o ≡ j → o ≡ Accepted → p ≡ k → p ≡ Refused r →
+  pub own_refused : {o p : Judged} {r : Refusal} → o ≡ j → o ≡ Ok tt → p ≡ k → p ≡ Err r →
       refuse r ≡ or_refuse refuse j (or_refuse refuse k x)
   own_refused e q f h = answered_so refuse (or_refuse refuse k x) e q (refused_so refuse x f h)
 
-  pub both_accept : {y : X} → j ≡ Accepted → k ≡ Accepted → y ≡ x → y ≡ or_refuse refuse j (or_refuse refuse k x)
+  pub both_accept : {y : X} → j ≡ Ok tt → k ≡ Ok tt → y ≡ x → y ≡ or_refuse refuse j (or_refuse refuse k x)
   both_accept e f p = answered_so refuse (or_refuse refuse k x) refl e (answered_so refuse x refl f p)
 
+-- of answers that are Results
+module _ {T : Type 0} (x : Result T Refusal) {j : Judged} where
+  pub err_so : {o : Judged} {r : Refusal} → o ≡ j → o ≡ Err r → Err r ≡ or_refuse Err j x
+  err_so e q = refused_so Err x e q
+
+  module _ {k : Judged} where
+    pub own_err : {o p : Judged} {r : Refusal} → o ≡ j → o ≡ Ok tt → p ≡ k → p ≡ Err r → Err r ≡ or_refuse Err j (or_refuse Err k x)
+    own_err e q f h = own_refused Err x e q f h
+
+    pub both_ok : {y : Result T Refusal} → j ≡ Ok tt → k ≡ Ok tt → y ≡ x → y ≡ or_refuse Err j (or_refuse Err k x)
+    both_ok e f p = both_accept Err x e f p
+
 -- yes or no, of t, what the scene says
-module _ {t b : Bool} (p : t ≡ b) where
-  pub yes_so : t ≡ true → Yes ≡ yes_no b
-  yes_so h = ap yes_no (sym h ∙ p)
+pub said_so : {t b : Bool} → t ≡ b → ◌≡◌ {A = Answer} (Ok t) (Ok b)
+said_so p = ap Ok p
 
-  pub no_so : t ≡ false → No ≡ yes_no b
-  no_so h = ap yes_no (sym h ∙ p)
-
-pub accepted_so : {o j : Judged} → o ≡ j → o ≡ Accepted → j ≡ Accepted
+pub accepted_so : {o j : Judged} → o ≡ j → o ≡ Ok tt → j ≡ Ok tt
 accepted_so e q = sym e ∙ q
 
 -- one answer after another: the judge's refusal, else the question's own
 pub answered_then : {X : Type 0} (refuse : Refusal → X) (j k : Judged) (x : X) →
     or_refuse refuse j (or_refuse refuse k x) ≡ or_refuse refuse (and_then j k) x
 unfolding or_refuse and_then
-answered_then refuse Accepted k x = refl
-answered_then refuse (Refused r) k x = refl
+answered_then refuse (Ok _) k x = refl
+answered_then refuse (Err r) k x = refl
 
 -- ---- numbers within limits that were worked out
 

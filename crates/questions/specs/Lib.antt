@@ -1,3 +1,4 @@
+pub mod Types
 pub mod Answers
 pub mod Laws
 pub mod Asked

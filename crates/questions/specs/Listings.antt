@@ -1,5 +1,5 @@
 -- A listing by its faults: the scene is refused, the lent list is too short, or it holds the whole. Assumes nothing.
-use Rattle.std.specs.Prelude.{◌≡◌, Bool, true, false, cond, ◌&&◌, ℕ, ◌*◌, ◌/◌, ◌≤◌, ◌<◌, ltb}
+use Rattle.std.specs.Prelude.{◌≡◌, Bool, true, false, cond, ◌&&◌, ℕ, ◌*◌, ◌/◌, ◌≤◌, ◌<◌, ltb, Ok, Err}
 use Rattle.std.proofs.Math.Path.{refl, sym, ap}
 use Rattle.std.proofs.Common.{◌∙◌, arith, le-leb}
 use mathlib.Core.List.{List}
@@ -8,13 +8,14 @@ use Rattle.std.proofs.lemmas.Bool.{lt-leb}
 use Rattle.scene.specs.declared.Refusal.{Refusal}
 use Rattle.scene.specs.declared.Refusal.TheVariants.{ListTooShort}
 use Rattle.judge.specs.Judge.{refuse_unless, judged}
-use Rattle.judge.specs.declared.Judged.{Judged}
-use Rattle.judge.specs.declared.Judged.TheVariants.{Accepted, Refused}
+use Rattle.judge.specs.Judge.{Judged}
 use Rattle.questions.specs.Hits.{Hit}
 use Rattle.questions.specs.WritePairs.{WritesPairs, pairs_written, part_in}
+use Rattle.std.specs.Result.{IsErrAnd}
+use Rattle.laws.specs.Exits.{exits}
+use Rattle.questions.specs.Types.{Listed}
 use Rattle.scene.specs.View.{View, view_of}
 use Rattle.questions.specs.Answers.{or_refuse, listing_in, list_fault, listed_in, held_in, IsListed, IsPart}
-use Rattle.questions.specs.declared.Listed.TheVariants as listed
 
 -- all of n pairs are asked for, and there are not three places for each
 unfoldable pub lacks_room : Bool → (n places : ℕ) → Bool
@@ -45,11 +46,11 @@ module _ (l : List Hit) (from : ℕ) (all : Bool) (d : List ℕ) {n : ℕ} (coun
 
 -- the list is too short, or long enough
 module _ (v : View) (d : List ℕ) where
-  pub short : length d / 3 < length (listing_in v) → list_fault v d ≡ Refused (ListTooShort (length (listing_in v)))
+  pub short : length d / 3 < length (listing_in v) → list_fault v d ≡ Err (ListTooShort (length (listing_in v)))
   unfolding list_fault refuse_unless
   short h = rw (lt-leb (3 * length (listing_in v)) (length d) (omega arith)) refl
 
-  pub fits : length (listing_in v) ≤ length d / 3 → list_fault v d ≡ Accepted
+  pub fits : length (listing_in v) ≤ length d / 3 → list_fault v d ≡ Ok tt
   unfolding list_fault refuse_unless
   fits h = rw (le-leb (3 * length (listing_in v)) (length d) (omega arith)) refl
 
@@ -58,18 +59,18 @@ module _ (s d : List ℕ) {o : Judged} (e : o ≡ judged s) where
   abbrev l : List Hit
   l = listing_in (view_of s)
 
-  pub list_refused : {r : Refusal} → o ≡ Refused r → IsListed s d d (listed.Refused r)
+  pub list_refused : {r : Refusal} {x : Listed} → o ≡ Err r → IsErrAnd x (λ y. y ≡ r) → IsListed s d d x
   unfolding or_refuse
-  list_refused q =
+  list_refused q h =
       record {
-        answer = ap (λ (j : Judged). or_refuse listed.Refused j (listed_in (view_of s) d)) (sym q ∙ e);
+        answer = exits h (ap (λ (j : Judged). or_refuse Err j (listed_in (view_of s) d)) (sym q ∙ e));
         held = ap (λ (j : Judged). or_refuse (λ _. d) j (held_in (view_of s) d)) (sym q ∙ e);
       }
 
-  pub part_refused : {r : Refusal} (from : ℕ) → o ≡ Refused r → IsPart s from d d (listed.Refused r)
+  pub part_refused : {r : Refusal} {x : Listed} (from : ℕ) → o ≡ Err r → IsErrAnd x (λ y. y ≡ r) → IsPart s from d d x
   unfolding or_refuse
-  part_refused from q =
+  part_refused from q h =
       record {
-        answer = ap (λ (j : Judged). or_refuse listed.Refused j (listed.Count (length l))) (sym q ∙ e);
+        answer = exits h (ap (λ (j : Judged). or_refuse Err j (Ok (length l))) (sym q ∙ e));
         held = ap (λ (j : Judged). or_refuse (λ _. d) j (part_in l from d)) (sym q ∙ e);
       }

@@ -1,42 +1,14 @@
-// What may be asked of a scene: the types of the answers here, each question as a definition on a view in `specs/Answers`.
+// What may be asked of a scene: what the answers are made of here, each question as a definition on a view in `specs/Answers`.
 #![tactic(auto)]
 
-use orient::Terms;
-use pierce_masks::Mask;
-use scene::{Refusal, Scene};
+use scene::Scene;
 
-pub mod find;
+// A pierced pair: an edge, lower point first, and a face.
+pub type Pair = (usize, usize, usize);
 
-// The four terms, and whether the first that is not zero is positive.
-#[derive(Clone, Copy)]
-pub enum Signed {
-    Refused(Refusal),
-    Sign(Terms, bool),
-}
-
-#[derive(Clone, Copy)]
-pub enum Answer {
-    Refused(Refusal),
-    Yes,
-    No,
-}
-
-// The mask, and how many ones it has.
-#[derive(Clone, Copy)]
-pub enum Masked {
-    Refused(Refusal),
-    Faces(Mask, usize),
-}
-
-#[derive(Clone, Copy)]
-pub enum Enclosing {
-    Refused(Refusal),
-    Count(usize),
-}
-
+// What is said of a whole scene, with the first pair, or the lowest vertex that is enclosed.
 #[derive(Clone, Copy)]
 pub enum Verdict {
-    Refused(Refusal),
     Cross(usize, usize, usize),
     AInB(usize),
     BInA(usize),
@@ -50,19 +22,6 @@ pub struct Counts {
     pub b_in_a: usize,
 }
 
-#[derive(Clone, Copy)]
-pub enum Counted {
-    Refused(Refusal),
-    Counts(Counts),
-}
-
-// How many pairs there are.
-#[derive(Clone, Copy)]
-pub enum Listed {
-    Refused(Refusal),
-    Count(usize),
-}
-
 // Room for the longest listing: a face's plane parts two sides of a triangle at most, and each edge is in two faces or more, so that no
 // more than as many edges as the solid has faces pierce a face of the other.
 pub const MOST_PAIRS: usize = 2 * Scene::MOST_FACES * Scene::MOST_FACES;
@@ -74,10 +33,4 @@ pub struct Facts {
     pub counts: Counts,
     pub a_inside: u64,
     pub b_inside: u64,
-}
-
-#[derive(Clone, Copy)]
-pub enum Surveyed {
-    Refused(Refusal),
-    Facts(Facts),
 }

@@ -1,5 +1,5 @@
 -- The cases of a record shown, each from the facts that lead there. Assumes nothing.
-use Rattle.std.specs.Prelude.{ℕ, ◌+◌, ◌-◌, ◌<◌, ◌≤◌, ◌≡◌, List, [], length}
+use Rattle.std.specs.Prelude.{ℕ, ◌+◌, ◌-◌, ◌<◌, ◌≤◌, ◌≡◌, List, [], length, Ok, Err}
 use Rattle.std.proofs.Common.{sym, ◌∙◌}
 use Rattle.std.proofs.Math.Path.{ap}
 use borrow.Author.Tests.{eq-eqb, ne_eqb, lt-ltb, le-ltb, le-leb, lt-leb, eqb-true, leb-true}
@@ -8,8 +8,7 @@ use Rattle.scene.specs.declared.Refusal.{Refusal}
 use Rattle.scene.specs.declared.Refusal.TheVariants.{NoSuchNumber}
 use Rattle.judge.specs.Judge.{refuse_unless, judged, judged_at, header_fault}
 use Rattle.judge.specs.Laws.{rule_ok, rule_rest, then_first, then_rest, then_accepted, then_refused}
-use Rattle.judge.specs.declared.Judged.{Judged}
-use Rattle.judge.specs.declared.Judged.TheVariants.{Accepted, Refused}
+use Rattle.judge.specs.Judge.{Judged}
 use Rattle.record.specs.Shown.{part, part_at, refusal, if_accepted, shown}
 
 module _ (s : List ℕ) (k : ℕ) {l : List ℕ} where
@@ -31,33 +30,33 @@ module _ (s : List ℕ) (k : ℕ) {l : List ℕ} where
 
 -- of o, what `record_refusal` answered
 module _ (s : List ℕ) (k : ℕ) {o : Judged} (j : o ≡ refusal s k) where
-  pub shown_none : {r : Refusal} → o ≡ Refused r → [] ≡ shown s k
+  pub shown_none : {r : Refusal} → o ≡ Err r → [] ≡ shown s k
   unfolding shown if_accepted
   shown_none q = ap (λ (x : Judged). if_accepted x (part_at s k)) (sym q ∙ j)
 
-  pub shown_all : {l : List ℕ} → o ≡ Accepted → l ≡ part_at s k → l ≡ shown s k
+  pub shown_all : {l : List ℕ} → o ≡ Ok tt → l ≡ part_at s k → l ≡ shown s k
   unfolding shown if_accepted
   shown_all q e = e ∙ ap (λ (x : Judged). if_accepted x (part_at s k)) (sym q ∙ j)
 
   -- what is not refused is long enough, and has the record
-  pub long_enough : o ≡ Accepted → length s ≡ length_of s
+  pub long_enough : o ≡ Ok tt → length s ≡ length_of s
   unfolding refusal judged_at header_fault
   long_enough q = eqb-true _ _ (rule_ok _ _ _ (rule_rest _ _ _ (rule_rest _ _ _ (then_first _ _ (then_first _ _ (sym j ∙ q))))))
 
-  pub has_record : o ≡ Accepted → k ≤ last_record s
+  pub has_record : o ≡ Ok tt → k ≤ last_record s
   unfolding refusal
   has_record q = leb-true _ _ (rule_ok _ _ _ (then_rest _ _ (sym j ∙ q)))
 
 -- of o, what the judge answered: it refuses, the scene lacks the record, or it has it
 module _ (s : List ℕ) (k : ℕ) {o : Judged} (j : o ≡ judged s) where
-  pub lacking : o ≡ Accepted → last_record s < k → Refused NoSuchNumber ≡ refusal s k
+  pub lacking : o ≡ Ok tt → last_record s < k → Err NoSuchNumber ≡ refusal s k
   unfolding refusal refuse_unless
   lacking q h = then_accepted j q (simp (lt-leb k (last_record s) h))
 
-  pub had : o ≡ Accepted → k ≤ last_record s → Accepted ≡ refusal s k
+  pub had : o ≡ Ok tt → k ≤ last_record s → (Ok tt) ≡ refusal s k
   unfolding refusal refuse_unless
   had q h = then_accepted j q (simp (le-leb k (last_record s) h))
 
-  pub not_judged : {r : Refusal} → o ≡ Refused r → Refused r ≡ refusal s k
+  pub not_judged : {r : Refusal} → o ≡ Err r → Err r ≡ refusal s k
   unfolding refusal
   not_judged q = then_refused _ j q

@@ -1,10 +1,9 @@
 -- A record shown: which bytes it is, and when it is refused. Assumes nothing.
-use Rattle.std.specs.Prelude.{ℕ, ◌+◌, ◌-◌, List, [], cond, take, drop, ltb, leb, eqb}
+use Rattle.std.specs.Prelude.{ℕ, ◌+◌, ◌-◌, List, [], cond, take, drop, ltb, leb, eqb, Ok, Err}
 use Rattle.scene.specs.Records.{verts, last_record, point_start, face_start, end_start}
 use Rattle.scene.specs.declared.Refusal.TheVariants.{NoSuchNumber}
 use Rattle.judge.specs.Judge.{refuse_unless, and_then, judged}
-use Rattle.judge.specs.declared.Judged.{Judged}
-use Rattle.judge.specs.declared.Judged.TheVariants.{Accepted, Refused}
+use Rattle.judge.specs.Judge.{Judged}
 
 -- the n bytes from a on
 abbrev pub part : List ℕ → ℕ → ℕ → List ℕ
@@ -19,11 +18,11 @@ part_at s k =
 
 -- the scene's own refusal, then 11 for a record that it lacks; none is said as accepted
 unfoldable pub refusal : List ℕ → ℕ → Judged
-refusal s k = and_then (judged s) (refuse_unless (leb k (last_record s)) NoSuchNumber Accepted)
+refusal s k = and_then (judged s) (refuse_unless (leb k (last_record s)) NoSuchNumber (Ok tt))
 
 unfoldable pub if_accepted : Judged → List ℕ → List ℕ
-if_accepted Accepted l = l
-if_accepted (Refused r) l = []
+if_accepted (Ok _) l = l
+if_accepted (Err r) l = []
 
 unfoldable pub shown : List ℕ → ℕ → List ℕ
 shown s k = if_accepted (refusal s k) (part_at s k)

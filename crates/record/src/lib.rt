@@ -5,20 +5,17 @@ ghost use Rattle.std.specs.Prelude.{◌≡◌, ◌+◌, ◌≤◌, length};
 ghost use Rattle.scene.specs.Records.{length_of, last_record};
 ghost use Rattle.record.specs.Shown.{part, part_at, shown, refusal};
 
-use judge::Judged;
 use scene::{Refusal, offsets};
 
 // None (accepted), the scene's own refusal, or 11 for a record that the scene lacks.
-pub fn record_refusal(s: &[u8], k: usize) -> Judged
+pub fn record_refusal(s: &[u8], k: usize) -> Result<(), Refusal>
     ensures { result ≡ refusal s.now k }
 {
-    if let Judged::Refused(r) = judge::judge(s) {
-        return Judged::Refused(r);
-    }
+    judge::judge(s)?;
     if k > offsets::last_record(s) {
-        return Judged::Refused(Refusal::NoSuchNumber);
+        return Err(Refusal::NoSuchNumber);
     }
-    Judged::Accepted
+    Ok(())
 }
 
 // The n bytes from a on.
@@ -52,7 +49,7 @@ fn record_at(s: &[u8], k: usize) -> &[u8]
 pub fn record(s: &[u8], k: usize) -> &[u8]
     ensures { result.now ≡ shown s.now k }
 {
-    if let Judged::Refused(_) = record_refusal(s, k) {
+    if let Err(_) = record_refusal(s, k) {
         return &s[0..0];
     }
     record_at(s, k)

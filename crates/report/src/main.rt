@@ -1,14 +1,12 @@
 // report [FILE] prints the report of a scene: it is read, judged and surveyed once, rendered part by part, and written.
 #![tactic(auto)]
 
-ghost use Rattle.std.specs.Prelude.{◌≡◌};
+ghost use Rattle.std.specs.Prelude.{◌≡◌, Ok};
 ghost use Rattle.scene.specs.View.{view_of};
 ghost use Rattle.judge.specs.Judge.{judged};
-ghost use Rattle.judge.specs.declared.Judged.TheVariants.{Accepted};
 ghost use Rattle.survey_scene.specs.Surveys.{SurveyIs};
 
 use cli::is_option;
-use judge::Judged;
 use pierce_engine::Engine;
 use print_lines::refused;
 use print_lines::rows::least;
@@ -54,11 +52,12 @@ fn write_rows(
     n: usize,
     out: &mut [u8],
 )
-    requires s_value { judged s.now ≡ Accepted }
+    requires s_value { judged s.now ≡ Ok tt }
     requires survey_is { SurveyIs (view_of s.now) aends.now amasks.now bends.now bmasks.now t }
 {
     let mut list = [0u16; NUMBERS];
     let mut from = 0;
+    // No range: a step is as many rows as had room.
     while from < n {
         let r = part_read(t, s, aends, amasks, bends, bmasks, from, &mut list, out);
         let end = r.end;
@@ -84,7 +83,7 @@ fn write_read(
     bmasks: &Masks,
     out: &mut [u8],
 )
-    requires s_value { judged s.now ≡ Accepted }
+    requires s_value { judged s.now ≡ Ok tt }
     requires survey_is { SurveyIs (view_of s.now) aends.now amasks.now bends.now bmasks.now t }
 {
     let top = head_read(t, s, aends, amasks, bends, bmasks, out);
@@ -95,7 +94,7 @@ fn write_read(
 }
 
 fn write_accepted(rt: &HostRuntime, s: &[u8], out: &mut [u8])
-    requires { judged s.now ≡ Accepted }
+    requires { judged s.now ≡ Ok tt }
 {
     let mut aends: Ends = [0; ENDS];
     let mut amasks: Masks = [0; ENDS];
@@ -123,8 +122,8 @@ fn write_report(rt: &HostRuntime, s: &[u8]) {
     let mut out = [0u8; TEXT];
     let j = judge::judge(s);
     match j {
-        Judged::Refused(r) => write_refused(rt, r, &mut out),
-        Judged::Accepted => write_accepted(rt, s, &mut out),
+        Err(r) => write_refused(rt, r, &mut out),
+        Ok(()) => write_accepted(rt, s, &mut out),
     }
 }
 

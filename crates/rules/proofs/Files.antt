@@ -1,5 +1,5 @@
 -- The accepted scenes are exactly the files of tables that keep the rules. Assumes nothing.
-use Rattle.std.specs.Prelude.{◌≡◌, ◌↔◌, ℕ, ◌+◌, ◌≤◌, ◌<◌, ℤ, pos, negsuc, nat_abs, length}
+use Rattle.std.specs.Prelude.{◌≡◌, ◌↔◌, ℕ, ◌+◌, ◌≤◌, ◌<◌, ℤ, pos, negsuc, nat_abs, length, Ok}
 use Rattle.std.proofs.Math.Path.{refl}
 use Rattle.std.proofs.Common.{sym, subst, arith}
 use mathlib.Core.List.{List, [], ◌∷◌, ◌++◌, flat_map}
@@ -13,7 +13,6 @@ use Rattle.scene.specs.Faces.{FaceOf}
 use Rattle.scene.specs.declared.Row.{Row}
 use Rattle.scene.specs.declared.Face.{Face}
 use Rattle.judge.specs.Judge.{judged_at}
-use Rattle.judge.specs.declared.Judged.TheVariants.{Accepted}
 use Rattle.rules.specs.TableRules.{RowOk, TableOk, TablesOk, Marked, Fit}
 use Rattle.rules.proofs.Accepted.{accepted}
 use Rattle.rules.proofs.Bridge.{by_tables}
@@ -122,11 +121,11 @@ module _ {l : Limits} (fit : Fit l) where
         each_at Byte (bytes_of t) 0 (each_append Byte (header t) f6 header_bytes_law e6) (omega arith)
 
     -- the file of tables that keep the rules is accepted
-    pub file_accepted : judged_at l (bytes_of t) ≡ Accepted
+    pub file_accepted : judged_at l (bytes_of t) ≡ Ok tt
     file_accepted = (accepted l (bytes_of t)).1 ((by_tables l (bytes_of t)).1 (marked t, subst (TablesOk l) (sym (read_back t fit ok)) ok))
 
-pub accepted_files : (l : Limits) → Fit l → (s : List ℕ) → Bytes s → (judged_at l s ≡ Accepted) ↔ FileOf l s
+pub accepted_files : (l : Limits) → Fit l → (s : List ℕ) → Bytes s → (judged_at l s ≡ Ok tt) ↔ FileOf l s
 accepted_files l fit s bytes = (
   λ p. record { tables = tables_of s; ok = ((by_tables l s).0 ((accepted l s).0 p)).1; written = accepted_written l s bytes p },
-  λ f. subst (λ (s : List ℕ). judged_at l s ≡ Accepted) f.written (file_accepted fit f.tables f.ok),
+  λ f. subst (λ (s : List ℕ). judged_at l s ≡ Ok tt) f.written (file_accepted fit f.tables f.ok),
 )

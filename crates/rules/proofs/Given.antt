@@ -1,6 +1,6 @@
 -- What acceptance gives to the floors above: the rows, the faces and the edges of an accepted scene, by the scene's own numbers.
 -- Assumes nothing.
-use Rattle.std.specs.Prelude.{◌≡◌, refl, ◌≢◌, ◌↔◌, List, map, ℕ, zero, suc, ◌+◌, ◌≤◌, ◌<◌, pos, nat_abs}
+use Rattle.std.specs.Prelude.{◌≡◌, refl, ◌≢◌, ◌↔◌, List, map, ℕ, zero, suc, ◌+◌, ◌≤◌, ◌<◌, pos, nat_abs, Ok}
 use Rattle.std.proofs.Common.{sym, ap, subst, inl, inr, arith}
 use Rattle.std.proofs.Math.Decide.{dec_lt}
 use Rattle.laws.specs.Lists.{Each, run, each_run}
@@ -14,7 +14,6 @@ use Rattle.scene.specs.Faces.{Corner, Both, FaceOf, Sides, EdgeOk, EdgesOk}
 use Rattle.scene.specs.declared.Row.{Row}
 use Rattle.scene.specs.declared.Face.{Face}
 use Rattle.judge.specs.Judge.{judged_at}
-use Rattle.judge.specs.declared.Judged.TheVariants.{Accepted}
 use Rattle.rules.specs.Rules.{Between, CountsOk, RecordOk, FileOk}
 use Rattle.rules.specs.TableRules.{TablesOk}
 use Rattle.rules.proofs.Bridge.{by_tables}
@@ -54,7 +53,7 @@ module _ (m : ℕ) where
       each_mapped (Sides (EdgeOk fs)) (Sides (EdgeOk (map (raise m) fs))) (raise m)
       (λ f h. (edge_raised fs f.p f.q h.0, edge_raised fs f.q f.r h.1, edge_raised fs f.r f.p h.2)) fs
 
-module _ (l : Limits) (s : List ℕ) (ok : judged_at l s ≡ Accepted) where
+module _ (l : Limits) (s : List ℕ) (ok : judged_at l s ≡ Ok tt) where
   abbrev rules : FileOk l s
   rules = (accepted l s).0 ok
 

@@ -1,12 +1,11 @@
 -- Which part of the judge gave a refusal, by the refusal's turn: those before it keep their rules. Assumes nothing.
-use Rattle.std.specs.Prelude.{◌≡◌, ◌↔◌, List, ℕ, suc, ◌+◌, ◌≤◌}
+use Rattle.std.specs.Prelude.{◌≡◌, ◌↔◌, List, ℕ, suc, ◌+◌, ◌≤◌, Err}
 use mathlib.Core.Logic.Iff
 use Rattle.std.proofs.Common.{arith}
 use Rattle.scene.specs.Limits.{Limits}
 use Rattle.scene.specs.Records.{verts, faces, last_record}
 use Rattle.scene.specs.declared.Refusal.{Refusal}
 use Rattle.judge.specs.Judge.{and_then, judged_at, header_fault, record_fault, records_fault, unused_fault, unuseds_fault, edge_fault, edges_fault}
-use Rattle.judge.specs.declared.Judged.TheVariants.{Refused}
 use Rattle.judge.specs.Tests.{First, first_refused}
 use Rattle.rules.specs.Rules.{HeaderOk, RecordsOk, AllUsed}
 use Rattle.rules.specs.Numbers.{check_order, Gives, gives, gives_then, gives_first, gives_wider, then_here, then_next}
@@ -48,19 +47,19 @@ module _ (l : Limits) (s : List ℕ) where
       (gives_wider 1 10 (omega arith) (omega arith) after_header)
 
   module _ (r : Refusal) where
-    pub by_header : check_order r ≤ 3 → (judged_at l s ≡ Refused r) ↔ (header_fault l s ≡ Refused r)
+    pub by_header : check_order r ≤ 3 → (judged_at l s ≡ Err r) ↔ (header_fault l s ≡ Err r)
     unfolding judged_at
     by_header h = then_here _ _ r 10 (gives_wider (suc (check_order r)) 10 (omega arith) (omega arith) after_header)
 
     pub by_records : 4 ≤ check_order r → check_order r ≤ 8 →
-        (judged_at l s ≡ Refused r) ↔ (HeaderOk l s × First (record_fault l s) 1 (last_record s + 1) r)
+        (judged_at l s ≡ Err r) ↔ (HeaderOk l s × First (record_fault l s) 1 (last_record s + 1) r)
     unfolding judged_at records_fault
     by_records a b =
         then_next _ _ r 1 3 header_gives (omega arith) (header_iff l s)
         (Iff.trans (then_here _ _ r 10 (gives_wider (suc (check_order r)) 10 (omega arith) (omega arith) after_records))
         (first_refused _ r _ _))
 
-    pub by_unused : check_order r ≡ 9 → (judged_at l s ≡ Refused r) ↔
+    pub by_unused : check_order r ≡ 9 → (judged_at l s ≡ Err r) ↔
         (HeaderOk l s × (RecordsOk l s × First (unused_fault s) 1 (verts s + 1) r))
     unfolding judged_at unuseds_fault
     by_unused h =
@@ -70,7 +69,7 @@ module _ (l : Limits) (s : List ℕ) where
         (first_refused _ r _ _)))
 
     pub by_edges : check_order r ≡ 10 →
-        (judged_at l s ≡ Refused r) ↔ (HeaderOk l s × (RecordsOk l s × (AllUsed s × First (edge_fault s) 0 (faces s) r)))
+        (judged_at l s ≡ Err r) ↔ (HeaderOk l s × (RecordsOk l s × (AllUsed s × First (edge_fault s) 0 (faces s) r)))
     unfolding judged_at edges_fault
     by_edges h =
         then_next _ _ r 1 3 header_gives (omega arith) (header_iff l s)

@@ -1,6 +1,6 @@
 -- The judge's five tests of a record decide the five rules of that record, and the record is refused by the first that fails.
 -- Assumes nothing.
-use Rattle.std.specs.Prelude.{◌≡◌, ◌↔◌, Bool, true, false, ◌&&◌, List, eqb, ℤ, pos, negsuc}
+use Rattle.std.specs.Prelude.{◌≡◌, ◌↔◌, Bool, true, false, ◌&&◌, List, eqb, ℤ, pos, negsuc, Ok}
 use Rattle.std.proofs.Math.Path.{refl, ap}
 use Rattle.std.proofs.Common.{sym, ◌∙◌, subst, arith}
 use mathlib.Core.Logic.Iff
@@ -20,8 +20,7 @@ use Rattle.scene.specs.declared.Refusal.TheVariants.{Mark, Coordinate, Weight, F
 use Rattle.judge.specs.Judge.{refuse_unless, coordinate_ok, weight_ok, nowhere, somewhere_ok, point_mark, point_fault}
 use Rattle.judge.specs.Judge.{are_corners, verts_at, corners_ok, face_fault, end_fault, record_fault}
 use Rattle.judge.specs.Cases.{vertex_mark, verts_of_a, verts_of_b, record_point, record_face, record_end}
-use Rattle.judge.specs.declared.Judged.{Judged}
-use Rattle.judge.specs.declared.Judged.TheVariants.{Accepted}
+use Rattle.judge.specs.Judge.{Judged}
 use Rattle.rules.specs.Rules.{MarkOk, CoordinatesIn, WeightIn, Zeros, CoordinatesOk, WeightOk, SomewhereOk, CornersOk}
 use Rattle.judge.specs.Tests.{accepts, within_iff}
 
@@ -30,7 +29,7 @@ abbrev pub in_order : (k : ℕ) (mark coordinates weight somewhere corners : Boo
 in_order k mark coordinates weight somewhere corners =
     refuse_unless mark (Mark k)
     (refuse_unless coordinates (Coordinate k)
-    (refuse_unless weight (Weight k) (refuse_unless somewhere (FarAllZero k) (refuse_unless corners (Corner k) Accepted))))
+    (refuse_unless weight (Weight k) (refuse_unless somewhere (FarAllZero k) (refuse_unless corners (Corner k) (Ok tt)))))
 
 pub record Tested (l : Limits) (s : List ℕ) (k : ℕ) : Type 0 where
   pub mark : Bool
@@ -82,7 +81,7 @@ module _ (l : Limits) (s : List ℕ) where
       let at : ℕ = point_start j in
       ap (refuse_unless (eqb (two_at s at) (point_mark j)) (Mark (j + 1)))
       (together (coordinate_ok l s (at + 2)) (coordinate_ok l s (at + 4)) (coordinate_ok l s (at + 6)) (Coordinate (j + 1))
-      (refuse_unless (weight_ok l s j) (Weight (j + 1)) (refuse_unless (somewhere_ok s j) (FarAllZero (j + 1)) Accepted)))
+      (refuse_unless (weight_ok l s j) (Weight (j + 1)) (refuse_unless (somewhere_ok s j) (FarAllZero (j + 1)) (Ok tt))))
 
   -- what holds of the file's point j, said of its record
   of_point : (X : ℕ → Type 0) (j : ℕ) → j ≤ verts s → X j ↔ ((i : ℕ) → i ≤ verts s → j + 1 ≡ i + 1 → X i)

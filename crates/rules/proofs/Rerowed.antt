@@ -1,6 +1,6 @@
 -- An accepted scene stays accepted when the rows of its points change, each within its rules: what a file has beside its rows is as it was.
 -- Assumes nothing.
-use Rattle.std.specs.Prelude.{◌≡◌, List, ℕ, zero, suc, ◌+◌, ◌≤◌}
+use Rattle.std.specs.Prelude.{◌≡◌, List, ℕ, zero, suc, ◌+◌, ◌≤◌, Ok}
 use Rattle.std.proofs.Common.{sym, ap, ap₂, ◌∙◌, arith}
 use Rattle.laws.specs.Lists.{Each, run, run_each, run_same}
 use Rattle.scene.specs.Limits.{limits, least_weight}
@@ -9,7 +9,6 @@ use Rattle.scene.specs.Tables.{Table, size, row_at, face_at, tables_of}
 use Rattle.scene.specs.Read.{size_a, size_b}
 use Rattle.scene.specs.Bytes.{two_at}
 use Rattle.judge.specs.Judge.{judged}
-use Rattle.judge.specs.declared.Judged.TheVariants.{Accepted}
 use Rattle.rules.specs.Rules.{Zeros}
 use Rattle.rules.specs.TableRules.{RowOk, TableOk, TablesOk, Marked}
 use Rattle.rules.proofs.Accepted.{accepted}
@@ -92,7 +91,7 @@ module _ (s t : List ℕ) (h : Rerowed s t) where
           somewhere = somewhere;
         }
 
-    pub still_accepted : judged s ≡ Accepted → judged t ≡ Accepted
+    pub still_accepted : judged s ≡ Ok tt → judged t ≡ Ok tt
     still_accepted ok =
         let m = (by_tables limits s).0 ((accepted limits s).0 ok) in
         (accepted limits t).1 ((by_tables limits t).1 (marked_same m.0, tables_same m.1))

@@ -1,5 +1,5 @@
 -- A file that keeps the rules is written back from its tables byte for byte. Assumes nothing.
-use Rattle.std.specs.Prelude.{◌≡◌, refl, ℕ, suc, ◌+◌, ◌*◌, ◌≤◌, length}
+use Rattle.std.specs.Prelude.{◌≡◌, refl, ℕ, suc, ◌+◌, ◌*◌, ◌≤◌, length, Ok}
 use Rattle.std.proofs.Common.{sym, ◌∙◌, length-append}
 use Rattle.std.proofs.Math.Path.{ap}
 use mathlib.Core.List.{List, [], ◌∷◌, ◌++◌, flat_map}
@@ -12,7 +12,6 @@ use Rattle.scene.specs.Records.{marksc, markfp, markvx, markfc, marken}
 use Rattle.scene.specs.Tables.{Tables, size, row_at, face_at, corner_at, tables_of}
 use Rattle.scene.specs.Read.{size_a, size_b}
 use Rattle.judge.specs.Judge.{judged_at}
-use Rattle.judge.specs.declared.Judged.TheVariants.{Accepted}
 use Rattle.rules.specs.TableRules.{Marked}
 use Rattle.rules.proofs.Accepted.{accepted}
 use Rattle.rules.proofs.Bridge.{by_tables}
@@ -116,5 +115,5 @@ written_back s bytes m =
     sym (whole (omega (arith, m.long, file_length (tables_of s), size_a s, size_b s, n, o)) (file_held s bytes m))
 
 -- an accepted scene is what its tables are written as
-pub accepted_written : (l : Limits) (s : List ℕ) → Bytes s → judged_at l s ≡ Accepted → bytes_of (tables_of s) ≡ s
+pub accepted_written : (l : Limits) (s : List ℕ) → Bytes s → judged_at l s ≡ Ok tt → bytes_of (tables_of s) ≡ s
 accepted_written l s bytes p = written_back s bytes ((by_tables l s).0 ((accepted l s).0 p)).0

@@ -1,5 +1,5 @@
 -- The turns at which a judgement can refuse, and so which of its parts gave a refusal. Assumes nothing.
-use Rattle.std.specs.Prelude.{◌≡◌, ◌↔◌, Bool, ℕ, suc, ◌≤◌, ◌<◌}
+use Rattle.std.specs.Prelude.{◌≡◌, ◌↔◌, Bool, ℕ, suc, ◌≤◌, ◌<◌, Ok, Err}
 use Rattle.std.proofs.Math.Path.{refl, ap, subst}
 use Rattle.std.proofs.Common.{sym, ◌∙◌, ⊎_elim, inr, inl, arith, lit≤}
 use mathlib.Core.Logic.Iff
@@ -9,8 +9,7 @@ use Rattle.scene.specs.declared.Refusal.{Refusal}
 use Rattle.scene.specs.declared.Refusal.TheVariants.{Opening, Counts, Length, Mark, Coordinate, Weight, Corner}
 use Rattle.scene.specs.declared.Refusal.TheVariants.{Unused, Edge, ListTooShort, NoSuchNumber, NotDistinct, BufferTooShort, FarAllZero}
 use Rattle.judge.specs.Judge.{refuse_unless, and_then, first_fault}
-use Rattle.judge.specs.declared.Judged.{Judged}
-use Rattle.judge.specs.declared.Judged.TheVariants.{Accepted, Refused}
+use Rattle.judge.specs.Judge.{Judged}
 use Rattle.rules.specs.Rules.{Between}
 use Rattle.judge.specs.Tests.{never, then_refused, first_refused}
 
@@ -33,13 +32,13 @@ check_order (BufferTooShort p) = 14
 
 -- j refuses, if it does, at a turn from low to high
 pub record Gives (low high : ℕ) (j : Judged) : Type 0 where
-  pub turn : (r : Refusal) → j ≡ Refused r → Between low high (check_order r)
+  pub turn : (r : Refusal) → j ≡ Err r → Between low high (check_order r)
 
-same : {q r : Refusal} → Refused q ≡ Refused r → q ≡ r
+same : {q r : Refusal} → ◌≡◌ {A = Judged} (Err q) (Err r) → q ≡ r
 same e = cc
 
 module _ (low high : ℕ) where
-  pub gives_none : Gives low high Accepted
+  pub gives_none : Gives low high (Ok tt)
   gives_none = record { turn = λ r e. absurd (never e) }
 
   pub gives_rule : (b : Bool) (r : Refusal) (k : Judged) → low ≤ check_order r → check_order r ≤ high → Gives low high k → Gives low high
@@ -64,39 +63,39 @@ pub ruleset gives = (gives_none, gives_rule, lit≤, tt)
 
 module _ {P : Type 0} {b : Bool} (e : (b ≡ true) ↔ P) (r : Refusal) {q : Refusal} (k : Judged) where
   -- this rule's test, which decides P, fails
-  pub rule_here : (high : ℕ) → Gives (suc (check_order q)) high k → (refuse_unless b r k ≡ Refused q) ↔ ((r ≡ q) × ¬ P)
+  pub rule_here : (high : ℕ) → Gives (suc (check_order q)) high k → (refuse_unless b r k ≡ Err q) ↔ ((r ≡ q) × ¬ P)
   unfolding refuse_unless
   rule_here high g = go b e
     where
-      go : (b : Bool) → (b ≡ true) ↔ P → (refuse_unless b r k ≡ Refused q) ↔ ((r ≡ q) × ¬ P)
+      go : (b : Bool) → (b ≡ true) ↔ P → (refuse_unless b r k ≡ Err q) ↔ ((r ≡ q) × ¬ P)
       go true e = (λ p. absurd (omega (arith, (g.turn q p).0)), λ h. absurd (h.1 (e.0 refl)))
-      go false e = (λ p. (same p, λ x. false≢true (e.1 x)), λ h. ap Refused h.0)
+      go false e = (λ p. (same p, λ x. false≢true (e.1 x)), λ h. ap Err h.0)
 
   -- it passes, and a later one fails
-  pub rule_next : {Q : Type 0} → check_order r < check_order q → (k ≡ Refused q) ↔ Q → (refuse_unless b r k ≡ Refused q) ↔ (P × Q)
+  pub rule_next : {Q : Type 0} → check_order r < check_order q → (k ≡ Err q) ↔ Q → (refuse_unless b r k ≡ Err q) ↔ (P × Q)
   unfolding refuse_unless
   rule_next {Q} l f = go b e
     where
-      go : (b : Bool) → (b ≡ true) ↔ P → (refuse_unless b r k ≡ Refused q) ↔ (P × Q)
+      go : (b : Bool) → (b ≡ true) ↔ P → (refuse_unless b r k ≡ Err q) ↔ (P × Q)
       go true e = (λ p. (e.0 refl, f.0 p), λ h. f.1 h.1)
       go false e = (λ p. absurd (let n = ap check_order (same p) in omega arith), λ h. absurd (false≢true (e.1 h.0)))
 
 -- the one refusal r of a rule
 pub rule_alone : {P : Type 0} {b : Bool} → (b ≡ true) ↔ P → (r : Refusal) (k : Judged) (high : ℕ) → Gives (suc (check_order r)) high k →
-    (refuse_unless b r k ≡ Refused r) ↔ ¬ P
+    (refuse_unless b r k ≡ Err r) ↔ ¬ P
 rule_alone e r k high g = Iff.trans (rule_here e r k high g) (λ h. h.1, λ n. (refl, n))
 
 -- the refusal K of a rule, at the place i
 pub rule_at : {P : Type 0} {b : Bool} → (b ≡ true) ↔ P → (K : ℕ → Refusal) → ((i : ℕ) → place_of (K i) ≡ i) →
-    (i p : ℕ) (k : Judged) (high : ℕ) → Gives (suc (check_order (K p))) high k → (refuse_unless b (K i) k ≡ Refused (K p)) ↔ ((i ≡ p) × ¬ P)
+    (i p : ℕ) (k : Judged) (high : ℕ) → Gives (suc (check_order (K p))) high k → (refuse_unless b (K i) k ≡ Err (K p)) ↔ ((i ≡ p) × ¬ P)
 rule_at e K place i p k high g =
     Iff.trans (rule_here e (K i) k high g) (λ h. (sym (place i) ∙ ap place_of h.0 ∙ place p, h.1), λ h. (ap K h.0, h.1))
 
 module _ (x y : Judged) (r : Refusal) where
-  pub then_here : (high : ℕ) → Gives (suc (check_order r)) high y → (and_then x y ≡ Refused r) ↔ (x ≡ Refused r)
+  pub then_here : (high : ℕ) → Gives (suc (check_order r)) high y → (and_then x y ≡ Err r) ↔ (x ≡ Err r)
   then_here high g = Iff.trans (then_refused x y r) (⊎_elim (λ p. p) (λ h. absurd (omega (arith, (g.turn r h.1).0))), inl)
 
-  pub then_next : {P Q : Type 0} (low high : ℕ) → Gives low high x → high < check_order r → (x ≡ Accepted) ↔ P → (y ≡ Refused r) ↔ Q →
-      (and_then x y ≡ Refused r) ↔ (P × Q)
+  pub then_next : {P Q : Type 0} (low high : ℕ) → Gives low high x → high < check_order r → (x ≡ Ok tt) ↔ P → (y ≡ Err r) ↔ Q →
+      (and_then x y ≡ Err r) ↔ (P × Q)
   then_next low high g l p q =
       Iff.trans (then_refused x y r) (Iff.trans (⊎_elim (λ p. absurd (omega (arith, (g.turn r p).1))) (λ h. h), inr) (Iff.and p q))

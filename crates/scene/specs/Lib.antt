@@ -13,6 +13,5 @@ pub mod Read
 pub mod Write
 pub mod Negative
 pub mod Written
-pub mod Copy
 pub mod Edges
 pub mod Words

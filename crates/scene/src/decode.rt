@@ -6,8 +6,8 @@ ghost use Rattle.scene.specs.Tables.{tables_of, row, face};
 ghost use Rattle.scene.specs.Arrays.{row_in, face_in, no_rows, no_corners, RowWithin, AllWithin, FaceWithin, FacesWithin};
 ghost use Rattle.scene.specs.Decode.{row_set, face_set};
 
-use crate::read::{byte, corners, row};
-use crate::{Corners, Face, Row, Rows};
+use crate::read::{corners, row};
+use crate::{Corners, Face, Row, Rows, offsets};
 
 fn put_row(a: &mut Rows, i: usize, p: Row)
     requires { (i ≤ most_points limits) × RowWithin limits p }
@@ -31,11 +31,9 @@ pub fn rows(s: &[u8], a: &mut Rows)
     requires empty { a.old ≡ no_rows }
     ensures { row_in a.new ≡ row (tables_of s.now) }
 {
-    let n = byte(s, 2) + byte(s, 4) + 2;
-    let mut i = 0;
-    while i < n {
+    let n = offsets::vertices(s) + 2;
+    for i in 0..n {
         put_row(a, i, row(s, i));
-        i += 1;
     }
 }
 
@@ -59,11 +57,9 @@ pub fn faces(s: &[u8], a: &mut Corners)
     requires empty { a.old ≡ no_corners }
     ensures { face_in a.new ≡ face (tables_of s.now) }
 {
-    let n = byte(s, 3) + byte(s, 5) + 1;
-    let mut k = 0;
-    while k < n {
+    let n = offsets::faces(s) + 1;
+    for k in 0..n {
         put_face(a, k, corners(s, k));
-        k += 1;
     }
 }
 

@@ -1,7 +1,7 @@
 // The scene file of two solids and a far point: its limits, its refusals, and what its bytes denote.
 #![tactic(auto)]
 
-ghost use Rattle.std.specs.Prelude.{◌≡◌};
+ghost use Rattle.std.specs.Prelude.{ℕ, ◌≡◌};
 ghost use Rattle.scene.specs.Limits.{limits, within, most_points, longest};
 ghost use Rattle.scene.specs.Refusal.{number_of, place_of};
 
@@ -74,45 +74,60 @@ pub enum Refusal {
     FarAllZero(usize),
 }
 
-pub fn number(r: Refusal) -> usize
-    ensures { result ≡ number_of r }
-{
-    match r {
-        Refusal::Opening => 1,
-        Refusal::Counts => 2,
-        Refusal::Length => 3,
-        Refusal::Mark(_) => 4,
-        Refusal::Coordinate(_) => 5,
-        Refusal::Weight(_) => 6,
-        Refusal::Corner(_) => 7,
-        Refusal::Unused(_) => 8,
-        Refusal::Edge(_) => 9,
-        Refusal::ListTooShort(_) => 10,
-        Refusal::NoSuchNumber => 11,
-        Refusal::NotDistinct => 12,
-        Refusal::BufferTooShort(_) => 13,
-        Refusal::FarAllZero(_) => 14,
-    }
+// Why something is refused: its number, which the printed lines and C have, and its place.
+pub trait Numbered {
+    ghost number: { Self → ℕ };
+
+    ghost place: { Self → ℕ };
+
+    fn number(self) -> usize
+        ensures { result ≡ number self };
+
+    fn place(self) -> usize
+        ensures { result ≡ place self };
 }
 
-pub fn place(r: Refusal) -> usize
-    ensures { result ≡ place_of r }
-{
-    match r {
-        Refusal::Opening => 0,
-        Refusal::Counts => 0,
-        Refusal::Length => 0,
-        Refusal::Mark(p) => p,
-        Refusal::Coordinate(p) => p,
-        Refusal::Weight(p) => p,
-        Refusal::Corner(p) => p,
-        Refusal::Unused(p) => p,
-        Refusal::Edge(p) => p,
-        Refusal::ListTooShort(p) => p,
-        Refusal::NoSuchNumber => 0,
-        Refusal::NotDistinct => 0,
-        Refusal::BufferTooShort(p) => p,
-        Refusal::FarAllZero(p) => p,
+impl Numbered for Refusal {
+    ghost number = { number_of };
+
+    ghost place = { place_of };
+
+    fn number(self) -> usize {
+        match self {
+            Refusal::Opening => 1,
+            Refusal::Counts => 2,
+            Refusal::Length => 3,
+            Refusal::Mark(_) => 4,
+            Refusal::Coordinate(_) => 5,
+            Refusal::Weight(_) => 6,
+            Refusal::Corner(_) => 7,
+            Refusal::Unused(_) => 8,
+            Refusal::Edge(_) => 9,
+            Refusal::ListTooShort(_) => 10,
+            Refusal::NoSuchNumber => 11,
+            Refusal::NotDistinct => 12,
+            Refusal::BufferTooShort(_) => 13,
+            Refusal::FarAllZero(_) => 14,
+        }
+    }
+
+    fn place(self) -> usize {
+        match self {
+            Refusal::Opening => 0,
+            Refusal::Counts => 0,
+            Refusal::Length => 0,
+            Refusal::Mark(p) => p,
+            Refusal::Coordinate(p) => p,
+            Refusal::Weight(p) => p,
+            Refusal::Corner(p) => p,
+            Refusal::Unused(p) => p,
+            Refusal::Edge(p) => p,
+            Refusal::ListTooShort(p) => p,
+            Refusal::NoSuchNumber => 0,
+            Refusal::NotDistinct => 0,
+            Refusal::BufferTooShort(p) => p,
+            Refusal::FarAllZero(p) => p,
+        }
     }
 }
 

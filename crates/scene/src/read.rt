@@ -1,10 +1,11 @@
 // What stands in the bytes of a scene. Every read is total: past the end there are zeros.
-ghost use Rattle.std.specs.Prelude.{◌≡◌, ◌<◌};
-ghost use Rattle.scene.specs.Bytes.{byte_at, two_at, coordinate_at, weight_at};
+ghost use Rattle.std.specs.Prelude.{◌≡◌, ◌+◌, ◌<◌};
+ghost use Rattle.scene.specs.Bytes.{byte_at, two_at, signed, coordinate_at, weight_at};
 ghost use Rattle.scene.specs.Records.{counts_of};
 ghost use Rattle.scene.specs.Tables.{tables_of, row, face, row_at, face_at};
 ghost use Rattle.scene.specs.View.{view_of, solid};
 
+use crate::offsets::{face_start, point_start, vertices};
 use crate::{Face, Row, Scene, Solid};
 
 // The byte at i, or 0 past the end.
@@ -25,27 +26,28 @@ pub fn two(s: &[u8], i: usize) -> usize
     }
 }
 
-// The signed number of two bytes, and of one.
+// n as a signed number: half and above stand for the negative numbers.
+fn signed(half: usize, n: usize) -> i64
+    requires { (n < half + half) × (half < 65536) }
+    ensures { result ≡ signed half n }
+{
+    if n < half {
+        n as i64
+    } else {
+        -((half + half - n) as i64)
+    }
+}
+
 fn coordinate(s: &[u8], i: usize) -> i64
     ensures { result ≡ coordinate_at s.now i }
 {
-    let n = two(s, i);
-    if n < 32768 {
-        n as i64
-    } else {
-        -((65536 - n) as i64)
-    }
+    signed(32768, two(s, i))
 }
 
 fn weight(s: &[u8], i: usize) -> i64
     ensures { result ≡ weight_at s.now i }
 {
-    let n = byte(s, i);
-    if n < 128 {
-        n as i64
-    } else {
-        -((256 - n) as i64)
-    }
+    signed(128, byte(s, i))
 }
 
 // The header's counts, whatever the bytes.
@@ -88,11 +90,11 @@ pub fn solid(s: &[u8], k: usize) -> Solid
 }
 
 // The row of the file's point j: 0 is the far point, then come the vertices.
-fn row_at(s: &[u8], j: usize) -> Row
+pub fn row_at(s: &[u8], j: usize) -> Row
     requires { j < 1024 }
     ensures { result ≡ row_at s.now j }
 {
-    let at = 6 + j * 9;
+    let at = point_start(j);
     Row {
         x: coordinate(s, at + 2),
         y: coordinate(s, at + 4),
@@ -105,7 +107,7 @@ fn row_at(s: &[u8], j: usize) -> Row
 pub fn row(s: &[u8], i: usize) -> Row
     ensures { result ≡ row (tables_of s.now) i }
 {
-    let n = byte(s, 2) + byte(s, 4);
+    let n = vertices(s);
     if i == n + 1 {
         return row_at(s, 0);
     }
@@ -129,11 +131,11 @@ pub fn row(s: &[u8], i: usize) -> Row
 }
 
 // The corners of the file's face i, from 0, as they stand in the file.
-fn face_at(s: &[u8], i: usize) -> Face
+pub fn face_at(s: &[u8], i: usize) -> Face
     requires { i < 1024 }
     ensures { (result ≡ face_at s.now i) × (result.p < 256) × (result.q < 256) × (result.r < 256) }
 {
-    let at = 15 + (byte(s, 2) + byte(s, 4)) * 9 + i * 5;
+    let at = face_start(s, i);
     Face {
         p: byte(s, at + 2),
         q: byte(s, at + 3),

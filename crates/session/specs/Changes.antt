@@ -1,6 +1,6 @@
 -- What an operation changes: the numbers of its record, and no other byte. A refused one changes nothing, and the empty session refuses all
 -- of them with 1. Assumes nothing.
-use Rattle.std.specs.Prelude.{◌≡◌, false, List, length, take}
+use Rattle.std.specs.Prelude.{◌≡◌, false, List, length, take, Ok, Err}
 use Rattle.std.proofs.Math.Path.{ap}
 use Rattle.std.proofs.Common.{◌∙◌, arith}
 use Prim.Native.Nat.{ℕ, ◌+◌, ◌-◌, ◌≤◌, ◌<◌}
@@ -15,8 +15,7 @@ use Rattle.scene.specs.declared.Face.{Face}
 use Rattle.scene.specs.declared.Refusal.{Refusal}
 use Rattle.scene.specs.declared.Refusal.TheVariants.{Opening}
 use Rattle.judge.specs.Judge.{refuse_unless}
-use Rattle.judge.specs.declared.Judged.{Judged}
-use Rattle.judge.specs.declared.Judged.TheVariants.{Accepted, Refused}
+use Rattle.judge.specs.Judge.{Judged}
 use Rattle.session.specs.Session.{scene, fresh, is_whole, vertex_fault, far_fault, turn_fault, changed_by, moved_of, far_moved_of}
 use Rattle.session.specs.Session.{reversed_face}
 use Rattle.session.specs.Session.{reversed_in, reversed_of}
@@ -40,7 +39,7 @@ pub record FaceTurned (s : List ℕ) (i : ℕ) (t : List ℕ) : Type 0 where
 
 module _ (s : Session) where
   -- the scene after a change that was not refused
-  changed_scene : (j : Judged) (b : List ℕ) → j ≡ Accepted → scene (changed_by j s b).session ≡ take (length (scene s)) b
+  changed_scene : (j : Judged) (b : List ℕ) → j ≡ Ok tt → scene (changed_by j s b).session ≡ take (length (scene s)) b
   unfolding fresh
   changed_scene j b q = ap (λ (j : Judged). scene (changed_by j s b).session) q
 
@@ -48,21 +47,21 @@ module _ (s : Session) where
   row_changed j v e r =
       rw e (record { long = row_length (scene s) j v; row = r; below = row_below (scene s) j v; above = row_above (scene s) j v })
 
-  pub vertex_changed : (p : ℕ) (v : Row) → vertex_fault (scene s) p v ≡ Accepted → RowChanged (scene s) p v (scene (moved_of s p v).session)
+  pub vertex_changed : (p : ℕ) (v : Row) → vertex_fault (scene s) p v ≡ Ok tt → RowChanged (scene s) p v (scene (moved_of s p v).session)
   unfolding moved_of
   vertex_changed p v q =
       let room = vertex_room s p v q in
       row_changed p v (changed_scene _ (row_put s.bytes p v) q ∙ row_in_law s p v room)
       (row_back (scene s) p v (row_fits (vertex_free (scene s) p v q).row) room)
 
-  pub far_changed : (v : Row) → far_fault (scene s) v ≡ Accepted → RowChanged (scene s) 0 v (scene (far_moved_of s v).session)
+  pub far_changed : (v : Row) → far_fault (scene s) v ≡ Ok tt → RowChanged (scene s) 0 v (scene (far_moved_of s v).session)
   unfolding far_moved_of
   far_changed v q =
       let room = far_room s v q in
       row_changed 0 v (changed_scene _ (row_put s.bytes 0 v) q ∙ row_in_law s 0 v room)
       (row_back (scene s) 0 v (row_fits (far_free (scene s) v q).row) room)
 
-  pub face_turned : (f : ℕ) → turn_fault (scene s) f ≡ Accepted → FaceTurned (scene s) (f - 1) (scene (reversed_of s f).session)
+  pub face_turned : (f : ℕ) → turn_fault (scene s) f ≡ Ok tt → FaceTurned (scene s) (f - 1) (scene (reversed_of s f).session)
   unfolding reversed_of
   face_turned f q =
       let i : ℕ = f - 1 in
@@ -79,16 +78,16 @@ module _ (s : Session) where
 
   -- ---- refused
 
-  pub vertex_refused : (p : ℕ) (v : Row) {r : Refusal} → vertex_fault (scene s) p v ≡ Refused r →
-      moved_of s p v ≡ record { answer = Refused r; session = s }
+  pub vertex_refused : (p : ℕ) (v : Row) {r : Refusal} → vertex_fault (scene s) p v ≡ Err r →
+      moved_of s p v ≡ record { answer = Err r; session = s }
   unfolding moved_of
   vertex_refused p v q = ap (λ (j : Judged). changed_by j s (row_put s.bytes p v)) q
 
-  pub far_refused : (v : Row) {r : Refusal} → far_fault (scene s) v ≡ Refused r → far_moved_of s v ≡ record { answer = Refused r; session = s }
+  pub far_refused : (v : Row) {r : Refusal} → far_fault (scene s) v ≡ Err r → far_moved_of s v ≡ record { answer = Err r; session = s }
   unfolding far_moved_of
   far_refused v q = ap (λ (j : Judged). changed_by j s (row_put s.bytes 0 v)) q
 
-  pub turn_refused : (f : ℕ) {r : Refusal} → turn_fault (scene s) f ≡ Refused r → reversed_of s f ≡ record { answer = Refused r; session = s }
+  pub turn_refused : (f : ℕ) {r : Refusal} → turn_fault (scene s) f ≡ Err r → reversed_of s f ≡ record { answer = Err r; session = s }
   unfolding reversed_of
   turn_refused f q = ap (λ (j : Judged). changed_by j s (reversed_in s.bytes (scene s) (f - 1))) q
 
@@ -97,14 +96,14 @@ module _ (s : Session) where
     unfolding is_whole
     not_whole = ne_eqb (length (scene s)) (length_of (scene s)) (λ q. omega (arith, q, h.sized, e.none))
 
-    pub empty_move : (p : ℕ) (v : Row) → moved_of s p v ≡ record { answer = Refused Opening; session = s }
+    pub empty_move : (p : ℕ) (v : Row) → moved_of s p v ≡ record { answer = Err Opening; session = s }
     unfolding vertex_fault refuse_unless
     empty_move p v = vertex_refused p v (rw not_whole)
 
-    pub empty_far : (v : Row) → far_moved_of s v ≡ record { answer = Refused Opening; session = s }
+    pub empty_far : (v : Row) → far_moved_of s v ≡ record { answer = Err Opening; session = s }
     unfolding far_fault refuse_unless
     empty_far v = far_refused v (rw not_whole)
 
-    pub empty_turn : (f : ℕ) → reversed_of s f ≡ record { answer = Refused Opening; session = s }
+    pub empty_turn : (f : ℕ) → reversed_of s f ≡ record { answer = Err Opening; session = s }
     unfolding turn_fault refuse_unless
     empty_turn f = turn_refused f (rw not_whole)

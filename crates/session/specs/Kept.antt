@@ -1,6 +1,6 @@
 -- What a session holds is kept by every operation and given by opening, so it stands after any of them, from any string of bytes.
 -- Assumes nothing.
-use Rattle.std.specs.Prelude.{◌≡◌, refl, ◌⊎◌, length, take, set, replicate}
+use Rattle.std.specs.Prelude.{◌≡◌, refl, ◌⊎◌, length, take, set, replicate, Ok, Err}
 use Rattle.std.proofs.Math.Path.{sym, ap}
 use Rattle.std.proofs.Common.{◌∙◌, inl, inr, arith}
 use mathlib.Core.List.{List, [], ◌∷◌, ◌++◌}
@@ -14,10 +14,8 @@ use Rattle.scene.specs.Written.{row_length, corners_length}
 use Rattle.scene.specs.declared.Row.{Row}
 use Rattle.scene.specs.declared.Face.{Face}
 use Rattle.judge.specs.Judge.{judged}
-use Rattle.judge.specs.declared.Judged.{Judged}
-use Rattle.judge.specs.declared.Judged.TheVariants.{Accepted, Refused}
+use Rattle.judge.specs.Judge.{Judged}
 use Rattle.questions.specs.Answers.{or_refuse, counted_of}
-use Rattle.questions.specs.declared.Counted.TheVariants as counted
 use Rattle.session.specs.Session.{scene, no_counts, counts_by, fresh, opened_by, opened, vertex_fault, far_fault}
 use Rattle.session.specs.Session.{turn_fault, changed_by, moved_of, far_moved_of, reversed_face, reversed_in, reversed_of}
 use Rattle.session.specs.Laws.{row_fits, vertex_free, far_free, turn_free}
@@ -33,8 +31,8 @@ pub record Empty (s : Session) : Type 0 where
 
 -- an accepted scene, and the counts that a fresh count of it gives
 pub record Full (s : Session) : Type 0 where
-  pub accepted : judged (scene s) ≡ Accepted
-  pub counted : counted_of (scene s) ≡ counted.Counts s.counts
+  pub accepted : judged (scene s) ≡ Ok tt
+  pub counted : counted_of (scene s) ≡ Ok s.counts
 
 pub record Holds (s : Session) : Type 0 where
   pub sized : s.len ≡ length (scene s)
@@ -60,14 +58,14 @@ after s (o ∷ os) = after (step s o).session os
 
 -- ---- a fresh count of an accepted scene
 
-counted_so : (s : List ℕ) → judged s ≡ Accepted → counted_of s ≡ counted.Counts (counts_by (counted_of s))
+counted_so : (s : List ℕ) → judged s ≡ Ok tt → counted_of s ≡ Ok (counts_by (counted_of s))
 unfolding counted_of or_refuse
 counted_so s h = rw h
 
-fresh_holds : (b : List ℕ) (n : ℕ) {s : List ℕ} → take n b ≡ s → n ≡ length s → judged s ≡ Accepted → Holds (fresh b n)
+fresh_holds : (b : List ℕ) (n : ℕ) {s : List ℕ} → take n b ≡ s → n ≡ length s → judged s ≡ Ok tt → Holds (fresh b n)
 unfolding fresh
 fresh_holds b n e l h =
-    let q : judged (take n b) ≡ Accepted = ap judged e ∙ h in
+    let q : judged (take n b) ≡ (Ok tt) = ap judged e ∙ h in
     record { sized = l ∙ ap length (sym e); state = inr (record { accepted = q; counted = counted_so (take n b) q }) }
 
 pub opened_holds : (s : List ℕ) → Holds (opened s).session
@@ -75,8 +73,8 @@ unfolding opened
 opened_holds s = go (judged s) refl
   where
     go : (j : Judged) → judged s ≡ j → Holds (opened_by j s).session
-    go Accepted h = fresh_holds (s ++ replicate (longest limits - length s) 0) (length s) (take-append_seam s _) refl h
-    go (Refused r) h = record { sized = refl; state = inl (record { none = refl; zeros = refl }) }
+    go (Ok _) h = fresh_holds (s ++ replicate (longest limits - length s) 0) (length s) (take-append_seam s _) refl h
+    go (Err r) h = record { sized = refl; state = inl (record { none = refl; zeros = refl }) }
 
 -- ---- the scene after a change, of bytes that have room
 
@@ -109,29 +107,29 @@ module _ (s : Session) where
       take_sets n (corner_bytes f) s.bytes (k + 2) (omega arith)
       ∙ ap (λ (l : List ℕ). sets l (k + 2) (corner_bytes f)) (take_again s.len s.bytes)
 
-  changed_holds : (j : Judged) (b : List ℕ) {t : List ℕ} → Holds s → (j ≡ Accepted → take (length (scene s)) b ≡ t) →
-      (j ≡ Accepted → length (scene s) ≡ length t) →
-      (j ≡ Accepted → judged t ≡ Accepted) → Holds (changed_by j s b).session
-  changed_holds Accepted b h e l q = fresh_holds b n (e refl) (l refl) (q refl)
-  changed_holds (Refused r) b h e l q = h
+  changed_holds : (j : Judged) (b : List ℕ) {t : List ℕ} → Holds s → (j ≡ Ok tt → take (length (scene s)) b ≡ t) →
+      (j ≡ Ok tt → length (scene s) ≡ length t) →
+      (j ≡ Ok tt → judged t ≡ Ok tt) → Holds (changed_by j s b).session
+  changed_holds (Ok _) b h e l q = fresh_holds b n (e refl) (l refl) (q refl)
+  changed_holds (Err r) b h e l q = h
 
   -- a session that holds a scene as long as its counts say is not the empty one
-  pub full : Holds s → length (scene s) ≡ length_of (scene s) → judged (scene s) ≡ Accepted
+  pub full : Holds s → length (scene s) ≡ length_of (scene s) → judged (scene s) ≡ Ok tt
   full h e = go h.state
     where
-      go : Empty s ⊎ Full s → judged (scene s) ≡ Accepted
+      go : Empty s ⊎ Full s → judged (scene s) ≡ Ok tt
       go (inl m) = absurd (omega (arith, h.sized, m.none))
       go (inr f) = f.accepted
 
   -- ---- each operation
 
-  pub vertex_room : (p : ℕ) (v : Row) → vertex_fault (scene s) p v ≡ Accepted → point_start p + 9 ≤ length (scene s)
+  pub vertex_room : (p : ℕ) (v : Row) → vertex_fault (scene s) p v ≡ Ok tt → point_start p + 9 ≤ length (scene s)
   vertex_room p v q = let f = vertex_free (scene s) p v q in omega (arith, f.whole, f.high)
 
-  pub far_room : (v : Row) → far_fault (scene s) v ≡ Accepted → point_start 0 + 9 ≤ length (scene s)
+  pub far_room : (v : Row) → far_fault (scene s) v ≡ Ok tt → point_start 0 + 9 ≤ length (scene s)
   far_room v q = omega (arith, (far_free (scene s) v q).whole)
 
-  pub face_room : (f : ℕ) → turn_fault (scene s) f ≡ Accepted → face_start (scene s) (f - 1) + 5 ≤ length (scene s)
+  pub face_room : (f : ℕ) → turn_fault (scene s) f ≡ Ok tt → face_start (scene s) (f - 1) + 5 ≤ length (scene s)
   face_room f q = let t = turn_free (scene s) f q in omega (arith, t.whole, t.low, t.high)
 
   pub moved_holds : (p : ℕ) (v : Row) → Holds s → Holds (moved_of s p v).session

@@ -1,6 +1,6 @@
 -- What the operations' definitions give where the faults are known, in the form in which a call's answer and a branch arrive.
 -- Assumes nothing.
-use Rattle.std.specs.Prelude.{◌≡◌, Bool, true, false, not, ℕ, zero, suc, ◌+◌, ◌-◌, ◌≤◌, nat_abs, length, take, drop, replicate}
+use Rattle.std.specs.Prelude.{◌≡◌, Bool, true, false, not, ℕ, zero, suc, ◌+◌, ◌-◌, ◌≤◌, nat_abs, length, take, drop, replicate, Ok, Err}
 use Rattle.std.proofs.Common.{sym, ◌∙◌, arith}
 use Rattle.std.proofs.Math.Path.{ap}
 use mathlib.Core.List.{List, ◌++◌}
@@ -12,8 +12,7 @@ use Rattle.scene.specs.declared.Row.{Row}
 use Rattle.scene.specs.declared.Refusal.{Refusal}
 use Rattle.judge.specs.Judge.{judged, refuse_unless}
 use Rattle.judge.specs.Tests.{accepts}
-use Rattle.judge.specs.declared.Judged.{Judged}
-use Rattle.judge.specs.declared.Judged.TheVariants.{Accepted, Refused}
+use Rattle.judge.specs.Judge.{Judged}
 use Rattle.rules.specs.Rules.{Zeros}
 use Rattle.rules.specs.TableRules.{RowOk}
 use Rattle.rules.proofs.Accepted.{accepted}
@@ -31,7 +30,7 @@ pub record Whole (s : Session) (n : ℕ) : Type 0 where
 
 -- ---- what it takes to be free of faults
 
-pub row_free : (least p : ℕ) (v : Row) → row_fault least p (sizes_of v) ≡ Accepted → RowOk least limits v
+pub row_free : (least p : ℕ) (v : Row) → row_fault least p (sizes_of v) ≡ Ok tt → RowOk least limits v
 unfolding row_fault
 row_free least p v e =
     let c = simp accepts at e in record { coordinates = record { x = c.0; y = c.1.0; z = c.1.1.0 }; weight = c.1.1.1.0 }
@@ -47,7 +46,7 @@ pub record VertexFree (s : List ℕ) (p : ℕ) (v : Row) : Type 0 where
   pub high : p ≤ verts s
   pub row : RowOk 1 limits v
 
-pub vertex_free : (s : List ℕ) (p : ℕ) (v : Row) → vertex_fault s p v ≡ Accepted → VertexFree s p v
+pub vertex_free : (s : List ℕ) (p : ℕ) (v : Row) → vertex_fault s p v ≡ Ok tt → VertexFree s p v
 unfolding vertex_fault is_whole
 vertex_free s p v e =
     let c = simp accepts at e in record { whole = c.0; low = c.1.0.0; high = c.1.0.1; row = row_free 1 p v c.1.1 }
@@ -64,7 +63,7 @@ zeros_nowhere v z = rw (ap nat_abs z.x, ap nat_abs z.y, ap nat_abs z.z, ap nat_a
 not_both : {b : Bool} → b ≡ true → not b ≡ true → ⊥
 not_both e f = let z : ◌≡◌ {A = ℕ} 0 1 = cc in omega arith
 
-pub far_free : (s : List ℕ) (v : Row) → far_fault s v ≡ Accepted → FarFree s v
+pub far_free : (s : List ℕ) (v : Row) → far_fault s v ≡ Ok tt → FarFree s v
 unfolding far_fault is_whole
 far_free s v e =
     let c = simp accepts at e in
@@ -75,20 +74,20 @@ pub record TurnFree (s : List ℕ) (f : ℕ) : Type 0 where
   pub low : 1 ≤ f
   pub high : f ≤ faces s
 
-pub turn_free : (s : List ℕ) (f : ℕ) → turn_fault s f ≡ Accepted → TurnFree s f
+pub turn_free : (s : List ℕ) (f : ℕ) → turn_fault s f ≡ Ok tt → TurnFree s f
 unfolding turn_fault is_whole
 turn_free s f e = let c = simp accepts at e in record { whole = c.0; low = c.1.0.0; high = c.1.0.1 }
 
 -- ---- what is handed back
 
 module _ (s : Session) (b : List ℕ) {o j : Judged} (e : o ≡ j) where
-  pub changed_not : {r : Refusal} → o ≡ Refused r → ◌≡◌ {A = Changed} (record { answer = Refused r; session = s }) (changed_by j s b)
+  pub changed_not : {r : Refusal} → o ≡ Err r → ◌≡◌ {A = Changed} (record { answer = Err r; session = s }) (changed_by j s b)
   changed_not q = ap (λ (k : Judged). changed_by k s b) (sym q ∙ e)
 
-  pub changed_so : {t : Session} {n : ℕ} → o ≡ Accepted → n ≡ length (scene s) → t ≡ fresh b n →
-      ◌≡◌ {A = Changed} (record { answer = Accepted; session = t }) (changed_by j s b)
+  pub changed_so : {t : Session} {n : ℕ} → o ≡ Ok tt → n ≡ length (scene s) → t ≡ fresh b n →
+      ◌≡◌ {A = Changed} (record { answer = Ok tt; session = t }) (changed_by j s b)
   changed_so q n p =
-      ap (λ (t : Session). record { answer = Accepted; session = t }) (p ∙ ap (fresh b) n)
+      ap (λ (t : Session). record { answer = Ok tt; session = t }) (p ∙ ap (fresh b) n)
       ∙ ap (λ (k : Judged). changed_by k s b) (sym q ∙ e)
 
 drop_zeros : (k n : ℕ) → drop k (replicate {A = ℕ} n 0) ≡ replicate {A = ℕ} (n - k) 0
@@ -97,34 +96,34 @@ drop_zeros (suc k) zero = rw zero-sub
 drop_zeros (suc k) (suc n) = rw suc-sub-suc (drop_zeros k n)
 
 module _ (s : List ℕ) {o : Judged} (e : o ≡ judged s) where
-  pub opened_not : {r : Refusal} {t : Session} → o ≡ Refused r → t ≡ empty →
-      ◌≡◌ {A = Changed} (record { answer = Refused r; session = t }) (opened s)
+  pub opened_not : {r : Refusal} {t : Session} → o ≡ Err r → t ≡ empty →
+      ◌≡◌ {A = Changed} (record { answer = Err r; session = t }) (opened s)
   unfolding opened
-  opened_not {r} q p = ap (λ (t : Session). record { answer = Refused r; session = t }) p ∙ ap (λ (k : Judged). opened_by k s) (sym q ∙ e)
+  opened_not {r} q p = ap (λ (t : Session). record { answer = Err r; session = t }) p ∙ ap (λ (k : Judged). opened_by k s) (sym q ∙ e)
 
-  pub opened_so : {b : List ℕ} {t : Session} → o ≡ Accepted → b ≡ s ++ drop (length s) (replicate (longest limits) 0) →
+  pub opened_so : {b : List ℕ} {t : Session} → o ≡ Ok tt → b ≡ s ++ drop (length s) (replicate (longest limits) 0) →
       t ≡ fresh b (length s) →
-      ◌≡◌ {A = Changed} (record { answer = Accepted; session = t }) (opened s)
+      ◌≡◌ {A = Changed} (record { answer = Ok tt; session = t }) (opened s)
   unfolding opened
   opened_so q h p =
-      ap (λ (t : Session). record { answer = Accepted; session = t })
+      ap (λ (t : Session). record { answer = Ok tt; session = t })
       (p ∙ ap (λ (b : List ℕ). fresh b (length s)) (h ∙ ap (λ (z : List ℕ). s ++ z) (drop_zeros (length s) (longest limits))))
       ∙ ap (λ (k : Judged). opened_by k s) (sym q ∙ e)
 
 -- ---- a test that holds refuses
 
-pub refused_where : {o b : Bool} (f : ℕ → Refusal) {p q : ℕ} → o ≡ b → o ≡ true → p ≡ q → Refused (f p) ≡ refuse_unless (not b) (f q)
-    Accepted
+pub refused_where : {o b : Bool} (f : ℕ → Refusal) {p q : ℕ} → o ≡ b → o ≡ true → p ≡ q → Err (f p) ≡ refuse_unless (not b) (f q)
+    (Ok tt)
 unfolding refuse_unless
-refused_where f {q = q} e t h = ap (λ (p : ℕ). Refused (f p)) h ∙ ap (λ (b : Bool). refuse_unless (not b) (f q) Accepted) (sym t ∙ e)
+refused_where f {q = q} e t h = ap (λ (p : ℕ). Err (f p)) h ∙ ap (λ (b : Bool). refuse_unless (not b) (f q) (Ok tt)) (sym t ∙ e)
 
-pub passed_where : {o b : Bool} (r : Refusal) → o ≡ b → o ≡ false → Accepted ≡ refuse_unless (not b) r Accepted
+pub passed_where : {o b : Bool} (r : Refusal) → o ≡ b → o ≡ false → (Ok tt) ≡ refuse_unless (not b) r (Ok tt)
 unfolding refuse_unless
-passed_where r e t = ap (λ (b : Bool). refuse_unless (not b) r Accepted) (sym t ∙ e)
+passed_where r e t = ap (λ (b : Bool). refuse_unless (not b) r (Ok tt)) (sym t ∙ e)
 
 -- ---- the longest scene
 
-pub accepted_short : (s : List ℕ) → judged s ≡ Accepted → length s ≤ longest limits
+pub accepted_short : (s : List ℕ) → judged s ≡ Ok tt → length s ≤ longest limits
 accepted_short s q =
     let h = ((accepted limits s).0 q).header in
     let k = h.counts in

@@ -1,6 +1,6 @@
 -- An accepted scene stays accepted when the row of one point changes within its rules: the marks, the faces and the other rows are as they
 -- were. Assumes nothing.
-use Rattle.std.specs.Prelude.{◌≡◌, refl, ◌≢◌, List, ℕ, zero, suc, ◌+◌, ◌≤◌, ◌<◌}
+use Rattle.std.specs.Prelude.{◌≡◌, refl, ◌≢◌, List, ℕ, zero, suc, ◌+◌, ◌≤◌, ◌<◌, Ok}
 use Rattle.std.proofs.Common.{arith}
 use Rattle.std.proofs.Math.Decide.{dec_lt, ℕ_discrete}
 use Rattle.scene.specs.Limits.{limits, least_weight}
@@ -11,7 +11,6 @@ use Rattle.scene.specs.Write.{RowFits, row_put}
 use Rattle.scene.specs.Written.{row_length, row_below, row_above, row_back}
 use Rattle.scene.specs.declared.Row.{Row}
 use Rattle.judge.specs.Judge.{judged}
-use Rattle.judge.specs.declared.Judged.TheVariants.{Accepted}
 use Rattle.rules.specs.Rules.{Zeros}
 use Rattle.rules.specs.TableRules.{RowOk}
 use Rattle.rules.proofs.Accepted.{accepted}
@@ -47,7 +46,7 @@ module _ (s : List ℕ) (j : ℕ) (v : Row) where
 
   -- ---- the rows
 
-  module _ (here : j ≤ verts s) (q : judged s ≡ Accepted) (row : RowOk (least_weight j) limits v) (fits : RowFits v) where
+  module _ (here : j ≤ verts s) (q : judged s ≡ Ok tt) (row : RowOk (least_weight j) limits v) (fits : RowFits v) where
     here_row : row_at (row_put s j v) j ≡ v
     here_row = row_back s j v fits (let e = ((accepted limits s).0 q).header.long in omega arith)
 
@@ -60,18 +59,18 @@ module _ (s : List ℕ) (j : ℕ) (v : Row) where
             let r = ((accepted limits s).0 q).records (i + 1) (omega arith) (omega arith) in
             rw (row_frame s' s i (other_same i d)) (record { coordinates = r.coordinates i b refl; weight = r.weight i b refl })
 
-    moved : ¬ Zeros (row_at (row_put s j v) 0) → judged (row_put s j v) ≡ Accepted
+    moved : ¬ Zeros (row_at (row_put s j v) 0) → judged (row_put s j v) ≡ Ok tt
     moved somewhere = still_accepted s s' (rerowed here) row_ok somewhere q
 
 -- ---- a vertex, and the far point
 
-pub vertex_accepted : (s : List ℕ) (p : ℕ) (v : Row) → RowFits v → judged s ≡ Accepted → 1 ≤ p → p ≤ verts s → RowOk 1 limits v →
-    judged (row_put s p v) ≡ Accepted
+pub vertex_accepted : (s : List ℕ) (p : ℕ) (v : Row) → RowFits v → judged s ≡ Ok tt → 1 ≤ p → p ≤ verts s → RowOk 1 limits v →
+    judged (row_put s p v) ≡ Ok tt
 vertex_accepted s zero v fits q a b ok = absurd (omega arith)
 vertex_accepted s (suc p) v fits q a b ok =
     let far : row_at (row_put s (suc p) v) 0 ≡ row_at s 0 = row_frame (row_put s (suc p) v) s 0 (other_same s (suc p) v 0 (omega arith)) in
     moved s (suc p) v b q ok fits (rw far ((by_tables limits s).0 ((accepted limits s).0 q)).1.somewhere)
 
-pub far_accepted : (s : List ℕ) (v : Row) → RowFits v → judged s ≡ Accepted → RowOk 0 limits v → ¬ Zeros v →
-    judged (row_put s 0 v) ≡ Accepted
+pub far_accepted : (s : List ℕ) (v : Row) → RowFits v → judged s ≡ Ok tt → RowOk 0 limits v → ¬ Zeros v →
+    judged (row_put s 0 v) ≡ Ok tt
 far_accepted s v fits q ok z = moved s 0 v (omega arith) q ok fits (rw (here_row s 0 v (omega arith) q ok fits) z)

@@ -1,14 +1,15 @@
 -- The same changes to the bytes of a scene in place: the scene's own refusals first, then the change's. Assumes nothing.
-use Rattle.std.specs.Prelude.{◌≡◌, List, ℕ, ◌+◌, ◌-◌, ◌≤◌, ◌<◌, length}
+use Rattle.std.specs.Prelude.{◌≡◌, List, ℕ, ◌+◌, ◌-◌, ◌≤◌, ◌<◌, length, Ok, Err}
 use Rattle.std.proofs.Common.{sym, ap, ◌∙◌, arith}
+use Rattle.std.specs.Result.{IsErrAnd}
+use Rattle.laws.specs.Exits.{exits}
 use Rattle.scene.specs.Records.{point_start, face_start}
 use Rattle.scene.specs.Write.{RowFits, row_put}
 use Rattle.scene.specs.declared.Row.{Row}
 use Rattle.scene.specs.declared.Refusal.{Refusal}
 use Rattle.judge.specs.Judge.{judged, and_then}
 use Rattle.judge.specs.Laws.{then_first, then_rest}
-use Rattle.judge.specs.declared.Judged.{Judged}
-use Rattle.judge.specs.declared.Judged.TheVariants.{Accepted, Refused}
+use Rattle.judge.specs.Judge.{Judged}
 use Rattle.session.specs.Session.{vertex_fault, far_fault, turn_fault, reversed_in}
 use Rattle.session.specs.Laws.{row_fits, vertex_free, far_free, turn_free, accepted_short}
 use Rattle.session.specs.Moved.{vertex_accepted, far_accepted}
@@ -25,8 +26,8 @@ reverse_fault s f = and_then (judged s) (turn_fault s f)
 
 -- t where nothing is at fault, else what stood there
 abbrev pub kept_or : Judged → List ℕ → List ℕ → List ℕ
-kept_or Accepted s t = t
-kept_or (Refused r) s t = s
+kept_or (Ok _) s t = t
+kept_or (Err r) s t = s
 
 -- s is what stood there, s' what stands there afterwards
 pub record IsChanged (fault : Judged) (s t s' : List ℕ) (r : Judged) : Type 0 where
@@ -34,10 +35,10 @@ pub record IsChanged (fault : Judged) (s t s' : List ℕ) (r : Judged) : Type 0 
   pub held : s' ≡ kept_or fault s t
 
 module _ (s t : List ℕ) {o j : Judged} (e : o ≡ j) where
-  pub kept_so : {r : Refusal} → o ≡ Refused r → IsChanged j s t s (Refused r)
-  kept_so q = record { answer = sym q ∙ e; held = ap (λ (j : Judged). kept_or j s t) (sym q ∙ e) }
+  pub kept_so : {r : Refusal} {d : Judged} → o ≡ Err r → IsErrAnd d (λ y. y ≡ r) → IsChanged j s t s d
+  kept_so q h = record { answer = exits h (sym q ∙ e); held = ap (λ (j : Judged). kept_or j s t) (sym q ∙ e) }
 
-  pub put_so : {l : List ℕ} → o ≡ Accepted → l ≡ t → IsChanged j s t l Accepted
+  pub put_so : {l : List ℕ} → o ≡ Ok tt → l ≡ t → IsChanged j s t l (Ok tt)
   put_so q h = record { answer = sym q ∙ e; held = h ∙ ap (λ (j : Judged). kept_or j s t) (sym q ∙ e) }
 
 -- ---- what a change in place takes, and that it leaves an accepted scene
@@ -45,9 +46,9 @@ module _ (s t : List ℕ) {o j : Judged} (e : o ≡ j) where
 pub record RowRoom (s : List ℕ) (j : ℕ) (v : Row) : Type 0 where
   pub fits : RowFits v
   pub room : point_start j + 9 ≤ length s
-  pub accepted : judged (row_put s j v) ≡ Accepted
+  pub accepted : judged (row_put s j v) ≡ Ok tt
 
-pub move_room : (s : List ℕ) (p : ℕ) (v : Row) → move_fault s p v ≡ Accepted → RowRoom s p v
+pub move_room : (s : List ℕ) (p : ℕ) (v : Row) → move_fault s p v ≡ Ok tt → RowRoom s p v
 unfolding move_fault
 move_room s p v e =
     let q = then_first _ _ e in
@@ -58,7 +59,7 @@ move_room s p v e =
       accepted = vertex_accepted s p v (row_fits f.row) q f.low f.high f.row;
     }
 
-pub far_room : (s : List ℕ) (v : Row) → move_far_fault s v ≡ Accepted → RowRoom s 0 v
+pub far_room : (s : List ℕ) (v : Row) → move_far_fault s v ≡ Ok tt → RowRoom s 0 v
 unfolding move_far_fault
 far_room s v e =
     let q = then_first _ _ e in
@@ -73,9 +74,9 @@ pub record FaceRoom (s : List ℕ) (f : ℕ) : Type 0 where
   pub low : 1 ≤ f
   pub high : f < 1024
   pub room : face_start s (f - 1) + 5 ≤ length s
-  pub accepted : judged (reversed_in s s (f - 1)) ≡ Accepted
+  pub accepted : judged (reversed_in s s (f - 1)) ≡ Ok tt
 
-pub face_room : (s : List ℕ) (f : ℕ) → reverse_fault s f ≡ Accepted → FaceRoom s f
+pub face_room : (s : List ℕ) (f : ℕ) → reverse_fault s f ≡ Ok tt → FaceRoom s f
 unfolding reverse_fault
 face_room s f e =
     let q = then_first _ _ e in

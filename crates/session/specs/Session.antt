@@ -1,5 +1,5 @@
 -- What a session holds, and what each of its operations answers and hands back. Assumes nothing.
-use Rattle.std.specs.Prelude.{Bool, not, ◌&&◌, List, ◌++◌, ℕ, ◌+◌, ◌-◌, leb, eqb, nat_abs, length, take, replicate}
+use Rattle.std.specs.Prelude.{Bool, not, ◌&&◌, List, ◌++◌, ℕ, ◌+◌, ◌-◌, leb, eqb, nat_abs, length, take, replicate, Ok, Err}
 use Rattle.scene.specs.Limits.{limits, longest, within}
 use Rattle.scene.specs.Records.{verts, faces, length_of, face_start}
 use Rattle.scene.specs.Tables.{face_at}
@@ -8,12 +8,10 @@ use Rattle.scene.specs.declared.Row.{Row}
 use Rattle.scene.specs.declared.Face.{Face}
 use Rattle.scene.specs.declared.Refusal.TheVariants.{Opening, Coordinate, Weight, NoSuchNumber, FarAllZero}
 use Rattle.judge.specs.Judge.{judged, refuse_unless, and_then}
-use Rattle.judge.specs.declared.Judged.{Judged}
-use Rattle.judge.specs.declared.Judged.TheVariants.{Accepted, Refused}
+use Rattle.judge.specs.Judge.{Judged}
 use Rattle.questions.specs.Answers.{counted_of}
 use Rattle.questions.specs.declared.Counts.{Counts}
-use Rattle.questions.specs.declared.Counted.{Counted}
-use Rattle.questions.specs.declared.Counted.TheVariants as counted
+use Rattle.questions.specs.Types.{Counted}
 use Rattle.session.specs.declared.faults.Sizes.{Sizes}
 use Rattle.session.specs.declared.Session.{Session}
 use Rattle.session.specs.declared.Changed.{Changed}
@@ -28,8 +26,8 @@ abbrev pub no_counts : Counts
 no_counts = record { pairs = 0; a_in_b = 0; b_in_a = 0 }
 
 abbrev pub counts_by : Counted → Counts
-counts_by (counted.Counts c) = c
-counts_by (counted.Refused r) = no_counts
+counts_by (Ok c) = c
+counts_by (Err r) = no_counts
 
 -- the session of the scene that the first n of b are, freshly counted
 unfoldable pub fresh : List ℕ → ℕ → Session
@@ -41,8 +39,8 @@ empty = record { bytes = replicate (longest limits) 0; len = 0; counts = no_coun
 -- ---- open: the scene's own refusals
 
 abbrev pub opened_by : Judged → List ℕ → Changed
-opened_by Accepted s = record { answer = Accepted; session = fresh (s ++ replicate (longest limits - length s) 0) (length s) }
-opened_by (Refused r) s = record { answer = Refused r; session = empty }
+opened_by (Ok _) s = record { answer = Ok tt; session = fresh (s ++ replicate (longest limits - length s) 0) (length s) }
+opened_by (Err r) s = record { answer = Err r; session = empty }
 
 unfoldable pub opened : List ℕ → Changed
 opened s = opened_by (judged s) s
@@ -62,7 +60,7 @@ row_fault least p m =
     refuse_unless (leb m.x limits.most_coordinate) (Coordinate p)
     (refuse_unless (leb m.y limits.most_coordinate) (Coordinate p)
     (refuse_unless (leb m.z limits.most_coordinate) (Coordinate p)
-    (refuse_unless (within least limits.most_weight m.w) (Weight p) Accepted)))
+    (refuse_unless (within least limits.most_weight m.w) (Weight p) (Ok tt))))
 
 unfoldable pub is_nowhere : Sizes → Bool
 is_nowhere m = eqb m.x 0 && (eqb m.y 0 && (eqb m.z 0 && eqb m.w 0))
@@ -74,16 +72,16 @@ vertex_fault s p v = refuse_unless (is_whole s) Opening (refuse_unless (within 1
 unfoldable pub far_fault : List ℕ → Row → Judged
 far_fault s v =
     refuse_unless (is_whole s) Opening
-    (and_then (row_fault 0 (verts s + 1) (sizes_of v)) (refuse_unless (not (is_nowhere (sizes_of v))) (FarAllZero (verts s + 1)) Accepted))
+    (and_then (row_fault 0 (verts s + 1) (sizes_of v)) (refuse_unless (not (is_nowhere (sizes_of v))) (FarAllZero (verts s + 1)) (Ok tt)))
 
 unfoldable pub turn_fault : List ℕ → ℕ → Judged
-turn_fault s f = refuse_unless (is_whole s) Opening (refuse_unless (within 1 (faces s) f) NoSuchNumber Accepted)
+turn_fault s f = refuse_unless (is_whole s) Opening (refuse_unless (within 1 (faces s) f) NoSuchNumber (Ok tt))
 
 -- ---- move a vertex, move the far point, reverse a face: the session with b for its bytes, or as it was
 
 abbrev pub changed_by : Judged → Session → List ℕ → Changed
-changed_by Accepted s b = record { answer = Accepted; session = fresh b (length (scene s)) }
-changed_by (Refused r) s b = record { answer = Refused r; session = s }
+changed_by (Ok _) s b = record { answer = Ok tt; session = fresh b (length (scene s)) }
+changed_by (Err r) s b = record { answer = Err r; session = s }
 
 unfoldable pub moved_of : Session → ℕ → Row → Changed
 moved_of s p v = changed_by (vertex_fault (scene s) p v) s (row_put s.bytes p v)

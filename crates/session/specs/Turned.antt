@@ -1,6 +1,6 @@
 -- An accepted scene stays accepted when the first and third corners of a face are swapped: it has the same corners, and the same edges.
 -- Assumes nothing.
-use Rattle.std.specs.Prelude.{◌≡◌, refl, ◌⊎◌, ◌↔◌, ◌≢◌, List, ℕ, zero, suc, ◌+◌, ◌*◌, ◌≤◌, ◌<◌, length}
+use Rattle.std.specs.Prelude.{◌≡◌, refl, ◌⊎◌, ◌↔◌, ◌≢◌, List, ℕ, zero, suc, ◌+◌, ◌*◌, ◌≤◌, ◌<◌, length, Ok}
 use Rattle.std.proofs.Common.{sym, ap, ap₂, ◌∙◌, inl, inr, arith}
 use Rattle.std.proofs.Math.Decide.{dec_lt, ℕ_discrete}
 use Rattle.laws.specs.Lists.{Each, Some, Number, run, length_run, run_each, each_run, run_same}
@@ -12,7 +12,6 @@ use Rattle.scene.specs.Bytes.{byte_at, two_at}
 use Rattle.scene.specs.Written.{corners_length, corners_below, corners_above, corners_back}
 use Rattle.scene.specs.declared.Face.{Face}
 use Rattle.judge.specs.Judge.{judged}
-use Rattle.judge.specs.declared.Judged.TheVariants.{Accepted}
 use Rattle.rules.specs.TableRules.{TableOk, TablesOk, Marked}
 use Rattle.rules.proofs.Accepted.{accepted}
 use Rattle.rules.proofs.Bridge.{by_tables}
@@ -182,7 +181,7 @@ module _ (s : List ℕ) (i : ℕ) where
           somewhere = rw (row_same 0 (omega arith)) t.somewhere;
         }
 
-    pub turned_accepted : judged s ≡ Accepted → judged (reversed_in s s i) ≡ Accepted
+    pub turned_accepted : judged s ≡ Ok tt → judged (reversed_in s s i) ≡ Ok tt
     turned_accepted q =
         let m = (by_tables limits s).0 ((accepted limits s).0 q) in
         (accepted limits s').1 ((by_tables limits s').1 (marked_same m.0, tables_same m.1))

@@ -1,8 +1,7 @@
 // Why a scene that is held is not to be changed. Only the record concerned is judged, since the others stood.
-ghost use Rattle.std.specs.Prelude.{◌≡◌, ◌<◌, leb, eqb, nat_abs};
+ghost use Rattle.std.specs.Prelude.{◌≡◌, ◌<◌, leb, eqb};
 ghost use Rattle.session.specs.Session.{sizes_of, is_whole, is_nowhere, row_fault, vertex_fault, far_fault, turn_fault};
 
-use judge::Judged;
 use scene::{Refusal, Row, Scene, is_within, offsets};
 
 // The sizes of a row's four numbers.
@@ -14,24 +13,14 @@ pub struct Sizes {
     pub w: usize,
 }
 
-fn size(v: i64) -> usize
-    ensures { result ≡ nat_abs v }
-{
-    if v < 0 {
-        ((-1 - v) as usize) + 1
-    } else {
-        v as usize
-    }
-}
-
 fn sizes_of(v: Row) -> Sizes
     ensures { result ≡ sizes_of v }
 {
     Sizes {
-        x: size(v.x),
-        y: size(v.y),
-        z: size(v.z),
-        w: size(v.w),
+        x: v.x.unsigned_abs() as usize,
+        y: v.y.unsigned_abs() as usize,
+        z: v.z.unsigned_abs() as usize,
+        w: v.w.unsigned_abs() as usize,
     }
 }
 
@@ -42,22 +31,22 @@ pub fn at_most(n: usize, most: usize) -> bool
 }
 
 // Refusals 5 and 6 of point p.
-fn row_fault(least: usize, p: usize, m: Sizes) -> Judged
+fn row_fault(least: usize, p: usize, m: Sizes) -> Result<(), Refusal>
     ensures { result ≡ row_fault least p m }
 {
     if !at_most(m.x, Scene::MOST_COORDINATE) {
-        return Judged::Refused(Refusal::Coordinate(p));
+        return Err(Refusal::Coordinate(p));
     }
     if !at_most(m.y, Scene::MOST_COORDINATE) {
-        return Judged::Refused(Refusal::Coordinate(p));
+        return Err(Refusal::Coordinate(p));
     }
     if !at_most(m.z, Scene::MOST_COORDINATE) {
-        return Judged::Refused(Refusal::Coordinate(p));
+        return Err(Refusal::Coordinate(p));
     }
     if !is_within(least, Scene::MOST_WEIGHT, m.w) {
-        return Judged::Refused(Refusal::Weight(p));
+        return Err(Refusal::Weight(p));
     }
-    Judged::Accepted
+    Ok(())
 }
 
 fn is_zero(n: usize) -> bool
@@ -89,43 +78,41 @@ pub fn is_whole(s: &[u8]) -> bool
     s.len() == offsets::length_of(s)
 }
 
-pub fn vertex_fault(s: &[u8], p: usize, v: Row) -> Judged
+pub fn vertex_fault(s: &[u8], p: usize, v: Row) -> Result<(), Refusal>
     ensures { result ≡ vertex_fault s.now p v }
 {
     if !is_whole(s) {
-        return Judged::Refused(Refusal::Opening);
+        return Err(Refusal::Opening);
     }
     if !is_within(1, offsets::vertices(s), p) {
-        return Judged::Refused(Refusal::NoSuchNumber);
+        return Err(Refusal::NoSuchNumber);
     }
     row_fault(1, p, sizes_of(v))
 }
 
-pub fn far_fault(s: &[u8], v: Row) -> Judged
+pub fn far_fault(s: &[u8], v: Row) -> Result<(), Refusal>
     ensures { result ≡ far_fault s.now v }
 {
     if !is_whole(s) {
-        return Judged::Refused(Refusal::Opening);
+        return Err(Refusal::Opening);
     }
     let p = offsets::vertices(s) + 1;
     let m = sizes_of(v);
-    if let Judged::Refused(r) = row_fault(0, p, m) {
-        return Judged::Refused(r);
-    }
+    row_fault(0, p, m)?;
     if is_nowhere(m) {
-        return Judged::Refused(Refusal::FarAllZero(p));
+        return Err(Refusal::FarAllZero(p));
     }
-    Judged::Accepted
+    Ok(())
 }
 
-pub fn turn_fault(s: &[u8], f: usize) -> Judged
+pub fn turn_fault(s: &[u8], f: usize) -> Result<(), Refusal>
     ensures { result ≡ turn_fault s.now f }
 {
     if !is_whole(s) {
-        return Judged::Refused(Refusal::Opening);
+        return Err(Refusal::Opening);
     }
     if !is_within(1, offsets::faces(s), f) {
-        return Judged::Refused(Refusal::NoSuchNumber);
+        return Err(Refusal::NoSuchNumber);
     }
-    Judged::Accepted
+    Ok(())
 }

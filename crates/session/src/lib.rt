@@ -10,13 +10,12 @@ ghost use Rattle.questions.specs.Answers.{counted_of};
 ghost use Rattle.session.specs.Session.{counts_by, empty, fresh, reversed_face, reversed_in, opened, moved_of, far_moved_of, reversed_of};
 ghost use Rattle.session.specs.Laws.{Whole};
 
-use judge::Judged;
 use kernel::counts::count;
 use pierce_engine::Engine;
-use questions::{Counted, Counts};
-use scene::read::byte;
+use questions::Counts;
+use scene::read::face_at;
 use scene::write::copy;
-use scene::{Face, Row, Scene, offsets, write};
+use scene::{Face, Refusal, Row, Scene, offsets, write};
 
 pub mod faults;
 pub mod place;
@@ -34,7 +33,7 @@ pub struct Session {
 // An operation's answer, and the session after it.
 #[derive(Clone, Copy)]
 pub struct Changed {
-    pub answer: Judged,
+    pub answer: Result<(), Refusal>,
     pub session: Session,
 }
 
@@ -54,8 +53,8 @@ fn counts_of(s: &[u8]) -> Counts
 {
     let c = count(Engine::Plain, s);
     match c {
-        Counted::Counts(n) => n,
-        Counted::Refused(_) => Counts {
+        Ok(n) => n,
+        Err(_) => Counts {
             pairs: 0,
             a_in_b: 0,
             b_in_a: 0,
@@ -93,16 +92,16 @@ fn empty() -> Session
 pub fn open(s: &[u8]) -> Changed
     ensures { result ≡ opened s.now }
 {
-    if let Judged::Refused(r) = judge::judge(s) {
+    if let Err(r) = judge::judge(s) {
         return Changed {
-            answer: Judged::Refused(r),
+            answer: Err(r),
             session: empty(),
         };
     }
     let mut b = [0u8; Scene::LONGEST];
     copy(s, &mut b);
     Changed {
-        answer: Judged::Accepted,
+        answer: Ok(()),
         session: fresh(b, s.len()),
     }
 }
@@ -122,11 +121,11 @@ fn reversed_face(s: &[u8], i: usize) -> Face
     requires { i < 1024 }
     ensures { (result ≡ reversed_face (face_at s.now i)) × FaceFits result }
 {
-    let at = offsets::face_start(s, i);
+    let f = face_at(s, i);
     Face {
-        p: byte(s, at + 4),
-        q: byte(s, at + 3),
-        r: byte(s, at + 2),
+        p: f.r,
+        q: f.q,
+        r: f.p,
     }
 }
 
@@ -151,12 +150,12 @@ impl Session {
         let b = self.bytes;
         let j = faults::vertex_fault(&b[..n], p, v);
         match j {
-            Judged::Refused(r) => Changed {
-                answer: Judged::Refused(r),
+            Err(r) => Changed {
+                answer: Err(r),
                 session: self,
             },
-            Judged::Accepted => Changed {
-                answer: Judged::Accepted,
+            Ok(()) => Changed {
+                answer: Ok(()),
                 session: with_row(b, n, p, v),
             },
         }
@@ -170,12 +169,12 @@ impl Session {
         let b = self.bytes;
         let j = faults::far_fault(&b[..n], v);
         match j {
-            Judged::Refused(r) => Changed {
-                answer: Judged::Refused(r),
+            Err(r) => Changed {
+                answer: Err(r),
                 session: self,
             },
-            Judged::Accepted => Changed {
-                answer: Judged::Accepted,
+            Ok(()) => Changed {
+                answer: Ok(()),
                 session: with_row(b, n, 0, v),
             },
         }
@@ -189,12 +188,12 @@ impl Session {
         let b = self.bytes;
         let j = faults::turn_fault(&b[..n], f);
         match j {
-            Judged::Refused(r) => Changed {
-                answer: Judged::Refused(r),
+            Err(r) => Changed {
+                answer: Err(r),
                 session: self,
             },
-            Judged::Accepted => Changed {
-                answer: Judged::Accepted,
+            Ok(()) => Changed {
+                answer: Ok(()),
                 session: with_face(b, n, f - 1),
             },
         }

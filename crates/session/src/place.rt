@@ -5,74 +5,52 @@ ghost use Rattle.session.specs.Session.{reversed_in};
 ghost use Rattle.session.specs.Place.{move_fault, move_far_fault, reverse_fault, IsChanged};
 
 use crate::{faults, reversed_face};
-use judge::Judged;
-use scene::{Row, offsets, write};
+use scene::{Refusal, Row, offsets, write};
 
-fn move_fault(s: &[u8], p: usize, v: Row) -> Judged
+fn move_fault(s: &[u8], p: usize, v: Row) -> Result<(), Refusal>
     ensures { result ≡ move_fault s.now p v }
 {
-    if let Judged::Refused(r) = judge::judge(s) {
-        return Judged::Refused(r);
-    }
+    judge::judge(s)?;
     faults::vertex_fault(s, p, v)
 }
 
-fn move_far_fault(s: &[u8], v: Row) -> Judged
+fn move_far_fault(s: &[u8], v: Row) -> Result<(), Refusal>
     ensures { result ≡ move_far_fault s.now v }
 {
-    if let Judged::Refused(r) = judge::judge(s) {
-        return Judged::Refused(r);
-    }
+    judge::judge(s)?;
     faults::far_fault(s, v)
 }
 
-fn reverse_fault(s: &[u8], f: usize) -> Judged
+fn reverse_fault(s: &[u8], f: usize) -> Result<(), Refusal>
     ensures { result ≡ reverse_fault s.now f }
 {
-    if let Judged::Refused(r) = judge::judge(s) {
-        return Judged::Refused(r);
-    }
+    judge::judge(s)?;
     faults::turn_fault(s, f)
 }
 
-pub fn move_vertex(s: &mut [u8], p: usize, v: Row) -> Judged
+pub fn move_vertex(s: &mut [u8], p: usize, v: Row) -> Result<(), Refusal>
     ensures { IsChanged (move_fault s.old p v) s.old (row_put s.old p v) s.new result }
 {
-    let j = move_fault(s, p, v);
-    match j {
-        Judged::Refused(r) => Judged::Refused(r),
-        Judged::Accepted => {
-            write::put_row(s, p, v);
-            Judged::Accepted
-        }
-    }
+    move_fault(s, p, v)?;
+    write::put_row(s, p, v);
+    Ok(())
 }
 
-pub fn move_far(s: &mut [u8], v: Row) -> Judged
+pub fn move_far(s: &mut [u8], v: Row) -> Result<(), Refusal>
     ensures { IsChanged (move_far_fault s.old v) s.old (row_put s.old 0 v) s.new result }
 {
-    let j = move_far_fault(s, v);
-    match j {
-        Judged::Refused(r) => Judged::Refused(r),
-        Judged::Accepted => {
-            write::put_row(s, 0, v);
-            Judged::Accepted
-        }
-    }
+    move_far_fault(s, v)?;
+    write::put_row(s, 0, v);
+    Ok(())
 }
 
-pub fn reverse(s: &mut [u8], f: usize) -> Judged
+pub fn reverse(s: &mut [u8], f: usize) -> Result<(), Refusal>
     ensures { IsChanged (reverse_fault s.old f) s.old (reversed_in s.old s.old (f - 1))
         s.new result }
 {
-    let j = reverse_fault(s, f);
-    match j {
-        Judged::Refused(r) => Judged::Refused(r),
-        Judged::Accepted => {
-            let at = offsets::face_start(s, f - 1);
-            let t = reversed_face(s, f - 1);
-            write::put_corners(s, at, t);
-            Judged::Accepted
-        }
-    }
+    reverse_fault(s, f)?;
+    let at = offsets::face_start(s, f - 1);
+    let t = reversed_face(s, f - 1);
+    write::put_corners(s, at, t);
+    Ok(())
 }

@@ -8,7 +8,7 @@ ghost use Rattle.survey.specs.Survey.{Fits, pairs_of};
 ghost use Rattle.survey.specs.Inside.{lowest_of_word};
 
 use crate::Survey;
-use questions::find::Found;
+use questions::Pair;
 use survey_edges::first::find;
 use survey_edges::pairs::write_pairs;
 use survey_edges::{Ends, Masks, count};
@@ -32,12 +32,12 @@ pub fn first_pair(
     amasks: &Masks,
     bends: &Ends,
     bmasks: &Masks,
-) -> Found
+) -> Option<Pair>
     requires { Fits t × (a ≤ 2 * limits.most_faces) × (b ≤ 2 * limits.most_faces) }
     ensures { result ≡ first_of (pairs_of t a b aends.now amasks.now bends.now bmasks.now) }
 {
-    if let Found::Pair(u, v, f) = find(aends, amasks, t.a.edges, a) {
-        return Found::Pair(u, v, f);
+    if let Some((u, v, f)) = find(aends, amasks, t.a.edges, a) {
+        return Some((u, v, f));
     }
     find(bends, bmasks, t.b.edges, b)
 }

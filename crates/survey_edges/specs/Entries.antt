@@ -1,5 +1,5 @@
 -- The pairs of one entry: by its mask's two words, how many, and the first. Assumes nothing.
-use Rattle.std.specs.Prelude.{◌≡◌, Bool, false, [], ◌++◌, ℕ, ◌+◌, ◌-◌, ◌*◌, ◌^◌, ◌≤◌, ◌<◌, length}
+use Rattle.std.specs.Prelude.{◌≡◌, Bool, false, [], ◌++◌, ℕ, ◌+◌, ◌-◌, ◌*◌, ◌^◌, ◌≤◌, ◌<◌, length, Some, None}
 use Rattle.std.proofs.Math.Path.{refl, sym, ap}
 use Rattle.std.proofs.Common.{ap₂, ◌∙◌, le_refl, mul-le-mul_right, arith, pow-add}
 use Rattle.std.proofs.Math.Bool.{true}
@@ -12,7 +12,6 @@ use Rattle.pierce_masks.specs.declared.Mask.{Mask}
 use Rattle.questions.specs.Hits.{Hit}
 use Rattle.questions.specs.WritePairs.{mask_hit, mask_hits}
 use Rattle.questions.specs.First.{first_of, first_none, first_found}
-use Rattle.questions.specs.declared.find.Found.TheVariants.{Nothing, Pair}
 use Rattle.survey_edges.specs.Table.{Entry, entry_hits}
 use Rattle.survey_edges.specs.Sums.{sum_of, ones_sum}
 use Rattle.survey_edges.specs.Runs.{up_to_none, up_to_length, only_length}
@@ -56,18 +55,18 @@ module _ (u v first : ℕ) where
   none_before : (w n : ℕ) → ((i : ℕ) → i < n → test_bit w i ≡ false) → [] ≡ mask_hits w u v first n
   none_before w n h = sym (up_to_none _ n (λ i b. ap (λ (t : Bool). mask_hit t u v (first + 1 + i)) (h i b)))
 
-  pub hits_none : (n : ℕ) {w : ℕ} → w ≡ 0 → Nothing ≡ first_of (mask_hits w u v first n)
+  pub hits_none : (n : ℕ) {w : ℕ} → w ≡ 0 → None ≡ first_of (mask_hits w u v first n)
   hits_none n {w} e = first_none (none_before w n (λ i b. ap (λ (x : ℕ). test_bit x i) e ∙ test_zero i))
 
   -- the first is that of the mask's first one
-  pub hits_first : (n : ℕ) {w : ℕ} → w < 2 ^ n → 0 < w → Pair u v (first + 1 + count_trailing_zeros n w) ≡ first_of (mask_hits w u v first n)
+  pub hits_first : (n : ℕ) {w : ℕ} → w < 2 ^ n → 0 < w → Some (u, v, (first + 1 + count_trailing_zeros n w)) ≡ first_of (mask_hits w u v first n)
   unfolding first_of
   hits_first n {w} h some =
       let f = word_first n n (le_refl n) h some in
       first_found (λ i. mask_hit (test_bit w i) u v (first + 1 + i)) (count_trailing_zeros n w) n (omega (arith, f.below))
       (none_before w (count_trailing_zeros n w) (λ i b. f.none i (omega arith) b)) refl (one (count_trailing_zeros n w) f.passes)
     where
-      one : (t : ℕ) → test_bit w t ≡ true → first_of (mask_hit (test_bit w t) u v (first + 1 + t)) ≡ Pair u v (first + 1 + t)
+      one : (t : ℕ) → test_bit w t ≡ true → first_of (mask_hit (test_bit w t) u v (first + 1 + t)) ≡ Some (u, v, (first + 1 + t))
       one t e = rw e
 
 -- ---- of an entry whose mask was read
@@ -81,12 +80,12 @@ module _ (first : ℕ) (e : Entry) where
   unfolding entry_hits
   entry_ones h = sym (hits_length e.low e.high first width h)
 
-  pub entry_none : e.mask ≡ 0 → Nothing ≡ first_of (entry_hits first e)
+  pub entry_none : e.mask ≡ 0 → None ≡ first_of (entry_hits first e)
   unfolding entry_hits
   entry_none h = hits_none e.low e.high first width h
 
   pub entry_first : e.mask < 2 ^ width → 0 < e.mask →
-      Pair e.low e.high (first + 1 + count_trailing_zeros width e.mask) ≡ first_of (entry_hits first e)
+      Some (e.low, e.high, (first + 1 + count_trailing_zeros width e.mask)) ≡ first_of (entry_hits first e)
   unfolding entry_hits
   entry_first h some = hits_first e.low e.high first width h some
 

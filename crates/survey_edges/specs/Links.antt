@@ -40,25 +40,6 @@ pub record Linked (face : ℕ → Face) (k : Solid) (before after : List ℕ) : 
   pub own : (u : ℕ) → Vertex k.vert0 (k.vert0 + k.verts) u → get_or after u 0 ≡ neighbours face k u
   pub other : (u : ℕ) → (Vertex k.vert0 (k.vert0 + k.verts) u → ⊥) → get_or after u 0 ≡ get_or before u 0
 
--- ---- emptied one by one
-
-pub cleared_none : (low : ℕ) (l : List ℕ) → Cleared low 0 l l
-cleared_none low l = record { size = refl; own = λ u h. absurd (omega arith); other = λ u h. refl }
-
-pub cleared_more : (low i : ℕ) {before l : List ℕ} → low + 1 + i < length before → Cleared low i before l →
-    Cleared low (i + 1) before (set l (low + 1 + i) 0)
-cleared_more low i {before} {l} fits c =
-    record {
-      size = length-set l (low + 1 + i) 0 ∙ c.size;
-      own = λ u h. own u h (ℕ_discrete u (low + 1 + i));
-      other = λ u h. get_or-set_other l (low + 1 + i) u 0 0 (λ e. h (omega arith, omega arith))
-          ∙ c.other u (λ v. h (omega arith, omega arith));
-    }
-  where
-    own : (u : ℕ) → Vertex low (low + (i + 1)) u → Dec (u ≡ low + 1 + i) → get_or (set l (low + 1 + i) 0) u 0 ≡ 0
-    own u h (yes e) = rw e (get_or-set_same l (low + 1 + i) 0 0 (omega (arith, c.size)))
-    own u h (no d) = get_or-set_other l (low + 1 + i) u 0 0 d ∙ c.own u (omega arith, omega arith)
-
 -- ---- one face
 
 module _ (l : List ℕ) (p t : ℕ) (h : p < length l) where

@@ -47,10 +47,8 @@ pub fn count(masks: &Masks, n: usize) -> usize
     ensures { (first : ℕ) (ends : List ℕ) → result ≡ length (table_hits first ends masks.now n) }
 {
     let mut c: usize = 0;
-    let mut j: usize = 0;
-    while j < n {
+    for j in 0..n {
         c += pierce_masks::ones(mask_at(masks, j));
-        j += 1;
     }
     c
 }

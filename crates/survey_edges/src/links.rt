@@ -35,10 +35,8 @@ pub fn clear(links: &mut VertexSets, low: usize, n: usize)
     requires { (length links.old ≡ words) × (low + n < words) }
     ensures { Cleared low n links.old links.new }
 {
-    let mut i: usize = 0;
-    while i < n {
+    for i in 0..n {
         links[low + 1 + i] = 0;
-        i += 1;
     }
 }
 
@@ -67,9 +65,7 @@ pub fn fill_links(corners: &Corners, k: Solid, links: &mut VertexSets)
     let first = k.face0;
     let e = first + 1 + k.faces;
     clear(links, low, verts);
-    let mut f = first + 1;
-    while f < e {
+    for f in first + 1..e {
         link_face(links, face_in(corners, f), low);
-        f += 1;
     }
 }

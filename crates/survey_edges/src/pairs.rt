@@ -91,10 +91,8 @@ pub fn write_pairs(
         out.new result }
 {
     let mut c = seen;
-    let mut j: usize = 0;
-    while j < n {
+    for j in 0..n {
         c = write_pairs_of_entry(ends, masks, j, first, from, c, out);
-        j += 1;
     }
     c
 }

@@ -8,12 +8,6 @@ use pierce_masks::is_odd;
 use survey_edges::links::{VertexSets, bit, clear, join};
 use survey_edges::{Ends, Masks, mask_at};
 
-fn wide(x: u16) -> usize
-    ensures { result ≡ x }
-{
-    x as usize
-}
-
 // The ends of edge j, where its mask is odd, are marked in each other's words.
 fn mark_entry(ends: &Ends, masks: &Masks, j: usize, low: usize, verts: usize, odds: &mut VertexSets)
     requires { (j < most_edges) × (verts ≤ 64) × (low + verts < words) × (length odds.old ≡ words) × EndsIn low verts
@@ -24,8 +18,8 @@ fn mark_entry(ends: &Ends, masks: &Masks, j: usize, low: usize, verts: usize, od
         return;
     }
     let at = 2 * j;
-    let u = wide(ends[at]);
-    let v = wide(ends[at + 1]);
+    let u = usize::from(ends[at]);
+    let v = usize::from(ends[at + 1]);
     join(odds, u, bit(low, v));
     join(odds, v, bit(low, u));
 }
@@ -44,9 +38,7 @@ pub fn fill_odds(
     ensures { Marked low verts (entries_in ends.now masks.now n) odds.new }
 {
     clear(odds, low, verts);
-    let mut j: usize = 0;
-    while j < n {
+    for j in 0..n {
         mark_entry(ends, masks, j, low, verts, odds);
-        j += 1;
     }
 }

@@ -1,5 +1,5 @@
 -- The pairs of a solid's edges, vertex by vertex and edge by edge, and the first of them. Assumes nothing.
-use Rattle.std.specs.Prelude.{◌≡◌, refl, ℕ, ◌+◌, ◌-◌, ◌^◌, ◌≤◌, ◌<◌}
+use Rattle.std.specs.Prelude.{◌≡◌, refl, ℕ, ◌+◌, ◌-◌, ◌^◌, ◌≤◌, ◌<◌, Some, None}
 use Rattle.std.proofs.Math.Path.{sym, ap}
 use Rattle.std.proofs.Common.{◌∙◌, lt_of_le_of_lt, arith}
 use mathlib.Core.List.{List, [], ◌++◌}
@@ -10,8 +10,7 @@ use Rattle.scene.specs.declared.Solid.{Solid}
 use Rattle.laws.specs.Runs.{up_to}
 use Rattle.questions.specs.Hits.{PierceView, Hit, Own, Sound, solid_hits}
 use Rattle.questions.specs.First.{first_of, first_left, first_right, first_found, first_end}
-use Rattle.questions.specs.declared.find.Found.{Found}
-use Rattle.questions.specs.declared.find.Found.TheVariants.{Nothing, Pair}
+use Rattle.questions.specs.Types.{Found}
 use Rattle.survey_edges.specs.Table.{Entry, entry_hits, each}
 use Rattle.survey_edges.specs.Runs.{each_up_to}
 use Rattle.survey_edges.specs.Edges.{Higher, entry, bit_edges, vertex_edges, solid_edges}
@@ -34,10 +33,10 @@ module _ (s : PierceView) (k : Solid) where
   -- the first of a vertex's pairs, where those before it have none; and none up to the last
   module _ (sound : Sound s k) where
     pub all_found : (i : ℕ) {o : Found} {a b f : ℕ} → i < k.verts → [] ≡ hits_to i →
-        o ≡ first_of (hits_of (vertex_edges s k (k.vert0 + 1 + i))) → o ≡ Pair a b f → Pair a b f ≡ first_of (solid_hits s k)
+        o ≡ first_of (hits_of (vertex_edges s k (k.vert0 + 1 + i))) → o ≡ Some (a, b, f) → Some (a, b, f) ≡ first_of (solid_hits s k)
     all_found i h e p q = first_found _ i k.verts h e p q ∙ ap first_of (hits_all sound)
 
-    pub all_end : {i : ℕ} → i ≤ k.verts → k.verts ≤ i → [] ≡ hits_to i → Nothing ≡ first_of (solid_hits s k)
+    pub all_end : {i : ℕ} → i ≤ k.verts → k.verts ≤ i → [] ≡ hits_to i → None ≡ first_of (solid_hits s k)
     all_end a b e = first_end _ a b e ∙ ap first_of (hits_all sound)
 
   -- ---- along the bits of a word: what is left has the first of all
@@ -64,12 +63,12 @@ module _ (s : PierceView) (k : Solid) where
     unfolding each
     split = ap hits_of (edges_turn s k u w some small) ∙ ap (λ (x : ℕ). entry_hits k.other0 (entry s k u x) ++ behind) (sym is-v)
 
-    pub left_found : {a b f : ℕ} → o ≡ Pair a b f → Pair a b f ≡ first_of (hits_of (vertex_edges s k u))
+    pub left_found : {a b f : ℕ} → o ≡ Some (a, b, f) → Some (a, b, f) ≡ first_of (hits_of (vertex_edges s k u))
     left_found e = first_left here behind is-o e ∙ ap first_of (sym split) ∙ left
 
-    pub left_more : o ≡ Nothing → Left u (bit_and w (w - 1))
+    pub left_more : o ≡ None → Left u (bit_and w (w - 1))
     left_more e = first_right here behind is-o e refl ∙ ap first_of (sym split) ∙ left
 
-  pub left_end : (u : ℕ) {w : ℕ} → w ≡ 0 → Left u w → Nothing ≡ first_of (hits_of (vertex_edges s k u))
+  pub left_end : (u : ℕ) {w : ℕ} → w ≡ 0 → Left u w → None ≡ first_of (hits_of (vertex_edges s k u))
   unfolding each first_of
   left_end u e left = ap (λ (l : List Entry). first_of (hits_of l)) (sym (edges_none s k u e)) ∙ left

@@ -1,5 +1,5 @@
 -- A first look at a few edges: a pair that it finds is the first of all. Assumes nothing.
-use Rattle.std.specs.Prelude.{◌≡◌, refl, List, ℕ, ◌+◌, ◌*◌, ◌/◌, ◌≤◌, ◌<◌, ℤ}
+use Rattle.std.specs.Prelude.{◌≡◌, refl, List, ℕ, ◌+◌, ◌*◌, ◌/◌, ◌≤◌, ◌<◌, ℤ, Some, None}
 use Rattle.std.proofs.Common.{sym, ap, subst, ◌∙◌, arith}
 use Rattle.scene.specs.Limits.{limits, most_points}
 use Rattle.scene.specs.Arrays.{AllWithin, FacesWithin}
@@ -7,8 +7,7 @@ use Rattle.scene.specs.declared.Solid.{Solid}
 use Rattle.scene.specs.Edges.{neighbours}
 use Rattle.questions.specs.Hits.{PierceView, Hit, Own, Sound, solid_hits}
 use Rattle.questions.specs.First.{first_of, first_start}
-use Rattle.questions.specs.declared.find.Found.{Found}
-use Rattle.questions.specs.declared.find.Found.TheVariants.{Nothing, Pair}
+use Rattle.questions.specs.Types.{Found}
 use Rattle.survey_sides.specs.Sides.{plane_in, ReadyAll, ready_ends}
 use Rattle.survey_edges.specs.Edges.{Higher, vertex_edges}
 use Rattle.survey_edges.specs.Order.{higher}
@@ -17,12 +16,12 @@ use Rattle.survey_first.specs.First.{hits_of, all_found}
 
 -- what a look at some of the hits l tells: a pair is the first of l, and nothing found says nothing
 abbrev pub FirstIfFound : List Hit → Found → Type 0
-FirstIfFound l Nothing = Unit {0}
-FirstIfFound l (Pair u v f) = Pair u v f ≡ first_of l
+FirstIfFound l None = Unit {0}
+FirstIfFound l (Some (u, v, f)) = Some (u, v, f) ≡ first_of l
 
-pub glimpsed_pair : (l : List Hit) (o : Found) {u v f : ℕ} → o ≡ Pair u v f → FirstIfFound l o → o ≡ first_of l
-glimpsed_pair l Nothing p g = cc
-glimpsed_pair l (Pair u v f) p g = g
+pub glimpsed_pair : (l : List Hit) (o : Found) {u v f : ℕ} → o ≡ Some (u, v, f) → FirstIfFound l o → o ≡ first_of l
+glimpsed_pair l None p g = cc
+glimpsed_pair l (Some (u, v, f)) p g = g
 
 -- ---- from the first vertex
 
@@ -36,8 +35,8 @@ module _ (s : PierceView) (k : Solid) (sound : Sound s k) (some : 0 < k.verts) w
 
   -- the first of its pairs is the first of all
   pub glimpsed_first : (o : Found) → FirstIfFound (hits_of s k (vertex_edges s k (k.vert0 + 1))) o → FirstIfFound (solid_hits s k) o
-  glimpsed_first Nothing g = g
-  glimpsed_first (Pair u v f) g =
+  glimpsed_first None g = g
+  glimpsed_first (Some (u, v, f)) g =
       all_found s k sound 0 some (first_start _) (g ∙ ap (λ (x : ℕ). first_of (hits_of s k (vertex_edges s k x))) (sym at)) refl
 
 -- what telling the sides of one vertex asks for

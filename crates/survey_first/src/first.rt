@@ -9,7 +9,7 @@ ghost use Rattle.scene.specs.Faces.{Vertex};
 ghost use Rattle.survey_edges.specs.Table.{entry_hits, each};
 
 use pierce_engine::Engine;
-use questions::find::Found;
+use questions::Pair;
 use scene::{Corners, Rows, Solid};
 use survey_edges::first::first_of_mask;
 use survey_edges::links::VertexSets;
@@ -28,7 +28,7 @@ fn first_of_edge(
     separating: &SeparatingFaces,
     u: usize,
     v: usize,
-) -> Found
+) -> Option<Pair>
     requires solid { Sound (view_in n rows.now corners.now) k }
     requires edge { Vertex k.vert0 (k.vert0 + k.verts) u × Vertex k.vert0 (k.vert0 + k.verts) v × (u < v) }
     requires sides { SidesFilled (view_in n rows.now corners.now) k words.now
@@ -51,7 +51,7 @@ fn first_of_vertex(
     separating: &SeparatingFaces,
     u: usize,
     higher: u64,
-) -> Found
+) -> Option<Pair>
     requires solid { Sound (view_in n rows.now corners.now) k × Vertex k.vert0 (k.vert0 + k.verts) u
         × Higher (view_in n rows.now corners.now) k u higher }
     requires sides { SidesFilled (view_in n rows.now corners.now) k words.now
@@ -62,12 +62,12 @@ fn first_of_vertex(
     while left != 0 {
         let v = u + 1 + u64::trailing_zeros(left) as usize;
         let found = first_of_edge(engine, rows, corners, n, k, words, own, separating, u, v);
-        if let Found::Pair(a, b, f) = found {
-            return Found::Pair(a, b, f);
+        if let Some((a, b, f)) = found {
+            return Some((a, b, f));
         }
         left = left & (left - 1);
     }
-    Found::Nothing
+    None
 }
 
 // Of all edges of the solid.
@@ -81,7 +81,7 @@ pub fn first_of(
     words: &survey_sides::point_masks::PointMasks,
     own: &survey_sides::point_masks::PointMasks,
     separating: &SeparatingFaces,
-) -> Found
+) -> Option<Pair>
     requires solid { Sound (view_in n rows.now corners.now) k × AreLinks (view_in n rows.now corners.now) k links.now }
     requires sides { SidesFilled (view_in n rows.now corners.now) k words.now
         × Separated (view_in n rows.now corners.now) k own.now separating.now }
@@ -89,17 +89,15 @@ pub fn first_of(
 {
     let low = k.vert0;
     let verts = k.verts;
-    let mut i: usize = 0;
-    while i < verts {
+    for i in 0..verts {
         let u = low + 1 + i;
         let higher = links[u] >> (i + 1);
         let found = first_of_vertex(
             engine, rows, corners, n, k, words, own, separating, u, higher,
         );
-        if let Found::Pair(a, b, f) = found {
-            return Found::Pair(a, b, f);
+        if let Some((a, b, f)) = found {
+            return Some((a, b, f));
         }
-        i += 1;
     }
-    Found::Nothing
+    None
 }

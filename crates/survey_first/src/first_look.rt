@@ -15,7 +15,7 @@ ghost use Rattle.survey_narrow.specs.Sides.{Made};
 
 use pierce_engine::Engine;
 use pierce_masks::Mask;
-use questions::find::Found;
+use questions::Pair;
 use scene::{Corners, Rows, Solid};
 use survey_edges::first::first_of_mask;
 use survey_edges::links::VertexSets;
@@ -39,7 +39,7 @@ fn first_look_at(
     m: Mask,
     v: usize,
     slopes: &mut Slopes,
-) -> Found
+) -> Option<Pair>
     requires solid { Sound (view_in n rows.now corners.now) k × Made (row_in rows.now) (face_in corners.now) k planes.now }
     requires edge { Vertex k.vert0 (k.vert0 + k.verts) u × Vertex k.vert0 (k.vert0 + k.verts) v × (u < v) }
     requires sides { (m ≡ sides_of (row_in rows.now) (face_in corners.now) k.other0 k.others u)
@@ -64,7 +64,7 @@ fn first_look_from(
     m: Mask,
     higher: u64,
     slopes: &mut Slopes,
-) -> Found
+) -> Option<Pair>
     requires solid { Sound (view_in n rows.now corners.now) k × Made (row_in rows.now) (face_in corners.now) k planes.now }
     requires vertex { Vertex k.vert0 (k.vert0 + k.verts) u × Higher (view_in n rows.now corners.now) k u higher }
     requires sides { (m ≡ sides_of (row_in rows.now) (face_in corners.now) k.other0 k.others u)
@@ -74,20 +74,18 @@ fn first_look_from(
         × Sloped (row_in rows.now) (face_in corners.now) slopes.new }
 {
     let mut left = higher;
-    let mut i: usize = 0;
-    while i < LOOKED {
+    for _ in 0..LOOKED {
         if left == 0 {
-            return Found::Nothing;
+            return None;
         }
         let v = u + 1 + u64::trailing_zeros(left) as usize;
         let found = first_look_at(engine, rows, corners, n, k, planes, u, m, v, slopes);
-        if let Found::Pair(a, b, f) = found {
-            return Found::Pair(a, b, f);
+        if let Some((a, b, f)) = found {
+            return Some((a, b, f));
         }
         left = left & (left - 1);
-        i += 1;
     }
-    Found::Nothing
+    None
 }
 
 // Of the edges from the solid's first vertex. A pair that is found is the first of all; nothing found says nothing.
@@ -100,7 +98,7 @@ pub fn first_look(
     planes: &Planes,
     links: &VertexSets,
     slopes: &mut Slopes,
-) -> Found
+) -> Option<Pair>
     requires solid { Sound (view_in n rows.now corners.now) k × Made (row_in rows.now) (face_in corners.now) k planes.now }
     requires links { AreLinks (view_in n rows.now corners.now) k links.now }
     requires sloped { Sloped (row_in rows.now) (face_in corners.now) slopes.old }
@@ -108,7 +106,7 @@ pub fn first_look(
         × Sloped (row_in rows.now) (face_in corners.now) slopes.new }
 {
     if k.verts == 0 {
-        return Found::Nothing;
+        return None;
     }
     let u = k.vert0 + 1;
     let m = sides(rows, corners, planes, k.other0, k.others, u, slopes);

@@ -16,7 +16,7 @@ ghost use Rattle.survey_narrow.specs.Sides.{Begun};
 use crate::first::first_of;
 use crate::first_look::first_look;
 use pierce_engine::Engine;
-use questions::find::Found;
+use questions::Pair;
 use scene::{Corners, Rows, Scene, Solid};
 use survey_edges::links::{VertexSets, WORDS, fill_links};
 use survey_enclosed::enclosed_word;
@@ -31,7 +31,7 @@ mod first_look;
 // The first pair; where there is none, the words of A's vertices that B encloses and of B's that A does.
 #[derive(Clone, Copy)]
 pub struct FirstOrEnclosed {
-    pub first: Found,
+    pub first: Option<Pair>,
     pub a: u64,
     pub b: u64,
 }
@@ -40,7 +40,7 @@ fn crossed(u: usize, v: usize, f: usize) -> FirstOrEnclosed
     ensures { result ≡ crossed_by u v f }
 {
     FirstOrEnclosed {
-        first: Found::Pair(u, v, f),
+        first: Some((u, v, f)),
         a: 0,
         b: 0,
     }
@@ -90,7 +90,7 @@ fn find_first_by_sides(
     fill_sides_lent(rows, corners, planes, n, b, &mut others, slopes);
     fill_narrowing(corners, a, b, &others, &mut own, &mut separating);
     let of_a = first_of(engine, rows, corners, n, a, links, words, &own, &separating);
-    if let Found::Pair(u, v, f) = of_a {
+    if let Some((u, v, f)) = of_a {
         return crossed(u, v, f);
     }
     fill_links(corners, b, &mut blinks);
@@ -106,11 +106,11 @@ fn find_first_by_sides(
         &own,
         &separating,
     );
-    if let Found::Pair(u, v, f) = of_b {
+    if let Some((u, v, f)) = of_b {
         return crossed(u, v, f);
     }
     FirstOrEnclosed {
-        first: Found::Nothing,
+        first: None,
         a: inside_still(engine, rows, corners, n, a, links, words),
         b: inside_still(engine, rows, corners, n, b, &blinks, &others),
     }
@@ -134,7 +134,7 @@ pub fn find_first(
     make_planes(rows, corners, a, &mut planes);
     fill_links(corners, a, &mut links);
     let found = first_look(engine, rows, corners, n, a, &planes, &links, &mut slopes);
-    if let Found::Pair(u, v, f) = found {
+    if let Some((u, v, f)) = found {
         return crossed(u, v, f);
     }
     let mut words: survey_sides::point_masks::PointMasks = [0; 2 * (Scene::MOST_POINTS + 1)];

@@ -29,10 +29,8 @@ fn mark_faces(corners: &Corners, first: usize, count: usize, at: usize, own: &mu
     requires faces { (first + count ≤ 2 * limits.most_faces) × (count ≤ 64) × (at ≤ 1) }
     ensures { own.new ≡ faces_marked (face_in corners.now) first at count own.old }
 {
-    let mut i: usize = 0;
-    while i < count {
+    for i in 0..count {
         mark_face(face_in(corners, first + 1 + i), at, i, own);
-        i += 1;
     }
 }
 

@@ -27,14 +27,12 @@ pub fn fill(
     ensures { separating.new
         ≡ cuts_from (λ j. cut_in words.now (face_in corners.now (first + j))) count separating.old }
 {
-    let mut i: usize = 0;
     let mut any = Mask { low: 0, high: 0 };
-    while i < count {
+    for i in 0..count {
         let j = 1 + i;
         let c = separating_of(words, face_in(corners, first + j));
         put(separating, j, c);
         any = either(any, c);
-        i += 1;
     }
     put(separating, 0, any);
 }

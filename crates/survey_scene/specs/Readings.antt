@@ -1,5 +1,5 @@
 -- What is read off a survey is the scene's answer. Assumes nothing.
-use Rattle.std.specs.Prelude.{◌≡◌, Bool, true, false, List, ℕ, ◌+◌, ◌*◌, ◌≤◌, ◌<◌, length}
+use Rattle.std.specs.Prelude.{◌≡◌, Bool, true, false, List, ℕ, ◌+◌, ◌*◌, ◌≤◌, ◌<◌, length, Ok, Some, None}
 use Rattle.std.proofs.Math.Path.{ap}
 use Rattle.std.proofs.Common.{◌∙◌, arith}
 use Rattle.std.specs.Int.Count.{ones}
@@ -7,13 +7,11 @@ use Rattle.scene.specs.Limits.{limits}
 use Rattle.scene.specs.View.{View, view_of, verts, solid}
 use Rattle.scene.specs.declared.Solid.{Solid}
 use Rattle.judge.specs.Judge.{judged}
-use Rattle.judge.specs.declared.Judged.TheVariants.{Accepted}
 use Rattle.questions.specs.Hits.{Hit, lowest_enclosed}
 use Rattle.questions.specs.First.{first_of}
 use Rattle.questions.specs.WritePairs.{WritesPairs}
 use Rattle.questions.specs.PairsWritten.{writes_same}
-use Rattle.questions.specs.declared.find.Found.{Found}
-use Rattle.questions.specs.declared.find.Found.TheVariants.{Pair, Nothing}
+use Rattle.questions.specs.Types.{Found}
 use Rattle.survey.specs.Survey.{Fits, pairs_of}
 use Rattle.survey.specs.Laws.{surveyed_pairs}
 use Rattle.survey.specs.Inside.{lowest_of_word, inside_ones, inside_lowest}
@@ -30,13 +28,13 @@ use Rattle.questions.specs.declared.Counts.{Counts}
 use Rattle.questions.specs.declared.Verdict.{Verdict}
 use Rattle.questions.specs.declared.Verdict.TheVariants.{Cross, AInB, BInA, Apart}
 
-pub other_fits : (s : List ℕ) → judged s ≡ Accepted → {o : Solid} (k : ℕ) → o ≡ solid (view_of s) k → o.other0 ≤ 2 * limits.most_faces
+pub other_fits : (s : List ℕ) → judged s ≡ Ok tt → {o : Solid} (k : ℕ) → o ≡ solid (view_of s) k → o.other0 ≤ 2 * limits.most_faces
 other_fits s ok k e = rw e (let h = (sound s ok k).other.0 in omega arith)
 
 pub fits : {v : View} {ends-a masks-a ends-b masks-b : List ℕ} {t : Survey} → SurveyIs v ends-a masks-a ends-b masks-b t → Fits t
 fits x = (x.of_a.fits, x.of_b.fits)
 
-module _ (s : List ℕ) (ok : judged s ≡ Accepted) {ends-a masks-a ends-b masks-b : List ℕ} {t : Survey}
+module _ (s : List ℕ) (ok : judged s ≡ Ok tt) {ends-a masks-a ends-b masks-b : List ℕ} {t : Survey}
     (x : SurveyIs (view_of s) ends-a masks-a ends-b masks-b t) where
   abbrev v : View
   v = view_of s
@@ -104,11 +102,11 @@ module _ (s : List ℕ) (ok : judged s ≡ Accepted) {ends-a masks-a ends-b mask
 
 -- ---- the verdict, by the first pair and the words
 
-module _ (s : List ℕ) (ok : judged s ≡ Accepted) {t : FirstOrEnclosed} (h : EnoughForVerdict (view_of s) t) where
-  pub cross_told : {u w f : ℕ} → t.first ≡ Pair u w f → Cross u w f ≡ verdict_in (view_of s)
+module _ (s : List ℕ) (ok : judged s ≡ Ok tt) {t : FirstOrEnclosed} (h : EnoughForVerdict (view_of s) t) where
+  pub cross_told : {u w f : ℕ} → t.first ≡ Some (u, w, f) → Cross u w f ≡ verdict_in (view_of s)
   cross_told = cross_is (view_of s) h.first
 
-  module _ (none : t.first ≡ Nothing) {a : Solid} (is-a : a ≡ solid (view_of s) 1) {p : ℕ}
+  module _ (none : t.first ≡ None) {a : Solid} (is-a : a ≡ solid (view_of s) 1) {p : ℕ}
       (lowest_a : p ≡ lowest_of_word t.a a.vert0 a.verts) where
     lowest_in_a : p ≡ lowest_enclosed (pierce_view (view_of s)) (solid (view_of s) 1)
     lowest_in_a =

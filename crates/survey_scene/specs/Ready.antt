@@ -1,5 +1,5 @@
 -- An accepted scene, decoded into arrays, is ready for piercing; and what is found in the arrays is so of the scene. Assumes nothing.
-use Rattle.std.specs.Prelude.{◌≡◌, refl, ◌≢◌, Bool, true, false, List, ℕ, ◌+◌, ◌*◌, ◌≤◌, leb, ℤ}
+use Rattle.std.specs.Prelude.{◌≡◌, refl, ◌≢◌, Bool, true, false, List, ℕ, ◌+◌, ◌*◌, ◌≤◌, leb, ℤ, Ok}
 use Rattle.std.proofs.Common.{sym, ap, ◌∙◌, inl, inr, arith, leb-true, leb-false}
 use Rattle.std.proofs.Math.Path.{ap₂}
 use Rattle.std.specs.Int.Count.{ones}
@@ -15,7 +15,6 @@ use Rattle.scene.specs.declared.Row.{Row}
 use Rattle.scene.specs.declared.Face.{Face}
 use Rattle.scene.specs.declared.Solid.{Solid}
 use Rattle.judge.specs.Judge.{judged}
-use Rattle.judge.specs.declared.Judged.TheVariants.{Accepted}
 use Rattle.rules.proofs.Given.{counts, weighted, rows_within, faces_within, face_of_a, face_of_b}
 use Rattle.orient.specs.Signs.{Upto, ne_sym}
 use Rattle.orient.specs.Terms.{terms_at, positive_at}
@@ -28,16 +27,16 @@ use Rattle.pierce_masks.specs.Faces.{is_odd}
 use Rattle.pierce.specs.Against.{mask_against}
 use Rattle.pierce.specs.Formula.{pierced}
 use Rattle.questions.specs.Hits.{PierceView, view_in, Sound}
+use Rattle.questions.specs.Types.{Signed}
 use Rattle.questions.specs.Answers.{pierce_view, sign_fault, pierces_fault, mask_in, other_solid, is_enclosed, faces_are}
 use Rattle.questions.specs.Asked.{NotOf, Outside, sign_four, pierces_ends}
-use Rattle.questions.specs.declared.Signed.TheVariants.{Sign}
 
 not_corner : {i : ℕ} {f : Face} → is_corner i f ≡ false → (i ≢ f.p) × (i ≢ f.q) × (i ≢ f.r)
 not_corner {i} {f} h =
     let n = (fails_iff _ (corner_iff i f)).0 h in
     (λ e. n (inl (sym e)), λ e. n (inr (inl (sym e))), λ e. n (inr (inr (sym e))))
 
-module _ (s : List ℕ) (ok : judged s ≡ Accepted) where
+module _ (s : List ℕ) (ok : judged s ≡ Ok tt) where
   abbrev v : View
   v = view_of s
 
@@ -71,11 +70,11 @@ module _ (s : List ℕ) (ok : judged s ≡ Accepted) where
   weighted_are e r = rw (e, r) scene_weighted
 
   -- of four points, where their sign is not refused
-  pub sign_fits : {rows : ℕ → Row} {a b c d : ℕ} → rows ≡ v.row → sign_fault v a b c d ≡ Accepted → NumbersWithin limits rows a b c d
+  pub sign_fits : {rows : ℕ → Row} {a b c d : ℕ} → rows ≡ v.row → sign_fault v a b c d ≡ Ok tt → NumbersWithin limits rows a b c d
   sign_fits {a} {b} {c} {d} r h =
       let f = sign_four v a b c d h in (rows_are r, point_fits f.a_in, point_fits f.b_in, point_fits f.c_in, point_fits f.d_in)
 
-  pub four_are : {rows : ℕ → Row} {a b c d : ℕ} → rows ≡ v.row → sign_fault v a b c d ≡ Accepted → SignDefined rows a b c d
+  pub four_are : {rows : ℕ → Row} {a b c d : ℕ} → rows ≡ v.row → sign_fault v a b c d ≡ Ok tt → SignDefined rows a b c d
   four_are {a} {b} {c} {d} r h = record { points = points v; weighted = rw r scene_weighted; four = sign_four v a b c d h }
 
   -- ---- either solid: its numbers fit, and its faces have its vertices as corners
@@ -146,7 +145,7 @@ module _ (s : List ℕ) (ok : judged s ≡ Accepted) where
   in_scene h = omega arith
 
   -- where piercing is not refused
-  pub pierces_fit : {rows : ℕ → Row} {n u w : ℕ} (f : ℕ) {g : Face} → pierces_fault v u w f ≡ Accepted → rows ≡ v.row →
+  pub pierces_fit : {rows : ℕ → Row} {n u w : ℕ} (f : ℕ) {g : Face} → pierces_fault v u w f ≡ Ok tt → rows ≡ v.row →
       n ≡ points v → g ≡ v.face f →
       (AllWithin limits rows × (6 ≤ n) × (n ≤ most_points limits) × (u ≤ most_points limits) × (w ≤ most_points limits) × FaceWithin limits g)
       × (Weighted n rows × Beside n u w g)
@@ -218,9 +217,10 @@ module _ {s : List ℕ} {n : ℕ} {rows : List ℤ} {corners : List ℕ} (d : De
 
 module _ (s : List ℕ) {rows : ℕ → Row} (are_rows : rows ≡ (view_of s).row) where
   pub sign_found : (a b c d : ℕ) {t : Terms} {p : Bool} → t ≡ terms_at rows a b c d → p ≡ positive_at rows a b c d →
-      Sign t p ≡ Sign (terms_at (view_of s).row a b c d) (positive_at (view_of s).row a b c d)
+      ◌≡◌ {A = Signed} (Ok (t, p)) (Ok (terms_at (view_of s).row a b c d, positive_at (view_of s).row a b c d))
   sign_found a b c d e h =
-      ap₂ Sign (e ∙ ap (λ (r : ℕ → Row). terms_at r a b c d) are_rows) (h ∙ ap (λ (r : ℕ → Row). positive_at r a b c d) are_rows)
+      ap₂ (λ (t : Terms) (p : Bool). Ok (t, p)) (e ∙ ap (λ (r : ℕ → Row). terms_at r a b c d) are_rows)
+      (h ∙ ap (λ (r : ℕ → Row). positive_at r a b c d) are_rows)
 
   pub pierces_found : (u w k : ℕ) {n : ℕ} {f : Face} {t : Bool} → n ≡ points (view_of s) → f ≡ (view_of s).face k → t ≡ pierced n rows u w f →
       t ≡ pierced (points (view_of s)) (view_of s).row u w ((view_of s).face k)

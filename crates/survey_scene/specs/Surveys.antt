@@ -1,6 +1,6 @@
 -- An accepted scene, decoded into arrays, gives all that its survey asks for: each solid is closed and apart from the other. What is
 -- surveyed is then the scene's own. Assumes nothing.
-use Rattle.std.specs.Prelude.{◌≡◌, List, ℕ, ◌+◌, ℤ}
+use Rattle.std.specs.Prelude.{◌≡◌, List, ℕ, ◌+◌, ℤ, Ok, None}
 use Rattle.std.proofs.Common.{ap, ◌∙◌, arith}
 use Rattle.std.specs.Int.Count.{ones}
 use Rattle.laws.specs.Lists.{run}
@@ -10,14 +10,12 @@ use Rattle.scene.specs.View.{View, view_of, solid, solid_a, solid_b}
 use Rattle.scene.specs.View.Laws.{either_solid}
 use Rattle.scene.specs.declared.Solid.{Solid}
 use Rattle.judge.specs.Judge.{judged}
-use Rattle.judge.specs.declared.Judged.TheVariants.{Accepted}
 use Rattle.rules.proofs.Given.{counts, each_of_a, each_of_b, edges_of_a, edges_of_b}
 use Rattle.pierce.specs.Parity as parity
 use Rattle.pierce.specs.Parity.{solid_by_edges}
 use Rattle.questions.specs.Hits.{view_in, enclosed_count}
 use Rattle.questions.specs.First.{first_of}
-use Rattle.questions.specs.declared.find.Found.{Found}
-use Rattle.questions.specs.declared.find.Found.TheVariants.{Nothing}
+use Rattle.questions.specs.Types.{Found}
 use Rattle.survey_enclosed.specs.Ready.{Ready}
 use Rattle.survey_enclosed.specs.Walk.{inside_word}
 use Rattle.survey.specs.Survey.{Surveyed}
@@ -29,7 +27,7 @@ use Rattle.survey.specs.declared.Survey.{Survey}
 use Rattle.questions.specs.Answers.{pierce_view, listing_in, inside_in}
 use Rattle.survey_scene.specs.Ready.{sound_a, sound_b, Decoded, seen_is, found}
 
-module _ (s : List ℕ) (ok : judged s ≡ Accepted) where
+module _ (s : List ℕ) (ok : judged s ≡ Ok tt) where
   abbrev v : View
   v = view_of s
 
@@ -69,7 +67,7 @@ module _ (s : List ℕ) (ok : judged s ≡ Accepted) where
   surveyable = either_solid v (Ready (pierce_view v)) of_a of_b
 
 module _ {s : List ℕ} {n : ℕ} {rows : List ℤ} {corners : List ℕ} (d : Decoded s n rows corners) where
-  pub to_survey : {o : Solid} (k : ℕ) → o ≡ solid (view_of s) k → judged s ≡ Accepted → Ready (view_in n rows corners) o
+  pub to_survey : {o : Solid} (k : ℕ) → o ≡ solid (view_of s) k → judged s ≡ Ok tt → Ready (view_in n rows corners) o
   to_survey k e ok = rw (seen_is d, e) (surveyable s ok k)
 
 -- ---- the tables of both solids are the scene's
@@ -108,8 +106,8 @@ sought_is d ea eb h = let g = rw (seen_is d, ea, eb) at h in record { first = g.
 -- what a verdict needs of it: where there is a pair the words are not read, and those of a survey will do
 pub record EnoughForVerdict (v : View) (t : FirstOrEnclosed) : Type 0 where
   pub first : t.first ≡ first_of (listing_in v)
-  pub a_inside_law : t.first ≡ Nothing → t.a ≡ inside_word (pierce_view v) (solid v 1)
-  pub b_inside_law : t.first ≡ Nothing → t.b ≡ inside_word (pierce_view v) (solid v 2)
+  pub a_inside_law : t.first ≡ None → t.a ≡ inside_word (pierce_view v) (solid v 1)
+  pub b_inside_law : t.first ≡ None → t.b ≡ inside_word (pierce_view v) (solid v 2)
 
 pub sought_settles : {v : View} {t : FirstOrEnclosed} → FirstOrEnclosedIs v t → EnoughForVerdict v t
 sought_settles {v} h =

@@ -1,9 +1,8 @@
 // An accepted scene is decoded and surveyed once; the verdict, the counts and the listing are read off its tables.
 #![tactic(auto)]
 
-ghost use Rattle.std.specs.Prelude.{◌≡◌};
+ghost use Rattle.std.specs.Prelude.{◌≡◌, Ok};
 ghost use Rattle.judge.specs.Judge.{judged};
-ghost use Rattle.judge.specs.declared.Judged.TheVariants.{Accepted};
 ghost use Rattle.scene.specs.View.{view_of};
 ghost use Rattle.survey.specs.Survey.{Sized};
 ghost use Rattle.questions.specs.Answers.{verdict_in, listing_in};
@@ -11,8 +10,7 @@ ghost use Rattle.questions.specs.Listings.{lacks_room, PouredIf};
 ghost use Rattle.survey_scene.specs.Surveys.{SurveyIs, FirstOrEnclosedIs, EnoughForVerdict};
 
 use pierce_engine::Engine;
-use questions::Verdict;
-use questions::find::Found;
+use questions::{Pair, Verdict};
 use scene::offsets::points;
 use scene::read::solid;
 use scene::{Corners, Rows, Scene, decode};
@@ -30,7 +28,7 @@ pub fn survey_of(
     bends: &mut Ends,
     bmasks: &mut Masks,
 ) -> Survey
-    requires s_value { judged s.now ≡ Accepted }
+    requires s_value { judged s.now ≡ Ok tt }
     requires sized { Sized aends.old amasks.old × Sized bends.old bmasks.old }
     ensures { SurveyIs (view_of s.now) aends.new amasks.new bends.new
         bmasks.new result }
@@ -49,7 +47,7 @@ pub fn survey_of(
 
 // What a verdict asks of it: nothing is asked behind the first pair.
 pub fn first_or_enclosed(engine: Engine, s: &[u8]) -> FirstOrEnclosed
-    requires { judged s.now ≡ Accepted }
+    requires { judged s.now ≡ Ok tt }
     ensures { FirstOrEnclosedIs (view_of s.now) result }
 {
     let mut rows: Rows = [0; Scene::ROWS];
@@ -64,12 +62,12 @@ pub fn first_or_enclosed(engine: Engine, s: &[u8]) -> FirstOrEnclosed
 
 // By the first pair, and where there is none by the words of enclosed vertices.
 pub fn verdict_by(s: &[u8], t: FirstOrEnclosed) -> Verdict
-    requires s_value { judged s.now ≡ Accepted }
+    requires s_value { judged s.now ≡ Ok tt }
     requires enough_for_verdict { EnoughForVerdict (view_of s.now) t }
     ensures { result ≡ verdict_in (view_of s.now) }
 {
     let x = t.first;
-    if let Found::Pair(u, v, f) = x {
+    if let Some((u, v, f)) = x {
         return Verdict::Cross(u, v, f);
     }
     let a = solid(s, 1);
@@ -94,7 +92,7 @@ pub fn verdict_read(
     bends: &Ends,
     bmasks: &Masks,
 ) -> Verdict
-    requires s_value { judged s.now ≡ Accepted }
+    requires s_value { judged s.now ≡ Ok tt }
     requires survey_is { SurveyIs (view_of s.now) aends.now amasks.now bends.now bmasks.now t }
     ensures { result ≡ verdict_in (view_of s.now) }
 {
@@ -134,7 +132,7 @@ pub fn write_read(
     all: bool,
     out: &mut [u16],
 ) -> usize
-    requires s_value { judged s.now ≡ Accepted }
+    requires s_value { judged s.now ≡ Ok tt }
     requires survey_is { SurveyIs (view_of s.now) aends.now amasks.now bends.now bmasks.now t }
     ensures { PouredIf (listing_in (view_of s.now)) from all out.old out.new result }
 {

@@ -95,15 +95,9 @@ module _ (passes : Face → Bool) (face : ℕ → Face) (first count : ℕ) wher
   unfolding mask_of
   mask_begun = let z : 0 ≡ count - count = omega arith in ap (mask_by passes face (first + count)) z
 
-  pub mask_done : {w k : ℕ} → k ≡ 0 → w ≡ mask_by passes face (first + k) (count - k) → w ≡ mask_by passes face first count
-  mask_done {k = k} z e =
-      let f : first + k ≡ first = omega arith in
-      let n : count - k ≡ count = omega arith in
-      e ∙ ap₂ (mask_by passes face) f n
-
 -- one step: w << 1 | b
 module _ (passes : Face → Bool) (face : ℕ → Face) (first count k : ℕ) (some : 0 < k) (upto : k ≤ count) (few : count ≤ 64) where
-  pub mask_under : {w b : ℕ} → w ≡ mask_by passes face (first + k) (count - k) → b ≡ digit (passes (face (first + k))) →
+  pub mask_under : {w b : ℕ} → w ≡ mask_by passes face (first + k) (count - k) → b ≡ digit (passes (face (first + 1 + (k - 1)))) →
       bit_or (w * 2 ^ 1 % 2 ^ 64) b ≡ mask_by passes face (first + (k - 1)) (count - (k - 1))
   mask_under hw hb =
       ap₂ (λ (x y : ℕ). bit_or (x * 2 ^ 1 % 2 ^ 64) y) (hw ∙ (λ i. mask_of (λ j. passes (face (next j i))) (count - k)))
@@ -123,7 +117,7 @@ module _ (passes : Face → Bool) (face : ℕ → Face) (first count k : ℕ) (s
       next : (j : ℕ) → first + k + 1 + j ≡ first + (k - 1) + 1 + suc j
       next j = omega arith
 
-      here : first + k ≡ first + (k - 1) + 1 + 0
+      here : first + 1 + (k - 1) ≡ first + (k - 1) + 1 + 0
       here = omega arith
 
       sum : mask_of behind (count - k) * 2 ^ 1 + digit (g 0) ≡ digit (g 0) + 2 * mask_of behind (count - k)

@@ -121,12 +121,10 @@ fn digits_at(
 {
     let mut above: u64 = 0;
     let mut tied: u64 = 0;
-    let mut k = count;
-    while 0 < k {
-        let d = side(rows, corners, planes, base, first + k, t, r);
+    for k in (0..count).rev() {
+        let d = side(rows, corners, planes, base, first + 1 + k, t, r);
         above = above << 1 | bit(d < 0);
         tied = tied << 1 | bit(d == 0);
-        k -= 1;
     }
     Digits { above, tied }
 }

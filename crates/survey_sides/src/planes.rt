@@ -24,10 +24,8 @@ pub fn fill(rows: &Rows, corners: &Corners, first: usize, count: usize, planes: 
     ensures { planes.new
         ≡ planes_from (row_in rows.now) (face_in corners.now) first count planes.old }
 {
-    let mut i: usize = 0;
-    while i < count {
+    for i in 0..count {
         put(planes, 1 + i, plane(rows, face_in(corners, first + 1 + i)));
-        i += 1;
     }
 }
 

@@ -58,15 +58,13 @@ fn fill_clear(
     let verts = k.verts;
     let other = k.other0;
     let others = k.others;
-    let mut i: usize = 0;
-    while i < verts {
+    for i in 0..verts {
         let t = low + 1 + i;
         let m = digits_of_point(rows, corners, planes, other, others, t);
         if has_ties(m) {
             return i;
         }
         put(words, t, above_of(m));
-        i += 1;
     }
     verts
 }
@@ -127,15 +125,13 @@ pub fn fill_points(
         ≡ masks_from (sides_of (row_in rows.now) (face_in corners.now) first count) low n words.old }
     ensures sloped { Sloped (row_in rows.now) (face_in corners.now) slopes.new }
 {
-    let mut i: usize = 0;
-    while i < n {
+    for i in 0..n {
         let t = low + 1 + i;
         put(
             words,
             t,
             sides(rows, corners, planes, first, count, t, slopes),
         );
-        i += 1;
     }
 }
 
@@ -166,5 +162,5 @@ pub fn mask_at(words: &PointMasks, t: usize) -> Mask
 pub fn bit(c: bool) -> u64
     ensures { result ≡ digit c }
 {
-    if c { 1 } else { 0 }
+    u64::from(c)
 }

@@ -1,5 +1,5 @@
 -- A row of the table as text: fields with a tab, 9, before each but the first. Assumes nothing.
-use Rattle.std.specs.Prelude.{ℕ, cond, ◌||◌, List, [], ◌∷◌, ◌++◌, map, ltb, eqb}
+use Rattle.std.specs.Prelude.{ℕ, cond, ◌||◌, List, [], ◌∷◌, ◌++◌, map, ltb, eqb, Ok}
 use Rattle.print.specs.Text.{ascii, decimal}
 use Rattle.print_lines.specs.Lines.{word_of}
 use Rattle.scene.specs.Refusal.{number_of, place_of}
@@ -18,7 +18,7 @@ numbers f = (9 ∷ decimal f.counts.a_in_b) ++ ((9 ∷ decimal f.counts.b_in_a) 
 
 -- behind the name of an accepted scene; its last field is empty
 abbrev pub accepted_fields : Facts → List ℕ
-accepted_fields f = (9 ∷ word_of f.verdict) ++ (numbers f ++ (9 ∷ 10 ∷ []))
+accepted_fields f = (9 ∷ word_of (Ok f.verdict)) ++ (numbers f ++ (9 ∷ 10 ∷ []))
 
 -- behind the name of a refused one, up to the words; the three numbers are empty
 abbrev pub refused_fields : Refusal → List ℕ

@@ -28,14 +28,13 @@ fn next_row(
 ) -> Turn {
     let r = cli_files::step(rt, program, w, piece, name, s);
     let v = r.walk;
-    let k = r.name;
     let n = r.count;
-    if !r.found {
+    let Some(k) = r.name else {
         return Turn {
             walk: v,
             over: true,
         };
-    }
+    };
     let e = row::row(out, &name[..k], r.whole, &s[..n]);
     Turn {
         walk: v,
@@ -53,15 +52,13 @@ fn all_told(
     out: &mut [u8],
 ) -> Walk {
     let mut w = first;
-    let mut left = MOST_FILES;
-    while left > 0 {
+    for _ in 0..MOST_FILES {
         let t = next_row(rt, program, w, piece, name, s, out);
         let v = t.walk;
         w = v;
         if t.over {
             break;
         }
-        left -= 1;
     }
     w
 }

@@ -9,8 +9,8 @@ use kernel::facts::survey;
 use pierce_engine::Engine;
 use print::{byte, newline, next_number, number, word};
 use print_lines::verdicts::verdict_word;
-use questions::{Facts, Surveyed};
-use scene::Refusal;
+use questions::Facts;
+use scene::{Numbered, Refusal};
 
 // A control byte would end the field or the row.
 fn shown_byte(b: u8) -> u8
@@ -32,10 +32,8 @@ fn put_name(out: &mut [u8], at: usize, name: &[u8]) -> usize
         return out.len();
     }
     let mut p = at;
-    let mut i = 0;
-    while i < name.len() {
-        p = byte(out, p, shown_byte(name[i]));
-        i += 1;
+    for b in name {
+        p = byte(out, p, shown_byte(*b));
     }
     p
 }
@@ -67,7 +65,7 @@ fn accepted(out: &mut [u8], at: usize, f: Facts) -> usize
 {
     let v = f.verdict;
     let a = tab(out, at);
-    let b = verdict_word(out, a, v);
+    let b = verdict_word(out, a, Ok(v));
     let c = put_numbers(out, b, f);
     let d = tab(out, c);
     newline(out, d)
@@ -77,8 +75,8 @@ fn refused(out: &mut [u8], at: usize, r: Refusal) -> usize
     ensures { Put out.old at (refused_fields r) out.new result }
 {
     let a = word(out, at, b"\trefused");
-    let b = next_number(out, a, scene::number(r));
-    let c = next_number(out, b, scene::place(r));
+    let b = next_number(out, a, r.number());
+    let c = next_number(out, b, r.place());
     word(out, c, b"\t\t\t\t")
 }
 
@@ -96,8 +94,8 @@ fn judged(out: &mut [u8], at: usize, s: &[u8]) -> usize
     let mut none = [0u16; 1];
     let a = survey(Engine::Plain, s, &mut none);
     match a {
-        Surveyed::Refused(r) => explained(out, at, s, r),
-        Surveyed::Facts(f) => accepted(out, at, f),
+        Err(r) => explained(out, at, s, r),
+        Ok(f) => accepted(out, at, f),
     }
 }
 

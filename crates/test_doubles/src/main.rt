@@ -5,8 +5,9 @@
 ghost use Rattle.std.specs.Prelude.{◌<◌, ◌≤◌, length};
 
 use doubles::determinant::c0;
-use doubles::{Fault, Taken, Vertex, take};
-use print::{newline, next_number, next_signed, word};
+use doubles::{Vertex, take};
+use print::{newline, next_signed, word};
+use print_refusals::refused;
 use scene::Row;
 use scene::read::two;
 use std::io::{Print, Write};
@@ -54,30 +55,12 @@ fn taken(r: Row, out: &mut [u8], at: usize) -> usize
     newline(out, e)
 }
 
-fn refused(f: Fault, out: &mut [u8], at: usize) -> usize
-    ensures { result ≤ length out.new }
-{
-    let a = word(out, at, b"refused");
-    let b = next_number(out, a, doubles::number(f));
-    let c = next_number(out, b, doubles::place(f));
-    newline(out, c)
-}
-
 fn vertex(v: Vertex, out: &mut [u8], at: usize) -> usize
     ensures { result ≤ length out.new }
 {
-    let t = take(v);
-    match t {
-        Taken::At(r) => taken(r, out, at),
-        Taken::Refused(f) => refused(f, out, at),
-    }
-}
-
-fn is_taken(v: Vertex) -> bool {
-    let t = take(v);
-    match t {
-        Taken::At(_) => true,
-        Taken::Refused(_) => false,
+    match take(v) {
+        Ok(r) => taken(r, out, at),
+        Err(f) => refused(out, at, f),
     }
 }
 
@@ -125,15 +108,14 @@ fn write_entry(rt: &HostRuntime, s: &[u8]) -> bool {
     if !write_vertices(rt, a, b, c, d, &mut out) {
         return false;
     }
-    if is_taken(a) & is_taken(b) & is_taken(c) & is_taken(d) {
+    if take(a).is_ok() && take(b).is_ok() && take(c).is_ok() && take(d).is_ok() {
         return write_c0(rt, c0(a, b, c, d), &mut out);
     }
     true
 }
 
 fn main(rt: HostRuntime) {
-    let mut n: usize = 0;
-    while n < 18446744073709551615 {
+    for _ in 0..usize::MAX {
         let mut s = [0u8; ENTRY];
         if cli::read(&mut rt.stdin(), &mut s).count < ENTRY {
             return;
@@ -141,6 +123,5 @@ fn main(rt: HostRuntime) {
         if !write_entry(&rt, &s) {
             return;
         }
-        n += 1;
     }
 }

@@ -1,31 +1,19 @@
 // Entries on standard input, as the tables of the tests have them: each stands behind two bytes of length, low byte first.
 #![tactic(auto)]
 
-ghost use Rattle.std.specs.Prelude.{◌≤◌, length};
+ghost use Rattle.std.specs.Prelude.{◌≤◌, IfSome, length};
 
 use scene::read::two;
 
-// Whether the input has ended; else how long the entry is.
-#[derive(Clone, Copy)]
-pub struct Entry {
-    pub is_end: bool,
-    pub len: usize,
-}
-
-// The next entry at the start of the buffer, as far as there is room. What is read no contract can say, only that it is within the buffer.
-pub fn next(rt: &HostRuntime, buffer: &mut [u8]) -> Entry
-    ensures { result.len ≤ length buffer.new }
+// How long the next entry is, at the start of the buffer, as far as there is room; none where the input has ended. What is read no contract
+// can say, only that it is within the buffer.
+pub fn next(rt: &HostRuntime, buffer: &mut [u8]) -> Option<usize>
+    ensures { IfSome result (λ len. len ≤ length buffer.new) }
 {
     let mut bytes = [0u8; 2];
     if cli::read(&mut rt.stdin(), &mut bytes).count < 2 {
-        return Entry {
-            is_end: true,
-            len: 0,
-        };
+        return None;
     }
     let n = two(&bytes, 0).min(buffer.len());
-    Entry {
-        is_end: false,
-        len: cli::read(&mut rt.stdin(), &mut buffer[..n]).count,
-    }
+    Some(cli::read(&mut rt.stdin(), &mut buffer[..n]).count)
 }

@@ -21,27 +21,23 @@ fn write_judged(rt: &HostRuntime, name: &[u8], s: &[u8]) -> bool {
 
 fn write_scene(rt: &HostRuntime, name: &[u8]) -> bool {
     let mut s = [0u8; 65536];
-    let len = test_entries::next(rt, &mut s).len;
+    let len = test_entries::next(rt, &mut s).unwrap_or(0);
     write_judged(rt, name, &s[..len])
 }
 
 // Whether there was one more, and its line was written.
 fn write_next(rt: &HostRuntime) -> bool {
     let mut name = [0u8; NAME];
-    let e = test_entries::next(rt, &mut name);
-    if e.is_end {
+    let Some(len) = test_entries::next(rt, &mut name) else {
         return false;
-    }
-    let len = e.len;
+    };
     write_scene(rt, &name[..len])
 }
 
 fn main(rt: HostRuntime) {
-    let mut n = 0;
-    while n < usize::MAX {
+    for _ in 0..usize::MAX {
         if !write_next(&rt) {
             return;
         }
-        n += 1;
     }
 }

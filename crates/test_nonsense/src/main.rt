@@ -43,10 +43,8 @@ fn turn(base: &[u8], x: u64, tally: &mut [u64; ROWS]) -> u64 {
 
 fn turns(base: &[u8], tally: &mut [u64; ROWS]) {
     let mut x: u64 = 1;
-    let mut i = 0;
-    while i < STRINGS {
+    for _ in 0..STRINGS {
         x = turn(base, x, tally);
-        i += 1;
     }
 }
 
@@ -56,10 +54,8 @@ fn row(name: &[u8], q: usize, tally: &[u64; ROWS], out: &mut [u8], at: usize) ->
     ensures { result ≤ length out.new }
 {
     let mut p = word(out, at, name);
-    let mut k = 0;
-    while k < 15 {
-        p = next_number(out, p, tally[15 * q + k] as usize);
-        k += 1;
+    for n in &tally[15 * q..15 * q + 15] {
+        p = next_number(out, p, *n as usize);
     }
     newline(out, p)
 }

@@ -22,24 +22,17 @@ fn put(s: &mut Bytes, i: usize, b: u8) {
 // Random bytes.
 fn fill(s: &mut Bytes, n: usize, x: u64) -> u64 {
     let mut y = x;
-    let mut i = 0;
-    while i < n {
+    for b in s.iter_mut().take(n) {
         y = next(y);
-        put(s, i, byte_of(y));
-        i += 1;
+        *b = byte_of(y);
     }
     y
 }
 
 // The first n bytes of the scene, or all of it.
 fn copy(base: &[u8], n: usize, s: &mut Bytes) {
-    let mut i = 0;
-    while i < base.len() {
-        if i < n {
-            put(s, i, base[i]);
-        }
-        i += 1;
-    }
+    let k = n.min(base.len()).min(Scene::LONGEST + 1);
+    s[..k].copy_from_slice(&base[..k]);
 }
 
 // One of the first n bytes becomes another: one more, or any.
@@ -59,10 +52,8 @@ fn change(s: &mut Bytes, n: usize, x: u64) -> u64 {
 
 fn changes(s: &mut Bytes, n: usize, times: usize, x: u64) -> u64 {
     let mut y = x;
-    let mut i = 0;
-    while i < times {
+    for _ in 0..times {
         y = change(s, n, y);
-        i += 1;
     }
     y
 }
@@ -93,20 +84,16 @@ fn double(s: &mut Bytes, n: usize, x: u64) -> u64 {
     let z = next(y);
     let from = face_start(n, y);
     let to = face_start(n, z);
-    let mut i = 0;
-    while i < 5 {
+    for i in 0..5 {
         copy_one(s, from + i, to + i);
-        i += 1;
     }
     z
 }
 
 fn doubles(s: &mut Bytes, n: usize, times: usize, x: u64) -> u64 {
     let mut y = x;
-    let mut i = 0;
-    while i < times {
+    for _ in 0..times {
         y = double(s, n, y);
-        i += 1;
     }
     y
 }

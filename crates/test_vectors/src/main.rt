@@ -4,7 +4,6 @@
 
 ghost use Rattle.std.specs.Prelude.{◌≤◌, length};
 
-use judge::Judged;
 use pierce_engine::Engine;
 use print_answers::lent::{PLACES, TEXT};
 use print_answers::{lent, reports};
@@ -115,7 +114,7 @@ fn write_scene(rt: &HostRuntime, engine: Engine, s: &[u8], n: usize) -> bool {
     if !write_report(rt, engine, s, &mut list, &mut out) {
         return false;
     }
-    if let Judged::Refused(_) = judge::judge(s) {
+    if judge::judge(s).is_err() {
         return true;
     }
     write_answers(rt, engine, s, n, &mut out) && write_lent(rt, engine, s, n, &mut list, &mut out)
@@ -124,20 +123,16 @@ fn write_scene(rt: &HostRuntime, engine: Engine, s: &[u8], n: usize) -> bool {
 // Whether there was one more, and its answers were written.
 fn write_next(rt: &HostRuntime, n: usize) -> bool {
     let mut s = [0u8; 65536];
-    let e = test_entries::next(rt, &mut s);
-    if e.is_end {
+    let Some(len) = test_entries::next(rt, &mut s) else {
         return false;
-    }
-    let len = e.len;
+    };
     write_scene(rt, Engine::Plain, &s[..len], n) && write_scene(rt, Engine::Formula, &s[..len], n)
 }
 
 fn main(rt: HostRuntime) {
-    let mut n = 0;
-    while n < usize::MAX {
+    for n in 0..usize::MAX {
         if !write_next(&rt, n) {
             return;
         }
-        n += 1;
     }
 }

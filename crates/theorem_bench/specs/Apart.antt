@@ -1,14 +1,13 @@
 -- One group's moves do not reach the other: strike them all, and the other group's session, its answers and the lecturer's are the same.
 -- What the lecturer is answered is settled at the opening. Assumes nothing.
-use Rattle.std.specs.Prelude.{◌≡◌, Bool, true, false, cond, List, [], ◌∷◌, ℕ}
+use Rattle.std.specs.Prelude.{◌≡◌, Bool, true, false, cond, List, [], ◌∷◌, ℕ, Ok, Err}
 use Rattle.std.proofs.Math.Path.{refl, sym}
 use Rattle.std.proofs.Common.{ap, ap₂, ◌∙◌, inl, inr, true≢false}
 use Rattle.std.proofs.lemmas.Bool.{false≢true}
 use Rattle.scene.specs.Records.{verts_b}
 use Rattle.scene.specs.declared.Row.{Row}
 use Rattle.scene.specs.declared.Refusal.TheVariants.{Opening}
-use Rattle.judge.specs.declared.Judged.{Judged}
-use Rattle.judge.specs.declared.Judged.TheVariants as judge
+use Rattle.judge.specs.Judge.{Judged}
 use Rattle.session.specs.Session.{scene}
 use Rattle.session.specs.Kept.{Empty}
 use Rattle.session.specs.declared.Session.{Session}
@@ -20,8 +19,7 @@ use Rattle.bench_moves.specs.declared.Group.{Group}
 use Rattle.bench_moves.specs.declared.Group.TheVariants.{One, Two}
 use Rattle.bench_moves.specs.declared.Fault.{Fault}
 use Rattle.bench_moves.specs.declared.Fault.TheVariants.{Scene}
-use Rattle.bench_moves.specs.declared.Answer.{Answer}
-use Rattle.bench_moves.specs.declared.Answer.TheVariants.{Refused}
+use Rattle.bench_moves.specs.Bench.{Answer}
 use Rattle.theorem_bench.specs.Effect.{Follows, follows_same, empty_solids, empty_follows, full_follows}
 use Rattle.theorem_bench.specs.Effect.{done_never, own_effect, fixture_effect}
 use Rattle.theorem_bench.specs.Lecturer.{lecturer_fault, lecturer_told}
@@ -59,14 +57,14 @@ with_same : (b : Bench) (g : Group) {s : Session} → s ≡ session_of b g → w
 with_same b One e = λ i. record { one = e i; two = b.two }
 with_same b Two e = λ i. record { one = b.one; two = e i }
 
-pub refused_stays : (b : Bench) (o : Operation) {f : Fault} → Holds b → (step b o).answer ≡ Refused f → (step b o).bench ≡ b
+pub refused_stays : (b : Bench) (o : Operation) {f : Fault} → Holds b → (step b o).answer ≡ Err f → (step b o).bench ≡ b
 unfolding group_moved_of lecturer_moved_of
 refused_stays b (group g p v) h q = with_same b g ((own_effect (session_of b g) p v (holds_of b h g)).refused q)
 refused_stays b (lecturer n v) {f} h q = go (fixture_moved_of b.one n v).answer q
   where
-    go : (j : Judged) → (lecturer_moved_by j b n v).answer ≡ Refused f → (lecturer_moved_by j b n v).bench ≡ b
-    go judge.Accepted q = absurd (done_never q)
-    go (judge.Refused r) q = refl
+    go : (j : Judged) → (lecturer_moved_by j b n v).answer ≡ Err f → (lecturer_moved_by j b n v).bench ≡ b
+    go (Ok _) q = absurd (done_never q)
+    go (Err r) q = refl
 
 -- ---- a move as one group sees it: by its own session alone
 
@@ -84,8 +82,8 @@ module _ (b : Bench) (n : ℕ) (v : Row) (h : Holds b) where
   lecturer_answer = go (fixture_moved_of b.one n v).answer
     where
       go : (j : Judged) → (lecturer_moved_by j b n v).answer ≡ said j
-      go judge.Accepted = refl
-      go (judge.Refused r) = refl
+      go (Ok _) = refl
+      go (Err r) = refl
 
   lecturer_session : (g : Group) → session_of (lecturer_moved_of b n v).bench g ≡ (fixture_moved_of (session_of b g) n v).session
   unfolding lecturer_moved_of
@@ -93,10 +91,10 @@ module _ (b : Bench) (n : ℕ) (v : Row) (h : Holds b) where
     where
       go : (j : Judged) → (fixture_moved_of b.one n v).answer ≡ j → (g : Group) →
           session_of (lecturer_moved_by j b n v).bench g ≡ (fixture_moved_of (session_of b g) n v).session
-      go judge.Accepted q One = refl
-      go judge.Accepted q Two = refl
-      go (judge.Refused r) q One = sym ((fixture_effect b.one n v h.one).refused q)
-      go (judge.Refused r) q Two = sym ((fixture_effect b.two n v h.two).refused (sym (told_alike b n v h) ∙ q))
+      go (Ok _) q One = refl
+      go (Ok _) q Two = refl
+      go (Err r) q One = sym ((fixture_effect b.one n v h.one).refused q)
+      go (Err r) q Two = sym ((fixture_effect b.two n v h.two).refused (sym (told_alike b n v h) ∙ q))
 
 pub record Sees (b : Bench) (g : Group) (o : Operation) : Type 0 where
   pub answer : (step b o).answer ≡ (seen (session_of b g) o).answer
@@ -184,7 +182,7 @@ lecturer_settled b (o ∷ os) n v h = lecturer_settled (step b o).bench os n v (
 
 -- ---- an empty bench refuses every move with 1
 
-pub empty_refuses : (b : Bench) (o : Operation) → Holds b → Empty b.one → Empty b.two → (step b o).answer ≡ Refused (Scene Opening)
+pub empty_refuses : (b : Bench) (o : Operation) → Holds b → Empty b.one → Empty b.two → (step b o).answer ≡ Err (Scene Opening)
 unfolding group_moved_of own_moved_of own_fault unless said then_scene
 empty_refuses b (group One p v) h x y = rw (empty_solids b.one h.one x)
 empty_refuses b (group Two p v) h x y = rw (empty_solids b.two h.two y)

@@ -1,6 +1,6 @@
 -- What a move does to one session: a group's leaves the fixture, the lecturer's changes it as the number and the row say; a refused one
 -- does nothing. What the lecturer is answered is told by the fixture's vertex count, the number and the row. Assumes nothing.
-use Rattle.std.specs.Prelude.{◌≡◌, ◌⊎◌, Bool, true, false, cond, List, length}
+use Rattle.std.specs.Prelude.{◌≡◌, ◌⊎◌, Bool, true, false, cond, List, length, Ok, Err}
 use Rattle.std.proofs.Math.Path.{refl, ap}
 use Rattle.std.proofs.Common.{sym, ◌∙◌, inl, inr, arith, eq-eqb, ne_eqb, le-leb}
 use Prim.Native.Nat.{ℕ, ◌+◌, ◌≤◌}
@@ -11,8 +11,7 @@ use Rattle.scene.specs.Records.{verts_a, verts_b, verts, length_of}
 use Rattle.scene.specs.declared.Row.{Row}
 use Rattle.scene.specs.declared.Refusal.{Refusal}
 use Rattle.judge.specs.Tests.{within_iff, rule_iff, never}
-use Rattle.judge.specs.declared.Judged.{Judged}
-use Rattle.judge.specs.declared.Judged.TheVariants as judge
+use Rattle.judge.specs.Judge.{Judged}
 use Rattle.rules.proofs.Accepted.{accepted}
 use Rattle.session.specs.Session.{scene, is_whole, vertex_fault, far_fault, changed_by, moved_of, far_moved_of}
 use Rattle.session.specs.Kept.{Empty, Full, Holds, moved_holds, far_holds}
@@ -24,8 +23,7 @@ use Rattle.bench_moves.specs.Bench.{number_fault, scene_moved, placed_in, fixtur
 use Rattle.bench_moves.specs.declared.moves.Solids.{Solids}
 use Rattle.bench_moves.specs.declared.moves.Moved.{Moved}
 use Rattle.bench_moves.specs.declared.Fault.{Fault}
-use Rattle.bench_moves.specs.declared.Answer.{Answer}
-use Rattle.bench_moves.specs.declared.Answer.TheVariants.{Done, Refused}
+use Rattle.bench_moves.specs.Bench.{Answer}
 use Rattle.theorem_bench.specs.Fixture.{fixture_of, moved_fixture, verts_b_law, own_fixture, vertex_fixture, far_fixture}
 
 -- ---- a session that holds a scene, and one that does not
@@ -68,13 +66,13 @@ module _ {s t : Session} (f : Follows s t) where
 -- ---- the session's own moves: refused, or one row changed
 
 changed_answer : (j : Judged) (s : Session) (b : List ℕ) → (changed_by j s b).answer ≡ j
-changed_answer judge.Accepted s b = refl
-changed_answer (judge.Refused r) s b = refl
+changed_answer (Ok _) s b = refl
+changed_answer (Err r) s b = refl
 
 -- a session's move of the file's point j to v, which came out as c
 pub data Moves (s : Session) (j : ℕ) (v : Row) (c : Changed) : Type 0 where
-  stays : {r : Refusal} → c.answer ≡ judge.Refused r → c.session ≡ s → Moves s j v c
-  changes : c.answer ≡ judge.Accepted → RowChanged (scene s) j v (scene c.session) → Holds c.session → Moves s j v c
+  stays : {r : Refusal} → c.answer ≡ Err r → c.session ≡ s → Moves s j v c
+  changes : c.answer ≡ Ok tt → RowChanged (scene s) j v (scene c.session) → Holds c.session → Moves s j v c
 
 module _ (s : Session) (v : Row) where
   pub vertex_answer : (p : ℕ) → (moved_of s p v).answer ≡ vertex_fault (scene s) p v
@@ -89,25 +87,25 @@ module _ (s : Session) (v : Row) where
   vertex_moves p h = go (vertex_fault (scene s) p v) refl
     where
       go : (j : Judged) → vertex_fault (scene s) p v ≡ j → Moves s p v (moved_of s p v)
-      go judge.Accepted q = changes (vertex_answer p ∙ q) (vertex_changed s p v q) (moved_holds s p v h)
-      go (judge.Refused r) q = stays (vertex_answer p ∙ q) (ap (λ (c : Changed). c.session) (vertex_refused s p v q))
+      go (Ok _) q = changes (vertex_answer p ∙ q) (vertex_changed s p v q) (moved_holds s p v h)
+      go (Err r) q = stays (vertex_answer p ∙ q) (ap (λ (c : Changed). c.session) (vertex_refused s p v q))
 
   far_moves : Holds s → Moves s 0 v (far_moved_of s v)
   far_moves h = go (far_fault (scene s) v) refl
     where
       go : (j : Judged) → far_fault (scene s) v ≡ j → Moves s 0 v (far_moved_of s v)
-      go judge.Accepted q = changes (far_answer ∙ q) (far_changed s v q) (far_holds s v h)
-      go (judge.Refused r) q = stays (far_answer ∙ q) (ap (λ (c : Changed). c.session) (far_refused s v q))
+      go (Ok _) q = changes (far_answer ∙ q) (far_changed s v q) (far_holds s v h)
+      go (Err r) q = stays (far_answer ∙ q) (ap (λ (c : Changed). c.session) (far_refused s v q))
 
 row_follows : {s t : Session} {j : ℕ} {v : Row} → RowChanged (scene s) j v (scene t) → Holds t → j ≤ verts (scene s) → Follows s t
 row_follows {s} {t} {j} {v} c h b = record { holds = h; long = c.long; verts_b_law = verts_b_law (scene s) (scene t) j v c b }
 
 -- ---- a group's move
 
-pub done_never : {f : Fault} → Done ≡ Refused f → ⊥
+pub done_never : {f : Fault} → ◌≡◌ {A = Answer} (Ok tt) (Err f) → ⊥
 done_never e = let z : ◌≡◌ {A = ℕ} 0 1 = cc in omega arith
 
-pub unless_done : (b : Bool) (f : Fault) (k : Answer) → unless b f k ≡ Done → (b ≡ true) × (k ≡ Done)
+pub unless_done : (b : Bool) (f : Fault) (k : Answer) → unless b f k ≡ Ok tt → (b ≡ true) × (k ≡ Ok tt)
 unfolding unless
 unless_done true f k e = (refl, e)
 unless_done false f k e = absurd (done_never (sym e))
@@ -124,7 +122,7 @@ held_solids s e = go (is_whole s) e
     go true e = refl
     go false e = cc
 
-own_free : (s : List ℕ) (p : ℕ) → own_fault (solids_of s) p ≡ Done → (1 ≤ p) × (p ≤ verts_a s)
+own_free : (s : List ℕ) (p : ℕ) → own_fault (solids_of s) p ≡ Ok tt → (1 ≤ p) × (p ≤ verts_a s)
 unfolding own_fault
 own_free s p e =
     let a = unless_done _ _ _ e in
@@ -135,13 +133,13 @@ own_free s p e =
 pub record OwnEffect (s : Session) (m : Moved) : Type 0 where
   pub follows : Follows s m.session
   pub fixture : fixture_of (scene m.session) ≡ fixture_of (scene s)
-  pub refused : {f : Fault} → m.answer ≡ Refused f → m.session ≡ s
+  pub refused : {f : Fault} → m.answer ≡ Err f → m.session ≡ s
 
 pub own_effect : (s : Session) (p : ℕ) (v : Row) → Holds s → OwnEffect s (own_moved_of s p v)
 unfolding own_moved_of said then_scene
 own_effect s p v h = go (own_fault (solids_of (scene s)) p) refl
   where
-    by_moves : (1 ≤ p) × (p ≤ verts_a (scene s)) → Moves s p v (moved_of s p v) → OwnEffect s (own_moved_by Done s p v)
+    by_moves : (1 ≤ p) × (p ≤ verts_a (scene s)) → Moves s p v (moved_of s p v) → OwnEffect s (own_moved_by (Ok tt) s p v)
     by_moves b (stays a e) = record { follows = follows_same h e; fixture = ap (λ (t : Session). fixture_of (scene t)) e; refused = λ q. e }
     by_moves b (changes a c k) =
         let here : p ≤ verts (scene s) = omega (arith, b.1) in
@@ -152,15 +150,15 @@ own_effect s p v h = go (own_fault (solids_of (scene s)) p) refl
         }
 
     go : (o : Answer) → own_fault (solids_of (scene s)) p ≡ o → OwnEffect s (own_moved_by o s p v)
-    go (Refused f) q = record { follows = follows_same h refl; fixture = refl; refused = λ q. refl }
-    go Done q = by_moves (own_free (scene s) p q) (vertex_moves s v p h)
+    go (Err f) q = record { follows = follows_same h refl; fixture = refl; refused = λ q. refl }
+    go (Ok _) q = by_moves (own_free (scene s) p q) (vertex_moves s v p h)
 
 -- ---- the lecturer's move, in one scene
 
 pub record FixtureEffect (s : Session) (n : ℕ) (v : Row) (c : Changed) : Type 0 where
   pub follows : Follows s c.session
-  pub refused : {r : Refusal} → c.answer ≡ judge.Refused r → c.session ≡ s
-  pub moved : c.answer ≡ judge.Accepted → fixture_of (scene c.session) ≡ moved_fixture (fixture_of (scene s)) n v
+  pub refused : {r : Refusal} → c.answer ≡ Err r → c.session ≡ s
+  pub moved : c.answer ≡ Ok tt → fixture_of (scene c.session) ≡ moved_fixture (fixture_of (scene s)) n v
 
 abbrev told : ℕ → Changed → Changed
 told n c = record { answer = placed_in n c.answer; session = c.session }
@@ -175,7 +173,7 @@ module _ (s : Session) (n : ℕ) (v : Row) (h : Holds s) where
   by_moves j c (changes a d k) b f =
       record { follows = row_follows d k b; refused = λ q. absurd (never (sym (ap (placed_in n) a) ∙ q)); moved = λ q. f d }
 
-  number_free : number_fault (solids_of (scene s)) n ≡ judge.Accepted →
+  number_free : number_fault (solids_of (scene s)) n ≡ Ok tt →
       ((solids_of (scene s)).held ≡ true) × ((1 ≤ n) × (n ≤ verts_b (scene s) + 1))
   unfolding number_fault
   number_free e =
@@ -201,7 +199,7 @@ module _ (s : Session) (n : ℕ) (v : Row) (h : Holds s) where
   fixture_effect = go (number_fault (solids_of (scene s)) n) refl
     where
       go : (j : Judged) → number_fault (solids_of (scene s)) n ≡ j → FixtureEffect s n v (fixture_moved_by j s n v)
-      go (judge.Refused r) q = record { follows = follows_same h refl; refused = λ q. refl; moved = λ q. absurd (never (sym q)) }
-      go judge.Accepted q =
+      go (Err r) q = record { follows = follows_same h refl; refused = λ q. refl; moved = λ q. absurd (never (sym q)) }
+      go (Ok _) q =
           let f = number_free q in
           rw (held_solids (scene s) f.0) (scene_effect f.1.0 (dec_le n (verts_b (scene s))))

@@ -1,7 +1,7 @@
 -- What a bench holds is kept by every move and given by opening, so it stands after any of them, from any two strings of bytes: each
 -- group's session holds what a session holds, and both scenes have the same solid B and far point. A refused move changes nothing.
 -- Assumes nothing.
-use Rattle.std.specs.Prelude.{◌≡◌, ◌⊎◌, List, [], ◌∷◌, ℕ, length}
+use Rattle.std.specs.Prelude.{◌≡◌, ◌⊎◌, List, [], ◌∷◌, ℕ, length, Ok, Err}
 use Rattle.std.proofs.Math.Path.{refl, sym, ap}
 use Rattle.std.proofs.Common.{◌∙◌, inl, arith}
 use Rattle.std.proofs.Math.Logic.{inr}
@@ -13,8 +13,7 @@ use Rattle.scene.specs.declared.Row.{Row}
 use Rattle.scene.specs.declared.Refusal.TheVariants.{Opening}
 use Rattle.judge.specs.Judge.{judged, refuse_unless}
 use Rattle.judge.specs.Tests.{never}
-use Rattle.judge.specs.declared.Judged.{Judged}
-use Rattle.judge.specs.declared.Judged.TheVariants as judge
+use Rattle.judge.specs.Judge.{Judged}
 use Rattle.rules.proofs.Accepted.{accepted}
 use Rattle.session.specs.Session.{scene, empty, opened}
 use Rattle.session.specs.Kept.{Empty, Full, opened_holds}
@@ -28,8 +27,7 @@ use Rattle.bench_moves.specs.declared.Bench.{Bench}
 use Rattle.bench_moves.specs.declared.Answered.{Answered}
 use Rattle.bench_moves.specs.declared.Group.{Group}
 use Rattle.bench_moves.specs.declared.Group.TheVariants.{One, Two}
-use Rattle.bench_moves.specs.declared.Answer.{Answer}
-use Rattle.bench_moves.specs.declared.Answer.TheVariants.{Done, Refused}
+use Rattle.bench_moves.specs.Bench.{Answer}
 use Rattle.theorem_bench.specs.Fixture.{Fixture, fixture_of, moved_fixture}
 use Rattle.theorem_bench.specs.Opening.{opens}
 use Rattle.theorem_bench.specs.Effect.{empty_solids, empty_follows, full_follows, OwnEffect, own_effect, fixture_effect}
@@ -69,7 +67,7 @@ after b (o ∷ os) = after (step b o).bench os
 
 -- ---- opening
 
-opened_full : (s : List ℕ) → judged s ≡ judge.Accepted → Full (opened s).session
+opened_full : (s : List ℕ) → judged s ≡ Ok tt → Full (opened s).session
 opened_full s q = go (opened_holds s).state
   where
     go : Empty (opened s).session ⊎ Full (opened s).session → Full (opened s).session
@@ -84,7 +82,7 @@ opened_bench s t = go (open_fault s t) refl
     none = record { sized = refl; state = inl (record { none = refl; zeros = refl }) }
 
     go : (o : Answer) → open_fault s t ≡ o → Holds (bench.opened_by o s t).bench
-    go Done e =
+    go (Ok _) e =
         let q = opens s t e in
         record {
           one = opened_holds s;
@@ -95,7 +93,7 @@ opened_bench s t = go (open_fault s t) refl
             fixture = rw (opened_scene s q.first, opened_scene t q.second) q.fixture;
           });
         }
-    go (Refused f) e =
+    go (Err f) e =
         record { one = none; two = none; state = inl (record { none = refl; zeros = refl }, record { none = refl; zeros = refl }) }
 
 -- ---- a group's move
@@ -119,7 +117,7 @@ group_holds b Two p v h =
 
 -- ---- the lecturer's move
 
-pub empty_told : (s : Session) (n : ℕ) (v : Row) → session.Holds s → Empty s → (fixture_moved_of s n v).answer ≡ judge.Refused Opening
+pub empty_told : (s : Session) (n : ℕ) (v : Row) → session.Holds s → Empty s → (fixture_moved_of s n v).answer ≡ Err Opening
 unfolding fixture_moved_of number_fault refuse_unless
 empty_told s n v h e = rw (empty_solids s h e)
 
@@ -135,7 +133,7 @@ module _ (b : Bench) (n : ℕ) (v : Row) (h : Holds b) where
           sym (size_b (scene b.one)) ∙ ap (λ (f : Fixture). size f.solid) m.fixture ∙ size_b (scene b.two) in
           lecturer_told b.one n v m.one ∙ ap (λ (k : ℕ). lecturer_fault k n v) c ∙ sym (lecturer_told b.two n v m.two)
 
-  told_sharing : (fixture_moved_of b.one n v).answer ≡ judge.Accepted → Sharing b
+  told_sharing : (fixture_moved_of b.one n v).answer ≡ Ok tt → Sharing b
   told_sharing q = go h.state
     where
       go : State b → Sharing b
@@ -147,8 +145,8 @@ module _ (b : Bench) (n : ℕ) (v : Row) (h : Holds b) where
   lecturer_holds = go (fixture_moved_of b.one n v).answer refl
     where
       go : (j : Judged) → (fixture_moved_of b.one n v).answer ≡ j → Holds (lecturer_moved_by j b n v).bench
-      go (judge.Refused r) q = h
-      go judge.Accepted q =
+      go (Err r) q = h
+      go (Ok _) q =
           let x = fixture_effect b.one n v h.one in
           let y = fixture_effect b.two n v h.two in
           let m = told_sharing q in

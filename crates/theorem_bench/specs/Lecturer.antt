@@ -1,5 +1,5 @@
 -- What the lecturer is answered is told by the fixture's vertex count, the number and the row, and by nothing else. Assumes nothing.
-use Rattle.std.specs.Prelude.{◌≡◌, Bool, not, cond, ℕ, ◌+◌, ◌≤◌, leb, length}
+use Rattle.std.specs.Prelude.{◌≡◌, Bool, not, cond, ℕ, ◌+◌, ◌≤◌, leb, length, Ok, Err}
 use Rattle.std.proofs.Math.Path.{refl, ap}
 use Rattle.std.proofs.Common.{ap₂, ◌∙◌}
 use Rattle.std.proofs.Math.Bool.{true, false}
@@ -12,8 +12,7 @@ use Rattle.scene.specs.declared.Row.{Row}
 use Rattle.scene.specs.declared.Refusal.TheVariants.{NoSuchNumber, Coordinate, Weight, FarAllZero}
 use Rattle.judge.specs.Judge.{refuse_unless, and_then}
 use Rattle.judge.specs.Tests.{within_iff}
-use Rattle.judge.specs.declared.Judged.{Judged}
-use Rattle.judge.specs.declared.Judged.TheVariants as judge
+use Rattle.judge.specs.Judge.{Judged}
 use Rattle.session.specs.Session.{scene, is_whole, sizes_of, row_fault, is_nowhere, vertex_fault, far_fault, moved_of, far_moved_of}
 use Rattle.session.specs.Kept.{Full}
 use Rattle.session.specs.declared.faults.Sizes.{Sizes}
@@ -23,7 +22,7 @@ use Rattle.theorem_bench.specs.Effect.{full_whole, full_solids, vertex_answer, f
 
 -- 11, then 5 and 6, and for the far point 14, in the lecturer's numbers, where the fixture has b vertices
 unfoldable pub far_row_fault : ℕ → Sizes → Judged
-far_row_fault n m = and_then (row_fault 0 n m) (refuse_unless (not (is_nowhere m)) (FarAllZero n) judge.Accepted)
+far_row_fault n m = and_then (row_fault 0 n m) (refuse_unless (not (is_nowhere m)) (FarAllZero n) (Ok tt))
 
 unfoldable pub lecturer_fault : (b n : ℕ) → Row → Judged
 lecturer_fault b n v = refuse_unless (within 1 (b + 1) n) NoSuchNumber (cond (leb n b) (row_fault 1 n (sizes_of v)) (far_row_fault n (sizes_of v)))
@@ -38,9 +37,9 @@ placed_row least p n m =
   where
     go : (a b c d : Bool) →
         placed_in n (refuse_unless a (Coordinate p)
-        (refuse_unless b (Coordinate p) (refuse_unless c (Coordinate p) (refuse_unless d (Weight p) judge.Accepted))))
+        (refuse_unless b (Coordinate p) (refuse_unless c (Coordinate p) (refuse_unless d (Weight p) (Ok tt)))))
         ≡ refuse_unless a (Coordinate n)
-        (refuse_unless b (Coordinate n) (refuse_unless c (Coordinate n) (refuse_unless d (Weight n) judge.Accepted)))
+        (refuse_unless b (Coordinate n) (refuse_unless c (Coordinate n) (refuse_unless d (Weight n) (Ok tt))))
     go false b c d = refl
     go true false c d = refl
     go true true false d = refl
@@ -49,11 +48,11 @@ placed_row least p n m =
 
 placed_then : (n : ℕ) (x y : Judged) → placed_in n (and_then x y) ≡ and_then (placed_in n x) (placed_in n y)
 unfolding and_then placed_in
-placed_then n judge.Accepted y = refl
-placed_then n (judge.Refused r) y = refl
+placed_then n (Ok _) y = refl
+placed_then n (Err r) y = refl
 
-placed_nowhere : (p n : ℕ) (b : Bool) → placed_in n (refuse_unless b (FarAllZero p) judge.Accepted) ≡ refuse_unless b (FarAllZero n)
-    judge.Accepted
+placed_nowhere : (p n : ℕ) (b : Bool) → placed_in n (refuse_unless b (FarAllZero p) (Ok tt)) ≡ refuse_unless b (FarAllZero n)
+    (Ok tt)
 unfolding refuse_unless placed_in placed
 placed_nowhere p n true = refl
 placed_nowhere p n false = refl
@@ -98,7 +97,7 @@ module _ (s : Session) (n : ℕ) (v : Row) (f : Full s) where
   lecturer_told = rw (full_solids s f) (go (within 1 (b + 1) n) refl)
     where
       go : (t : Bool) → within 1 (b + 1) n ≡ t →
-          (fixture_moved_by (refuse_unless t NoSuchNumber judge.Accepted) s n v).answer
+          (fixture_moved_by (refuse_unless t NoSuchNumber (Ok tt)) s n v).answer
           ≡ refuse_unless t NoSuchNumber (cond (leb n b) (row_fault 1 n (sizes_of v)) (far_row_fault n (sizes_of v)))
       go true e = rw (full_solids s f) (scene_said ((within_iff 1 (b + 1) n).0 e).0 (dec_le n b))
       go false e = refl

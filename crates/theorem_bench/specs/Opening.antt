@@ -1,5 +1,5 @@
 -- A bench is opened exactly from two accepted scenes with one fixture, and 22 is given exactly where the fixtures differ. Assumes nothing.
-use Rattle.std.specs.Prelude.{◌≡◌, ◌↔◌, Bool, not, ℕ, ◌+◌, ◌*◌, get_or}
+use Rattle.std.specs.Prelude.{◌≡◌, ◌↔◌, Bool, not, ℕ, ◌+◌, ◌*◌, get_or, Ok, Err}
 use Rattle.std.proofs.Math.Path.{refl, sym, ap}
 use Rattle.std.proofs.Common.{◌∙◌, subst, arith, eq-eqb}
 use Rattle.std.proofs.Math.Bool.{true, false}
@@ -14,8 +14,7 @@ use Rattle.scene.specs.Records.{verts_a, verts_b, faces_in_a, faces_in_b, point_
 use Rattle.scene.specs.Read.{size_a, size_b}
 use Rattle.scene.specs.Tables.{size, face_at, tables_of}
 use Rattle.judge.specs.Judge.{judged}
-use Rattle.judge.specs.declared.Judged.{Judged}
-use Rattle.judge.specs.declared.Judged.TheVariants as judge
+use Rattle.judge.specs.Judge.{Judged}
 use Rattle.rules.specs.Held.{Held, byte_of, length_all}
 use Rattle.rules.specs.ReadBack.{far_stands, b_rows, b_faces}
 use Rattle.rules.specs.Write.{point_bytes, face_bytes, bytes_of}
@@ -24,14 +23,13 @@ use Rattle.rules.proofs.Written.{accepted_written}
 use Rattle.bench_moves.specs.Bench.{unless, then_scene, differ_at, same_bytes, same_counts, same_far}
 use Rattle.bench_moves.specs.Bench.{same_vertices, same_faces, is_shared, open_fault}
 use Rattle.bench_moves.specs.declared.Fault.TheVariants.{Differing}
-use Rattle.bench_moves.specs.declared.Answer.{Answer}
-use Rattle.bench_moves.specs.declared.Answer.TheVariants.{Done, Refused}
+use Rattle.bench_moves.specs.Bench.{Answer}
 use Rattle.theorem_bench.specs.Effect.{done_never, unless_done}
 use Rattle.theorem_bench.specs.Fixture.{Fixture, fixture_of, shared_fixture}
 
 -- ---- the fixture's bytes in an accepted scene
 
-module _ (s : List ℕ) (bytes : Bytes s) (q : judged s ≡ judge.Accepted) where
+module _ (s : List ℕ) (bytes : Bytes s) (q : judged s ≡ Ok tt) where
   written : bytes_of (tables_of s) ≡ s
   written = accepted_written limits s bytes q
 
@@ -65,7 +63,7 @@ held_same s t i j n l m h k e b =
     (byte_of h (i + x) x refl (omega arith) ∙ ap (λ (l : List ℕ). get_or l x 0) e
     ∙ sym (byte_of k (j + x) x refl (omega (arith, ap length e)))))))
 
-module _ (s t : List ℕ) (bs : Bytes s) (bt : Bytes t) (qs : judged s ≡ judge.Accepted) (qt : judged t ≡ judge.Accepted) where
+module _ (s t : List ℕ) (bs : Bytes s) (bt : Bytes t) (qs : judged s ≡ Ok tt) (qt : judged t ≡ Ok tt) where
   pub fixture_shared : fixture_of s ≡ fixture_of t → is_shared s t ≡ true
   unfolding is_shared same_counts same_far same_vertices same_faces
   fixture_shared e =
@@ -85,17 +83,17 @@ module _ (s t : List ℕ) (bs : Bytes s) (bt : Bytes t) (qs : judged s ≡ judge
 
 -- ---- opening
 
-then_done : (j : Judged) (k : Answer) → then_scene j k ≡ Done → (j ≡ judge.Accepted) × (k ≡ Done)
+then_done : (j : Judged) (k : Answer) → then_scene j k ≡ Ok tt → (j ≡ Ok tt) × (k ≡ Ok tt)
 unfolding then_scene
-then_done judge.Accepted k e = (refl, e)
-then_done (judge.Refused r) k e = absurd (done_never (sym e))
+then_done (Ok _) k e = (refl, e)
+then_done (Err r) k e = absurd (done_never (sym e))
 
 pub record Opens (s t : List ℕ) : Type 0 where
-  pub first : judged s ≡ judge.Accepted
-  pub second : judged t ≡ judge.Accepted
+  pub first : judged s ≡ Ok tt
+  pub second : judged t ≡ Ok tt
   pub fixture : fixture_of s ≡ fixture_of t
 
-pub opens : (s t : List ℕ) → open_fault s t ≡ Done → Opens s t
+pub opens : (s t : List ℕ) → open_fault s t ≡ Ok tt → Opens s t
 unfolding open_fault
 opens s t e =
     let a = then_done _ _ e in
@@ -103,19 +101,19 @@ opens s t e =
     record { first = a.0; second = b.0; fixture = shared_fixture s t (unless_done _ _ _ b.1).0 }
 
 module _ (s t : List ℕ) (bs : Bytes s) (bt : Bytes t) where
-  pub open_iff : (open_fault s t ≡ Done) ↔ Opens s t
+  pub open_iff : (open_fault s t ≡ Ok tt) ↔ Opens s t
   unfolding open_fault then_scene unless
   open_iff = (opens s t, λ o. rw (o.first, o.second, fixture_shared s t bs bt o.first o.second o.fixture))
 
   -- 22, of two accepted scenes
-  pub differing_iff : judged s ≡ judge.Accepted → judged t ≡ judge.Accepted →
-      (open_fault s t ≡ Refused Differing) ↔ (fixture_of s ≡ fixture_of t → ⊥)
+  pub differing_iff : judged s ≡ Ok tt → judged t ≡ Ok tt →
+      (open_fault s t ≡ Err Differing) ↔ (fixture_of s ≡ fixture_of t → ⊥)
   unfolding open_fault then_scene unless
   differing_iff p q = (
     λ e f. done_never (sym (open_iff.1 (record { first = p; second = q; fixture = f })) ∙ e),
     λ n. rw (p, q) (go (is_shared s t) (λ e. n (shared_fixture s t e))),
   )
     where
-      go : (b : Bool) → (b ≡ true → ⊥) → unless b Differing Done ≡ Refused Differing
+      go : (b : Bool) → (b ≡ true → ⊥) → unless b Differing (Ok tt) ≡ Err Differing
       go true n = absurd (n refl)
       go false n = refl

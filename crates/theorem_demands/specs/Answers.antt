@@ -2,25 +2,18 @@
 -- 12)", "11 comes before 12", and "Each number carries its place and nothing else": for each question, the refusals that it can give and
 -- for each of them exactly when, nothing earlier in the order being at fault. The statement is `Answers`; its proof is
 -- `Answers.Proof.answers`. In numbers and places it is `Numbers`. Assumes nothing.
-use Rattle.std.specs.Prelude.{◌≡◌, ◌⊎◌, ◌↔◌, List, [], ℕ, ◌*◌, ◌<◌, length}
+use Rattle.std.specs.Prelude.{◌≡◌, ◌⊎◌, ◌↔◌, List, [], ℕ, ◌*◌, ◌<◌, length, Err}
 use Rattle.scene.specs.Limits.{limits}
 use Rattle.scene.specs.Refusal.{number_of}
 use Rattle.scene.specs.declared.Refusal.{Refusal}
 use Rattle.scene.specs.declared.Refusal.TheVariants.{ListTooShort, NoSuchNumber, NotDistinct, BufferTooShort}
-use Rattle.judge.specs.declared.Judged.TheVariants.{Refused}
 use Rattle.rules.specs.Rules.{Between, FileOk}
 use Rattle.rules.specs.Grounds.{Grounds}
 use Rattle.record.specs.Shown.{refusal, shown}
 use Rattle.scene.specs.View.{view_of}
 use Rattle.questions.specs.Answers.{sign_of, pierces_of, masked_of, refused, enclosed_of, counted_of, verdict_of}
 use Rattle.questions.specs.Answers.{IsListed, IsPart, listing_in, inside_of}
-use Rattle.questions.specs.declared.Signed.TheVariants as sign
-use Rattle.questions.specs.declared.Answer.TheVariants as answer
-use Rattle.questions.specs.declared.Counted.TheVariants as counted
-use Rattle.questions.specs.declared.Enclosing.TheVariants as enclosing
-use Rattle.questions.specs.declared.Verdict.TheVariants as verdict
-use Rattle.questions.specs.declared.Listed.{Listed}
-use Rattle.questions.specs.declared.Listed.TheVariants as listed
+use Rattle.questions.specs.Types.{Listed}
 use Rattle.theorem_demands.specs.Words.{Vertex, RecordNumber, FourPoints, TwoAlike, EdgeAndFace, AlikeOrCorner}
 use Rattle.theorem_demands.specs.Words.{EdgeAndSolid, AlikeOrVertex, SolidNumber}
 
@@ -54,25 +47,25 @@ pub record Refusals (s : List ℕ) (Refuses : Refusal → Type 0) (Short : ℕ �
 pub record Answers (s : List ℕ) : Type 0 where
   -- four points, which must differ
   pub sign : (a b c d : ℕ) →
-      Refusals s (λ r. sign_of s a b c d ≡ sign.Refused r) NoList (FourPoints s a b c d) (TwoAlike a b c d)
+      Refusals s (λ r. sign_of s a b c d ≡ Err r) NoList (FourPoints s a b c d) (TwoAlike a b c d)
   -- two points, which must differ, neither of them a corner of the face
   pub pierces : (u v f : ℕ) →
-      Refusals s (λ r. pierces_of s u v f ≡ answer.Refused r) NoList (EdgeAndFace s u v f) (AlikeOrCorner s u v f)
+      Refusals s (λ r. pierces_of s u v f ≡ Err r) NoList (EdgeAndFace s u v f) (AlikeOrCorner s u v f)
   -- two points, which must differ, neither of them a vertex of the solid
   pub mask : (u v k : ℕ) →
       Refusals s (λ r. masked_of s u v k ≡ refused r) NoList (EdgeAndSolid s u v k) (AlikeOrVertex s u v k)
   -- a vertex, not the far point
-  pub enclosed : (i : ℕ) → Refusals s (λ r. enclosed_of s i ≡ answer.Refused r) NoList (Vertex s i) Never
+  pub enclosed : (i : ℕ) → Refusals s (λ r. enclosed_of s i ≡ Err r) NoList (Vertex s i) Never
   -- a record; "Under refusals 1 to 9 and 11 the part shown has length 0", and under 14
-  pub record_shown : (k : ℕ) → Refusals s (λ r. refusal s k ≡ Refused r) NoList (RecordNumber s k) Never
-  pub shown_none : (k : ℕ) (r : Refusal) → refusal s k ≡ Refused r → shown s k ≡ []
-  pub verdict : Refusals s (λ r. verdict_of s ≡ verdict.Refused r) NoList Always Never
-  pub counts : Refusals s (λ r. counted_of s ≡ counted.Refused r) NoList Always Never
+  pub record_shown : (k : ℕ) → Refusals s (λ r. refusal s k ≡ Err r) NoList (RecordNumber s k) Never
+  pub shown_none : (k : ℕ) (r : Refusal) → refusal s k ≡ Err r → shown s k ≡ []
+  pub verdict : Refusals s (λ r. verdict_of s ≡ Err r) NoList Always Never
+  pub counts : Refusals s (λ r. counted_of s ≡ Err r) NoList Always Never
   -- a solid
-  pub inside : (k : ℕ) → Refusals s (λ r. inside_of s k ≡ enclosing.Refused r) NoList (SolidNumber k) Never
+  pub inside : (k : ℕ) → Refusals s (λ r. inside_of s k ≡ Err r) NoList (SolidNumber k) Never
   -- the listing, with the lent list d, afterwards d'; a refusal leaves every lent place as it was
-  pub listing : (d d' : List ℕ) (x : Listed) → IsListed s d d' x → Refusals s (λ r. x ≡ listed.Refused r) (TooShort s d) Always Never
-  pub listing_kept : (d d' : List ℕ) (x : Listed) → IsListed s d d' x → (r : Refusal) → x ≡ listed.Refused r → d' ≡ d
+  pub listing : (d d' : List ℕ) (x : Listed) → IsListed s d d' x → Refusals s (λ r. x ≡ Err r) (TooShort s d) Always Never
+  pub listing_kept : (d d' : List ℕ) (x : Listed) → IsListed s d d' x → (r : Refusal) → x ≡ Err r → d' ≡ d
   -- the listing from one of its pairs on, as far as there is room
-  pub part : (from : ℕ) (d d' : List ℕ) (x : Listed) → IsPart s from d d' x → Refusals s (λ r. x ≡ listed.Refused r) NoList Always Never
-  pub part_kept : (from : ℕ) (d d' : List ℕ) (x : Listed) → IsPart s from d d' x → (r : Refusal) → x ≡ listed.Refused r → d' ≡ d
+  pub part : (from : ℕ) (d d' : List ℕ) (x : Listed) → IsPart s from d d' x → Refusals s (λ r. x ≡ Err r) NoList Always Never
+  pub part_kept : (from : ℕ) (d d' : List ℕ) (x : Listed) → IsPart s from d d' x → (r : Refusal) → x ≡ Err r → d' ≡ d

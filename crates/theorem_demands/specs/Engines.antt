@@ -2,14 +2,13 @@
 -- signs answer as the formula does, and the formula answers alike for every helper. The contract of `pierce_plain::pierces` is the five
 -- signs. By the contracts of all that is asked of either engine, two calls about the same bytes, each by its own engine, have one answer
 -- (`OneAnswer`). Assumes nothing.
-use Rattle.std.specs.Prelude.{◌≡◌, Bool, List, ℕ, ◌+◌}
+use Rattle.std.specs.Prelude.{◌≡◌, Bool, List, ℕ, ◌+◌, Ok}
 use denote.Bor.{now}
 use denote.MutBor as lent
 use Rattle.scene.specs.Records.{verts}
 use Rattle.scene.specs.Tables.{tables_of, row}
 use Rattle.scene.specs.declared.Face.{Face}
 use Rattle.judge.specs.Judge.{judged}
-use Rattle.judge.specs.declared.Judged.TheVariants.{Accepted}
 use Rattle.orient.specs.Signs.{Upto, Six}
 use Rattle.orient.specs.Terms.{positive_at}
 use Rattle.pierce.specs.Beside.{Beside}
@@ -32,7 +31,7 @@ sign_in s = positive_at (row (tables_of s))
 -- the plain engine, by its own contract (`plain::pierces`), is the formula
 abbrev pub SameEngines : Type 0
 SameEngines =
-    (s : List ℕ) → judged s ≡ Accepted → (u v : ℕ) (f : Face) → Beside (verts s + 1) u v f →
+    (s : List ℕ) → judged s ≡ Ok tt → (u v : ℕ) (f : Face) → Beside (verts s + 1) u v f →
     five_signs (row (tables_of s)) u v f ≡ pierced (verts s + 1) (row (tables_of s)) u v f
 
 -- the formula with the helper h
@@ -42,7 +41,7 @@ formula_in s u v h f = formula (sign_in s) u v h f.p f.q f.r
 -- h is a point, and none of the five: the lowest such helper gives nothing else
 abbrev pub AnyHelper : Type 0
 AnyHelper =
-    (s : List ℕ) → judged s ≡ Accepted → (u v h : ℕ) (f : Face) → Six (Upto (verts s + 1)) u v h f.p f.q f.r →
+    (s : List ℕ) → judged s ≡ Ok tt → (u v h : ℕ) (f : Face) → Six (Upto (verts s + 1)) u v h f.p f.q f.r →
     formula_in s u v h f ≡ formula_in s u v (helper (verts s + 1) u v f) f
 
 -- two calls with the same bytes: g and h are the engines, r and q the answers; of the listing also the lent lists, which held the same

@@ -1,7 +1,7 @@
 -- Demand 2: "acceptance, verdict, list and counts equal the definition". Accepted exactly when the written rules hold; the sign, piercing,
 -- the mask, enclosure, the verdict, the listing and the counts exactly as document 01 says them, over all edges, faces and vertices of both
 -- solids. The statement is `Exact`, at the end; its proof is `Exact.Proof.exact`. Assumes nothing.
-use Rattle.std.specs.Prelude.{◌≡◌, ◌⊎◌, ◌↔◌, Bool, true, cond, List, ◌∷◌, ◌++◌, ℕ, ◌+◌, ◌-◌, ◌*◌, ◌^◌, ◌%◌, ◌≤◌, ◌<◌, leb, length, drop}
+use Rattle.std.specs.Prelude.{◌≡◌, ◌⊎◌, ◌↔◌, Bool, true, cond, List, ◌∷◌, ◌++◌, ℕ, ◌+◌, ◌-◌, ◌*◌, ◌^◌, ◌%◌, ◌≤◌, ◌<◌, leb, length, drop, false, Ok}
 use Rattle.laws.specs.Lists.{Some, Number, run}
 use Rattle.laws.specs.Mask.{test_bit}
 use Rattle.laws.specs.Rising.{Less, Rising}
@@ -9,7 +9,6 @@ use Rattle.scene.specs.Limits.{limits}
 use Rattle.scene.specs.Records.{verts_a, verts_b, faces_in_a, faces_in_b}
 use Rattle.scene.specs.Tables.{tables_of, row}
 use Rattle.judge.specs.Judge.{judged}
-use Rattle.judge.specs.declared.Judged.TheVariants.{Accepted}
 use Rattle.rules.specs.Rules.{FileOk}
 use Rattle.rules.specs.FileOf.{FileOf}
 use Rattle.rules.specs.Write.{Bytes}
@@ -20,14 +19,9 @@ use Rattle.questions.specs.WritePairs.{three, flat, part_in}
 use Rattle.scene.specs.View.{view_of}
 use Rattle.questions.specs.Answers.{sign_of, pierces_of, verdict_of, counted_of, masked_of, faces_are, enclosed_of}
 use Rattle.questions.specs.Answers.{IsListed, listing_in, inside_of, IsPart}
-use Rattle.questions.specs.declared.Signed.TheVariants as sign
-use Rattle.questions.specs.declared.Answer.TheVariants as answer
 use Rattle.questions.specs.declared.Counts.{Counts}
-use Rattle.questions.specs.declared.Counted.TheVariants as counted
-use Rattle.questions.specs.declared.Enclosing.TheVariants as enclosing
 use Rattle.questions.specs.declared.Verdict.TheVariants as verdict
-use Rattle.questions.specs.declared.Listed.{Listed}
-use Rattle.questions.specs.declared.Listed.TheVariants as listed
+use Rattle.questions.specs.Types.{Listed}
 use Rattle.theorem_demands.specs.Words.{VertexOfA, VertexOfB, Vertex, far_point, FaceOfA, FaceOfB, Edge, Pierces, Enclosed}
 use Rattle.theorem_demands.specs.Words.{FourPoints, TwoAlike, EdgeAndFace, AlikeOrCorner, EdgeAndSolid, AlikeOrVertex}
 
@@ -64,13 +58,13 @@ module _ (s : List ℕ) where
 
   -- what the lent list d holds afterwards (d'): "Places beyond 3 × count keep their contents"
   pub record ListedIs (d d' : List ℕ) (x : Listed) : Type 0 where
-    pub count : (n : ℕ) → (x ≡ listed.Count n) ↔ (FileOk limits s × (n ≡ length (listing_in (view_of s))) × (3 * n ≤ length d))
-    pub held : (n : ℕ) → x ≡ listed.Count n → d' ≡ flat (listing_in (view_of s)) ++ drop (3 * n) d
+    pub count : (n : ℕ) → (x ≡ Ok n) ↔ (FileOk limits s × (n ≡ length (listing_in (view_of s))) × (3 * n ≤ length d))
+    pub held : (n : ℕ) → x ≡ Ok n → d' ≡ flat (listing_in (view_of s)) ++ drop (3 * n) d
 
   -- a part of it, from the pair numbered `from` on, from 0, as far as the lent list has room
   pub record PartIs (from : ℕ) (d d' : List ℕ) (x : Listed) : Type 0 where
-    pub count : (n : ℕ) → (x ≡ listed.Count n) ↔ (FileOk limits s × (n ≡ length (listing_in (view_of s))))
-    pub held : (n : ℕ) → x ≡ listed.Count n → d' ≡ part_in (listing_in (view_of s)) from d
+    pub count : (n : ℕ) → (x ≡ Ok n) ↔ (FileOk limits s × (n ≡ length (listing_in (view_of s))))
+    pub held : (n : ℕ) → x ≡ Ok n → d' ≡ part_in (listing_in (view_of s)) from d
 
   -- ---- "The verdict: the first pierced pair in listing order; if none, the lowest vertex of A enclosed by B; if none, the lowest vertex
   -- of B enclosed by A; else apart"
@@ -91,11 +85,11 @@ module _ (s : List ℕ) where
     pub none_lower : (i : ℕ) → Of i → i < p → ¬ Enclosed s i
 
   pub record VerdictIs : Type 0 where
-    pub cross : (u v f : ℕ) → (verdict_of s ≡ verdict.Cross u v f) ↔ (FileOk limits s × FirstPair (record { low = u; high = v; face = f }))
-    pub a_in_b_law : (p : ℕ) → (verdict_of s ≡ verdict.AInB p) ↔ (FileOk limits s × NonePierced × LowestEnclosed (VertexOfA s) p)
+    pub cross : (u v f : ℕ) → (verdict_of s ≡ Ok (verdict.Cross u v f)) ↔ (FileOk limits s × FirstPair (record { low = u; high = v; face = f }))
+    pub a_in_b_law : (p : ℕ) → (verdict_of s ≡ Ok (verdict.AInB p)) ↔ (FileOk limits s × NonePierced × LowestEnclosed (VertexOfA s) p)
     pub b_in_a_law : (p : ℕ) →
-        (verdict_of s ≡ verdict.BInA p) ↔ (FileOk limits s × NonePierced × NoneEnclosed (VertexOfA s) × LowestEnclosed (VertexOfB s) p)
-    pub apart : (verdict_of s ≡ verdict.Apart) ↔ (FileOk limits s × NonePierced × NoneEnclosed (VertexOfA s) × NoneEnclosed (VertexOfB s))
+        (verdict_of s ≡ Ok (verdict.BInA p)) ↔ (FileOk limits s × NonePierced × NoneEnclosed (VertexOfA s) × LowestEnclosed (VertexOfB s) p)
+    pub apart : (verdict_of s ≡ Ok verdict.Apart) ↔ (FileOk limits s × NonePierced × NoneEnclosed (VertexOfA s) × NoneEnclosed (VertexOfB s))
 
   -- ---- "bit k-1 is set exactly when the solid's k-th face is pierced, with the number of its ones", now "two words of 64 bits"
 
@@ -116,8 +110,8 @@ module _ (s : List ℕ) where
   pub record EnclosedIs : Type 0 where
     pub of_a : (i : ℕ) → VertexOfA s i → Enclosed s i ↔ Odd (Pierces s i (far_point s)) (numbered (faces_in_a s + 1) (faces_in_b s))
     pub of_b : (i : ℕ) → VertexOfB s i → Enclosed s i ↔ Odd (Pierces s i (far_point s)) (numbered 1 (faces_in_a s))
-    pub yes : (i : ℕ) → (enclosed_of s i ≡ answer.Yes) ↔ (FileOk limits s × Vertex s i × Enclosed s i)
-    pub no : (i : ℕ) → (enclosed_of s i ≡ answer.No) ↔ (FileOk limits s × Vertex s i × ¬ Enclosed s i)
+    pub yes : (i : ℕ) → (enclosed_of s i ≡ Ok true) ↔ (FileOk limits s × Vertex s i × Enclosed s i)
+    pub no : (i : ℕ) → (enclosed_of s i ≡ Ok false) ↔ (FileOk limits s × Vertex s i × ¬ Enclosed s i)
 
   -- ---- "vertices of A enclosed by B, then of B by A", "the listing's count"
 
@@ -128,8 +122,8 @@ module _ (s : List ℕ) where
 
   -- one of the two
   pub record InsideIs (n : ℕ) : Type 0 where
-    pub of_a : (inside_of s 1 ≡ enclosing.Count n) ↔ (FileOk limits s × Number (Enclosed s) (numbered 1 (verts_a s)) n)
-    pub of_b : (inside_of s 2 ≡ enclosing.Count n) ↔ (FileOk limits s × Number (Enclosed s) (numbered (verts_a s + 1) (verts_b s)) n)
+    pub of_a : (inside_of s 1 ≡ Ok n) ↔ (FileOk limits s × Number (Enclosed s) (numbered 1 (verts_a s)) n)
+    pub of_b : (inside_of s 2 ≡ Ok n) ↔ (FileOk limits s × Number (Enclosed s) (numbered (verts_a s + 1) (verts_b s)) n)
 
   -- ---- "The answer is the four terms and the sign of the first that is not zero"; piercing for u, v and a face
 
@@ -140,17 +134,17 @@ module _ (s : List ℕ) where
     pub sign : positive ≡ positive_at (row (tables_of s)) a b c d
 
   pub record PiercesIs (u v f : ℕ) : Type 0 where
-    pub yes : (pierces_of s u v f ≡ answer.Yes) ↔ (FileOk limits s × EdgeAndFace s u v f × ¬ AlikeOrCorner s u v f × Pierces s u v f)
-    pub no : (pierces_of s u v f ≡ answer.No) ↔ (FileOk limits s × EdgeAndFace s u v f × ¬ AlikeOrCorner s u v f × ¬ Pierces s u v f)
+    pub yes : (pierces_of s u v f ≡ Ok true) ↔ (FileOk limits s × EdgeAndFace s u v f × ¬ AlikeOrCorner s u v f × Pierces s u v f)
+    pub no : (pierces_of s u v f ≡ Ok false) ↔ (FileOk limits s × EdgeAndFace s u v f × ¬ AlikeOrCorner s u v f × ¬ Pierces s u v f)
 
 -- ---- the demand, of any bytes
 
 pub record Exact (s : List ℕ) : Type 0 where
-  pub accepted : (judged s ≡ Accepted) ↔ FileOk limits s
+  pub accepted : (judged s ≡ Ok tt) ↔ FileOk limits s
   -- and exactly when it is the file of tables that keep the rules
-  pub files : Bytes s → (judged s ≡ Accepted) ↔ FileOf limits s
+  pub files : Bytes s → (judged s ≡ Ok tt) ↔ FileOf limits s
   pub sign : (a b c d : ℕ) (t : Terms) (positive : Bool) →
-      (sign_of s a b c d ≡ sign.Sign t positive) ↔ (FileOk limits s × SignIs s a b c d t positive)
+      (sign_of s a b c d ≡ Ok (t, positive)) ↔ (FileOk limits s × SignIs s a b c d t positive)
   pub pierces : (u v f : ℕ) → PiercesIs s u v f
   pub masks : (u v mask ones : ℕ) → MasksAre s u v mask ones
   pub enclosed : EnclosedIs s
@@ -159,4 +153,4 @@ pub record Exact (s : List ℕ) : Type 0 where
   pub listed : (d d' : List ℕ) (x : Listed) → IsListed s d d' x → ListedIs s d d' x
   pub part : (from : ℕ) (d d' : List ℕ) (x : Listed) → IsPart s from d d' x → PartIs s from d d' x
   pub inside : (n : ℕ) → InsideIs s n
-  pub counts : (c : Counts) → (counted_of s ≡ counted.Counts c) ↔ (FileOk limits s × CountsAre s c)
+  pub counts : (c : Counts) → (counted_of s ≡ Ok c) ↔ (FileOk limits s × CountsAre s c)

@@ -1,7 +1,7 @@
 -- What the change requests left as it was: scenes accepted before, by what the definitions were, are accepted still, with the same answers.
 -- Assumes nothing.
 pub mod Before
-use Rattle.std.specs.Prelude.{◌≡◌, Bool, List, ℕ, ◌+◌, ◌≤◌, ◌<◌, ℤ, pos, ◌+ℤ◌, ◌-ℤ◌, ◌*ℤ◌, length}
+use Rattle.std.specs.Prelude.{◌≡◌, Bool, List, ℕ, ◌+◌, ◌≤◌, ◌<◌, ℤ, pos, ◌+ℤ◌, ◌-ℤ◌, ◌*ℤ◌, length, Ok, Err}
 use Rattle.laws.specs.Lists.{Number}
 use Rattle.scene.specs.Limits.{limits, limits_before}
 use Rattle.scene.specs.Records.{faces_in_a, verts, faces, last_record}
@@ -11,7 +11,6 @@ use Rattle.scene.specs.Faces.{Both, Sides}
 use Rattle.scene.specs.declared.Face.{Face}
 use Rattle.scene.specs.declared.Refusal.TheVariants.{Counts}
 use Rattle.judge.specs.Judge.{judged_at, judged}
-use Rattle.judge.specs.declared.Judged.TheVariants.{Accepted, Refused}
 use Rattle.rules.specs.Rules.{CountsOk, HeaderOk, MarkOk, CoordinatesOk, WeightIn, CornersOk, RecordsOk, AllUsed, SidesOk}
 use Rattle.laws.specs.Sign.{sign, ◌or◌}
 use Rattle.orient.specs.Terms.{Numbered, Powers, powers, is_plus, positive_at, terms_at}
@@ -20,9 +19,7 @@ use Rattle.pierce.specs.Formula.{pierces, pierced}
 use Rattle.questions.specs.WritePairs.{part_in}
 use Rattle.questions.specs.Answers.{sign_in, pierces_in, masked_in, enclosed_in, counts_in, enclosing_in, verdict_in, listing_in, listed_in, held_in}
 use Rattle.questions.specs.Answers.{sign_of, pierces_of, masked_of, enclosed_of, counted_of, inside_of, verdict_of, IsListed, IsPart}
-use Rattle.questions.specs.declared.Counted.TheVariants as counted
-use Rattle.questions.specs.declared.Listed.{Listed}
-use Rattle.questions.specs.declared.Listed.TheVariants as listed
+use Rattle.questions.specs.Types.{Listed}
 use Rattle.theorem_demands.specs.Words.{FourPoints}
 use Rattle.theorem_demands.specs.Kept.Before.{judged_before}
 use Rattle.theorem_demands.specs.Witnesses.{printed}
@@ -35,15 +32,15 @@ module _ (s : List ℕ) where
     pub pierces : (u v f : ℕ) → pierces_of s u v f ≡ pierces_in (view_of s) u v f
     pub mask : (u v k : ℕ) → masked_of s u v k ≡ masked_in (view_of s) u v k
     pub enclosed : (i : ℕ) → enclosed_of s i ≡ enclosed_in (view_of s) i
-    pub counts : counted_of s ≡ counted.Counts (counts_in (view_of s))
+    pub counts : counted_of s ≡ Ok (counts_in (view_of s))
     pub inside : (k : ℕ) → inside_of s k ≡ enclosing_in (view_of s) k
-    pub verdict : verdict_of s ≡ verdict_in (view_of s)
+    pub verdict : verdict_of s ≡ Ok (verdict_in (view_of s))
     pub listing : (d d' : List ℕ) (r : Listed) → IsListed s d d' r → (r ≡ listed_in (view_of s) d) × (d' ≡ held_in (view_of s) d)
     pub part : (from : ℕ) (d d' : List ℕ) (r : Listed) → IsPart s from d d' r →
-        (r ≡ listed.Count (length (listing_in (view_of s)))) × (d' ≡ part_in (listing_in (view_of s)) from d)
+        (r ≡ Ok (length (listing_in (view_of s)))) × (d' ≡ part_in (listing_in (view_of s)) from d)
 
   pub record Still : Type 0 where
-    pub accepted : judged s ≡ Accepted
+    pub accepted : judged s ≡ Ok tt
     pub answers : Answers
 
   -- ---- before two blocks might share an edge: each side of the file's face i was an edge in exactly two faces of its solid
@@ -62,8 +59,8 @@ module _ (s : List ℕ) where
 
   pub record SmallerLimits : Type 0 where
     pub judged_alike : CountsOk limits_before s → judged_at limits_before s ≡ judged s
-    pub accepted_still : judged_at limits_before s ≡ Accepted → Still
-    pub refused_then : judged s ≡ Accepted → ¬ CountsOk limits_before s → judged_at limits_before s ≡ Refused Counts
+    pub accepted_still : judged_at limits_before s ≡ Ok tt → Still
+    pub refused_then : judged s ≡ Ok tt → ¬ CountsOk limits_before s → judged_at limits_before s ≡ Err Counts
 
   -- ---- before the far point might have weight 0: every weight was from 1 to its limit in size, and there was no 14
 
@@ -116,5 +113,5 @@ FarAtInfinity = (s : List ℕ) → RulesOfWeights s → AllWeighted s
 -- ---- before all of them: what the judge of document 01 accepted, its printed scene among it
 
 pub record FirstKernel : Type 0 where
-  pub kept : (s : List ℕ) → judged_before s ≡ Accepted → AllWeighted s
-  pub printed_scene : judged_before printed ≡ Accepted
+  pub kept : (s : List ℕ) → judged_before s ≡ Ok tt → AllWeighted s
+  pub printed_scene : judged_before printed ≡ Ok tt

@@ -2,18 +2,15 @@
 -- 6, each has two faces on the same three corners, and the far point is 7. Assumes nothing.
 pub mod Scenes
 pub mod Computing
-use Rattle.std.specs.Prelude.{◌≡◌, Bool, true, false, List, [], ◌∷◌, ℕ, zero, suc, ℤ, pos, negsuc}
+use Rattle.std.specs.Prelude.{◌≡◌, Bool, true, false, List, [], ◌∷◌, ℕ, zero, suc, ℤ, pos, negsuc, Ok, Err}
 use Rattle.scene.specs.Tables.{tables_of, face}
 use Rattle.scene.specs.declared.Row.{Row}
 use Rattle.judge.specs.Judge.{judged}
-use Rattle.judge.specs.declared.Judged.TheVariants.{Accepted}
 use Rattle.rules.specs.Write.{bytes_of}
 use Rattle.pierce.specs.Formula.{helper}
 use Rattle.questions.specs.Answers.{sign_of, pierces_of}
-use Rattle.questions.specs.declared.Signed.{Signed}
-use Rattle.questions.specs.declared.Signed.TheVariants.{Sign, Refused}
-use Rattle.questions.specs.declared.Answer.{Answer}
-use Rattle.questions.specs.declared.Answer.TheVariants.{Yes, No}
+use Rattle.questions.specs.Types.{Signed}
+use Rattle.questions.specs.Types.{Answer}
 use Rattle.theorem_demands.specs.Marked.Scenes.{minus, weighted, at, twice, scene}
 
 -- the scene of six points
@@ -25,8 +22,8 @@ six p1 p2 p3 p4 p5 p6 =
 
 -- the terms that are answered, as far as the first that is not zero, and whether that one is positive
 abbrev pub leading : Signed → List ℤ
-leading (Refused r) = []
-leading (Sign t positive) = upto (t.c0 ∷ t.c1 ∷ t.c2 ∷ t.c3 ∷ [])
+leading (Err r) = []
+leading (Ok (t, positive)) = upto (t.c0 ∷ t.c1 ∷ t.c2 ∷ t.c3 ∷ [])
   where
     upto : List ℤ → List ℤ
     upto [] = []
@@ -35,15 +32,15 @@ leading (Sign t positive) = upto (t.c0 ∷ t.c1 ∷ t.c2 ∷ t.c3 ∷ [])
     upto (negsuc n ∷ l) = negsuc n ∷ []
 
 abbrev pub is_positive : Signed → Bool
-is_positive (Refused r) = false
-is_positive (Sign t positive) = positive
+is_positive (Err r) = false
+is_positive (Ok (t, positive)) = positive
 
 -- the four points are points 1 to 4 of a scene
 abbrev pub four_of : (p1 p2 p3 p4 : Row) → List ℕ
 four_of p1 p2 p3 p4 = six p1 p2 p3 p4 (at (pos 1) (pos 2) (pos 4)) (at (pos 1) (pos 3) (pos 9))
 
 pub record SignIs (s : List ℕ) (a b c d : ℕ) (terms : List ℤ) (positive : Bool) : Type 0 where
-  pub accepted : judged s ≡ Accepted
+  pub accepted : judged s ≡ Ok tt
   pub leads : leading (sign_of s a b c d) ≡ terms
   pub sign : is_positive (sign_of s a b c d) ≡ positive
 
@@ -54,7 +51,7 @@ abbrev pub edge_of : (p5 p6 : Row) → List ℕ
 edge_of p5 p6 = six (at (pos 0) (pos 0) (pos 0)) (at (pos 4) (pos 0) (pos 0)) (at (pos 0) (pos 4) (pos 0)) (at (pos 0) (pos 0) (pos 4)) p5 p6
 
 pub record PiercedIs (s : List ℕ) (answer : Answer) : Type 0 where
-  pub accepted : judged s ≡ Accepted
+  pub accepted : judged s ≡ Ok tt
   pub helps : helper 7 5 6 (face (tables_of s) 1) ≡ 4
   pub pierced : pierces_of s 5 6 1 ≡ answer
 
@@ -78,8 +75,8 @@ pub record Marked : Type 0 where
       (pos 0 ∷ pos 0 ∷ pos 0 ∷ pos 12 ∷ []) true
   pub s8 : SignIs (four_of (at (pos 0) (pos 0) (pos 0)) (weighted (pos 2) (pos 0) (pos 0) (pos 2)) (at (pos 0) (pos 1) (pos 0))
       (at (pos 1) (pos 1) (pos 0))) 1 2 3 4 (pos 0 ∷ minus 60 ∷ []) false
-  pub e1 : PiercedIs (edge_of (at (pos 1) (pos 1) (minus 3)) (at (pos 1) (pos 1) (pos 1))) Yes
-  pub e2 : PiercedIs (edge_of (at (pos 1) (pos 1) (minus 3)) (weighted (minus 1) (minus 1) (minus 1) (minus 1))) No
-  pub e3 : PiercedIs (edge_of (at (pos 5) (pos 5) (minus 3)) (at (pos 5) (pos 5) (pos 1))) No
-  pub e4 : PiercedIs (edge_of (at (pos 1) (pos 1) (pos 0)) (at (pos 1) (pos 1) (pos 1))) No
-  pub e5 : PiercedIs (edge_of (at (pos 1) (pos 1) (pos 0)) (at (pos 1) (pos 1) (minus 1))) Yes
+  pub e1 : PiercedIs (edge_of (at (pos 1) (pos 1) (minus 3)) (at (pos 1) (pos 1) (pos 1))) (Ok true)
+  pub e2 : PiercedIs (edge_of (at (pos 1) (pos 1) (minus 3)) (weighted (minus 1) (minus 1) (minus 1) (minus 1))) (Ok false)
+  pub e3 : PiercedIs (edge_of (at (pos 5) (pos 5) (minus 3)) (at (pos 5) (pos 5) (pos 1))) (Ok false)
+  pub e4 : PiercedIs (edge_of (at (pos 1) (pos 1) (pos 0)) (at (pos 1) (pos 1) (pos 1))) (Ok false)
+  pub e5 : PiercedIs (edge_of (at (pos 1) (pos 1) (pos 0)) (at (pos 1) (pos 1) (minus 1))) (Ok true)

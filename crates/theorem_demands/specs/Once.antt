@@ -2,7 +2,7 @@
 -- second answer, nor second contents of a lent place. Bytes that are shown are said by what they hold, an array is as long as its type
 -- says, and the words of a mask are below 2 ^ 64 as theirs says. The tables lent to a survey are determined up to the edges that it counts.
 -- `limits_agree` answers nothing. Assumes nothing.
-use Rattle.std.specs.Prelude.{◌≡◌, Bool, List, ℕ, ◌*◌, ◌^◌, ◌<◌, ℤ, length, get_or}
+use Rattle.std.specs.Prelude.{◌≡◌, Bool, List, ℕ, ◌*◌, ◌^◌, ◌<◌, ℤ, length, get_or, Ok, Err}
 use Rattle.std.specs.Int.Count.{ones}
 use Rattle.laws.specs.Unique.{Once}
 use Rattle.scene.specs.Limits.{within}
@@ -18,7 +18,7 @@ use Rattle.scene.specs.declared.Scene.{Scene}
 use Rattle.scene.specs.declared.Row.{Row}
 use Rattle.scene.specs.declared.Face.{Face}
 use Rattle.judge.specs.Judge.{judged}
-use Rattle.judge.specs.declared.Judged.{Judged}
+use Rattle.judge.specs.Judge.{Judged}
 use Rattle.record.specs.Shown.{refusal, shown}
 use Rattle.orient.specs.Terms.{positive_at, terms_at}
 use Rattle.orient.specs.declared.Terms.{Terms}
@@ -30,21 +30,21 @@ use Rattle.pierce_masks.specs.declared.Mask.{Mask}
 use Rattle.pierce_plain.specs.Five.{five_signs}
 use Rattle.survey.specs.declared.SolidSurvey.{SolidSurvey}
 use Rattle.survey_first.specs.declared.FirstOrEnclosed.{FirstOrEnclosed}
-use Rattle.questions.specs.declared.Enclosing.{Enclosing}
+use Rattle.questions.specs.Types.{Enclosing}
 use Rattle.questions.specs.Answers.{is_point, sign_of, pierces_of, said_mask, masked_of, enclosed_of, counted_of}
 use Rattle.questions.specs.Answers.{verdict_of, IsListed, IsPart, inside_of}
 use Rattle.questions.specs.Answers.{verdict_in, listing_in}
 use Rattle.survey_scene.specs.Facts.{IsSurvey}
 use Rattle.questions.specs.Listings.{PouredIf}
 use Rattle.survey_scene.specs.Surveys.{SurveyIs, FirstOrEnclosedIs}
-use Rattle.questions.specs.declared.Signed.{Signed}
-use Rattle.questions.specs.declared.Answer.{Answer}
-use Rattle.questions.specs.declared.Masked.{Masked}
-use Rattle.questions.specs.declared.Masked.TheVariants.{Refused, Faces}
-use Rattle.questions.specs.declared.Counted.{Counted}
+use Rattle.questions.specs.Types.{Signed}
+use Rattle.questions.specs.Types.{Answer}
+use Rattle.questions.specs.Types.{Masked}
+use Rattle.questions.specs.Types.{Counted}
+use Rattle.questions.specs.Types.{Concluded}
 use Rattle.questions.specs.declared.Verdict.{Verdict}
-use Rattle.questions.specs.declared.Listed.{Listed}
-use Rattle.questions.specs.declared.Surveyed.{Surveyed}
+use Rattle.questions.specs.Types.{Listed}
+use Rattle.questions.specs.Types.{Surveyed}
 
 -- the same, among answers that are lists of one length
 abbrev pub OnceOfLength : {A B : Type 0} → (A → List B → Type 0) → Type 0
@@ -58,8 +58,8 @@ abbrev pub Words : Mask → Type 0
 Words m = (m.low < 2 ^ 64) × (m.high < 2 ^ 64)
 
 abbrev pub WordsSaid : Masked → Type 0
-WordsSaid (Refused r) = Unit {0}
-WordsSaid (Faces m n) = Words m
+WordsSaid (Err r) = Unit {0}
+WordsSaid (Ok (m, n)) = Words m
 
 -- what a survey leaves of one solid: its part of the answer, and the table of its edges
 pub record Table : Type 0 where
@@ -131,7 +131,7 @@ pub record KernelOnce : Type 0 where
   pub enclosed : (i : ℕ) → Once (λ (s : List ℕ) (r : Answer). r ≡ enclosed_of s i)
   pub count : Once (λ (s : List ℕ) (r : Counted). r ≡ counted_of s)
   pub inside : (k : ℕ) → Once (λ (s : List ℕ) (r : Enclosing). r ≡ inside_of s k)
-  pub verdict_of_law : Once (λ (s : List ℕ) (r : Verdict). r ≡ verdict_of s)
+  pub verdict_of_law : Once (λ (s : List ℕ) (r : Concluded). r ≡ verdict_of s)
   pub listing : (s : List ℕ) → Once (λ (out : List ℕ) (left : List ℕ × Listed). IsListed s out left.0 left.1)
   pub listing_part : (s : List ℕ) (from : ℕ) → Once (λ (out : List ℕ) (left : List ℕ × Listed). IsPart s from out left.0 left.1)
 

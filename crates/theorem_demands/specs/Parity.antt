@@ -2,14 +2,13 @@
 -- of that solid: the ones of the three masks add up to an even number. And the route: the oddness from u to v is that from u to w plus that
 -- from v to w. The same is said of the numbers of pierced faces. It holds with any limits; with this kernel's, the masks are those of the
 -- public question. Assumes nothing.
-use Rattle.std.specs.Prelude.{◌≡◌, ◌≢◌, List, [], ◌∷◌, ℕ, ◌+◌, ◌%◌}
+use Rattle.std.specs.Prelude.{◌≡◌, ◌≢◌, List, [], ◌∷◌, ℕ, ◌+◌, ◌%◌, Ok}
 use Rattle.std.specs.Int.Count.{ones}
 use Rattle.laws.specs.Bools.{◌⊕◌}
 use Rattle.laws.specs.Lists.{Each, Number}
 use Rattle.scene.specs.Limits.{Limits, limits}
 use Rattle.scene.specs.View.{view_of, solid}
 use Rattle.judge.specs.Judge.{judged_at}
-use Rattle.judge.specs.declared.Judged.TheVariants.{Accepted}
 use Rattle.pierce_masks.specs.Faces.{is_odd}
 use Rattle.questions.specs.Answers.{mask_in, faces_are, masked_of}
 use Rattle.theorem_demands.specs.Words.{SolidNumber, Point, VertexOf, Pierces}
@@ -22,7 +21,7 @@ pub record Outside (s : List ℕ) (k u v w : ℕ) : Type 0 where
 
 -- X, of every scene that is accepted with the limits l, either solid and three such numbers
 abbrev Always : Limits → (List ℕ → (k u v w : ℕ) → Type 0) → Type 0
-Always l X = (s : List ℕ) → judged_at l s ≡ Accepted → (k : ℕ) → SolidNumber k → (u v w : ℕ) → Outside s k u v w → X s k u v w
+Always l X = (s : List ℕ) → judged_at l s ≡ Ok tt → (k : ℕ) → SolidNumber k → (u v w : ℕ) → Outside s k u v w → X s k u v w
 
 -- demand 3
 abbrev pub Parity : Limits → Type 0

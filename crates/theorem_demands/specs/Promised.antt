@@ -3,19 +3,16 @@
 -- `Exact`, `Parity` and `Once` are about. A contract that says less does not give it. The arguments are in the function's own order and by
 -- its own names, those with ' as they are at the exit; κs are its lifetimes, r is the answer, and e stands for all arguments at the exit.
 -- The statement is `Contracts`, at the end; its proof is `Promised.Proof.contracts`. Assumes nothing.
-use Rattle.std.specs.Prelude.{◌≡◌, true, List, ◌↔◌, ℕ}
+use Rattle.std.specs.Prelude.{◌≡◌, true, List, ◌↔◌, ℕ, Ok, Err}
 use Rattle.scene.specs.declared.Refusal.{Refusal}
 use Rattle.judge.specs.Judge.{judged}
-use Rattle.judge.specs.declared.Judged.TheVariants as judgement
 use Rattle.judge.proofs.judge.Reads as judge
 use Rattle.record.specs.Shown.{refusal, shown}
 use Rattle.record.proofs.record.Reads as record_shown
 use Rattle.record.proofs.record_refusal.Reads as record_refusal
 use Rattle.questions.specs.Answers.{sign_of, pierces_of, said_mask, masked_of, enclosed_of, counted_of, inside_of, verdict_of, IsListed, IsPart}
-use Rattle.questions.specs.declared.Counted.TheVariants as counted
 use Rattle.questions.specs.declared.Facts.{Facts}
-use Rattle.questions.specs.declared.Surveyed.TheVariants as surveyed
-use Rattle.questions.specs.declared.Listed.{Listed}
+use Rattle.questions.specs.Types.{Listed}
 use Rattle.kernel.proofs.points.is_point.Reads as is_point_law
 use Rattle.kernel.proofs.points.sign.Reads as sign
 use Rattle.kernel.proofs.points.pierces.Reads as pierces
@@ -33,8 +30,8 @@ use Rattle.theorem_demands.specs.Surveys.{AreWords}
 
 -- everything at once, of an accepted scene: what each question alone answers and leaves
 pub record AtOnce (s d d' : List ℕ) (f : Facts) : Type 0 where
-  pub verdict : f.verdict ≡ verdict_of s
-  pub counts : counted.Counts f.counts ≡ counted_of s
+  pub verdict : Ok f.verdict ≡ verdict_of s
+  pub counts : Ok f.counts ≡ counted_of s
   pub inside : AreWords s f.a_inside f.b_inside
   pub listed : (l : Listed) × IsListed s d d' l
 
@@ -57,11 +54,11 @@ pub record Contracts : Type 0 where
   pub listing_part_is : (κs engine s from out r engine' s' from' out' : _) →
       listing_part.Post κs (engine ▸ s ▸ from ▸ out ▸ tt) r (engine' ▸ s' ▸ from' ▸ out' ▸ tt) → IsPart s.now from out.now out'.now r
   pub survey_refused : (κs engine s out r engine' s' out' : _) →
-      survey.Post κs (engine ▸ s ▸ out ▸ tt) r (engine' ▸ s' ▸ out' ▸ tt) → (q : Refusal) → judged s.now ≡ judgement.Refused q →
-      (r ≡ surveyed.Refused q) × (out'.now ≡ out.now)
+      survey.Post κs (engine ▸ s ▸ out ▸ tt) r (engine' ▸ s' ▸ out' ▸ tt) → (q : Refusal) → judged s.now ≡ Err q →
+      (r ≡ Err q) × (out'.now ≡ out.now)
   pub survey_told : (κs engine s out r engine' s' out' : _) →
-      survey.Post κs (engine ▸ s ▸ out ▸ tt) r (engine' ▸ s' ▸ out' ▸ tt) → judged s.now ≡ judgement.Accepted →
-      (f : Facts) × (r ≡ surveyed.Facts f) × AtOnce s.now out.now out'.now f
+      survey.Post κs (engine ▸ s ▸ out ▸ tt) r (engine' ▸ s' ▸ out' ▸ tt) → judged s.now ≡ Ok tt →
+      (f : Facts) × (r ≡ Ok f) × AtOnce s.now out.now out'.now f
 
 -- each of these is an equation of answers: so what an answer says, its number and its values, is what the definition's says
 abbrev pub SaysSame : Type 1

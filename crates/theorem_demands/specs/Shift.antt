@@ -1,12 +1,11 @@
 -- The shift is real. For every accepted scene and every whole N above 3.5 × 10^18 the rows (N·x + k·i, N·y + k·i², N·z + k·i³, w), k the
 -- factor of the shift, have no zero determinant of four different points, and with the sign of that determinant they give the same signs,
 -- masks, enclosed vertices, listing and verdict as the scene does. Assumes nothing.
-use Rattle.std.specs.Prelude.{◌≡◌, ◌≢◌, List, ℕ, ◌<◌, ℤ, pos, ◌+ℤ◌, ◌*ℤ◌}
+use Rattle.std.specs.Prelude.{◌≡◌, ◌≢◌, List, ℕ, ◌<◌, ℤ, pos, ◌+ℤ◌, ◌*ℤ◌, Ok}
 use Rattle.laws.specs.Sign.{sign}
 use Rattle.scene.specs.View.{View, view_of, points}
 use Rattle.scene.specs.declared.Row.{Row}
 use Rattle.judge.specs.Judge.{judged}
-use Rattle.judge.specs.declared.Judged.TheVariants.{Accepted}
 use Rattle.orient.specs.Determinant.{det4}
 use Rattle.orient.specs.Formed.{most_formed}
 use Rattle.orient.specs.Signs.{Upto, Four}
@@ -55,4 +54,4 @@ pub record SameShifted (s : List ℕ) (v : View) (N : ℕ) : Type 0 where
   pub verdict : verdict_in (shifted_view N v) ≡ verdict_in v
 
 abbrev pub Shift : Type 0
-Shift = (s : List ℕ) → judged s ≡ Accepted → (N : ℕ) → most_formed < N → SameShifted s (view_of s) N
+Shift = (s : List ℕ) → judged s ≡ Ok tt → (N : ℕ) → most_formed < N → SameShifted s (view_of s) N

@@ -1,11 +1,10 @@
 -- "Any one record can be shown: the answer is the part of the caller's own bytes from its mark to its last byte." Of every accepted scene:
 -- its records, end to end, are the file, and each has its kind's length and begins with its kind's mark. The statement is `Records`; its
 -- proof is `Shown.Proof.records`. Assumes nothing.
-use Rattle.std.specs.Prelude.{◌≡◌, List, [], ◌++◌, ℕ, zero, suc, ◌+◌, ◌≤◌, ◌<◌, length}
+use Rattle.std.specs.Prelude.{◌≡◌, List, [], ◌++◌, ℕ, zero, suc, ◌+◌, ◌≤◌, ◌<◌, length, Ok}
 use Rattle.scene.specs.Bytes.{two_at}
 use Rattle.scene.specs.Records.{verts, last_record, marksc, markfp, markvx, markfc, marken}
 use Rattle.judge.specs.Judge.{judged}
-use Rattle.judge.specs.declared.Judged.TheVariants.{Accepted}
 use Rattle.record.specs.Shown.{shown}
 
 -- records 0 to n - 1, one behind the other
@@ -27,4 +26,4 @@ pub record RecordsAre (s : List ℕ) : Type 0 where
   pub end : Is (shown s (last_record s)) 2 marken
 
 abbrev pub Records : Type 0
-Records = (s : List ℕ) → judged s ≡ Accepted → RecordsAre s
+Records = (s : List ℕ) → judged s ≡ Ok tt → RecordsAre s

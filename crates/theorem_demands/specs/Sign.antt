@@ -1,11 +1,10 @@
 -- "The answer is the four terms and the sign of the first that is not zero", "c3 is the product of the four weights times Psi, and Psi =
 -- -(product of (later number - earlier number) over the six pairs), never 0", and the slide's rule for the last term: of every accepted
 -- scene and four different points of it. The statement is `Sign`; its proof is `Sign.Proof.signs`. Assumes nothing.
-use Rattle.std.specs.Prelude.{◌≡◌, ◌≢◌, ◌⊎◌, ◌↔◌, true, false, List, [], ◌∷◌, ℕ, suc, ◌+◌, ◌%◌, ℤ, pos, negsuc, neg_ℤ, ◌-ℤ◌, ◌*ℤ◌}
+use Rattle.std.specs.Prelude.{◌≡◌, ◌≢◌, ◌⊎◌, ◌↔◌, true, false, List, [], ◌∷◌, ℕ, suc, ◌+◌, ◌%◌, ℤ, pos, negsuc, neg_ℤ, ◌-ℤ◌, ◌*ℤ◌, Ok}
 use Rattle.scene.specs.View.{view_of}
 use Rattle.scene.specs.declared.Row.{Row}
 use Rattle.judge.specs.Judge.{judged}
-use Rattle.judge.specs.declared.Judged.TheVariants.{Accepted}
 use Rattle.orient.specs.Slide.{out_of_order, negative_weights}
 use Rattle.orient.specs.Terms.{point_at, positive_at, terms_at}
 use Rattle.orient.specs.declared.Terms.{Terms}
@@ -42,4 +41,4 @@ pub record SignIs (row : ℕ → Row) (a b c d : ℕ) : Type 0 where
       + negative_weights (point_at row a) (point_at row b) (point_at row c) (point_at row d)) % 2 ≡ 1)
 
 abbrev pub Sign : Type 0
-Sign = (s : List ℕ) → judged s ≡ Accepted → (a b c d : ℕ) → FourPoints s a b c d → ¬ TwoAlike a b c d → SignIs (view_of s).row a b c d
+Sign = (s : List ℕ) → judged s ≡ Ok tt → (a b c d : ℕ) → FourPoints s a b c d → ¬ TwoAlike a b c d → SignIs (view_of s).row a b c d

@@ -1,18 +1,17 @@
 -- The demands speak of the code (`Promised`), of the functions too that survey a scene once and read answers off its tables: what each
 -- one's own contract says, in the demands' words. Arguments are written as in `Promised`. The statement is `Surveys`, at the end; its
 -- proof is `Surveys.Proof.surveys`. Assumes nothing.
-use Rattle.std.specs.Prelude.{◌≡◌, ◌↔◌, Bool, true, cond, ◌&&◌, List, [], ◌∷◌, ℕ, ◌+◌, ◌/◌, ◌^◌, ◌<◌, ltb, length}
+use Rattle.std.specs.Prelude.{◌≡◌, ◌↔◌, Bool, true, cond, ◌&&◌, List, [], ◌∷◌, ℕ, ◌+◌, ◌/◌, ◌^◌, ◌<◌, ltb, length, Ok}
+use Rattle.std.specs.declared.option.Option.TheVariants as option
 use Rattle.laws.specs.Lists.{Some}
 use Rattle.laws.specs.Mask.{test_bit}
 use Rattle.laws.specs.Rising.{Less, Rising}
 use Rattle.scene.specs.Records.{verts_a, verts_b}
 use Rattle.scene.specs.View.{view_of, solid}
 use Rattle.judge.specs.Judge.{judged}
-use Rattle.judge.specs.declared.Judged.TheVariants.{Accepted}
 use Rattle.questions.specs.Hits.{Hit}
 use Rattle.questions.specs.First.{first_of}
 use Rattle.questions.specs.WritePairs.{part_in}
-use Rattle.questions.specs.declared.find.Found.TheVariants.{Nothing, Pair}
 use Rattle.survey_edges.specs.Table.{Entry, entries_in}
 use Rattle.survey.specs.Survey.{pairs_of}
 use Rattle.survey.specs.declared.Survey.{Survey}
@@ -54,8 +53,8 @@ pub record TablesAre (s ends-a masks-a ends-b masks-b : List ℕ) (t : Survey) :
 -- the first pair; where there is none the words, and where there is one 0
 pub record FirstOrWords (s : List ℕ) (t : FirstOrEnclosed) : Type 0 where
   pub first : t.first ≡ first_of (listing_in (view_of s))
-  pub none : t.first ≡ Nothing → AreWords s t.a t.b
-  pub some : (u v f : ℕ) → t.first ≡ Pair u v f → (t.a ≡ 0) × (t.b ≡ 0)
+  pub none : t.first ≡ option.None → AreWords s t.a t.b
+  pub some : (u v f : ℕ) → t.first ≡ option.Some (u, v, f) → (t.a ≡ 0) × (t.b ≡ 0)
 
 -- the part of the hits l from the one numbered `from` on; where all are asked for and have no room, what the list held
 pub record PartPoured (l : List Hit) (from : ℕ) (all : Bool) (d d' : List ℕ) (r : ℕ) : Type 0 where
@@ -67,13 +66,13 @@ pub record PartPoured (l : List Hit) (from : ℕ) (all : Bool) (d d' : List ℕ)
 pub record Surveys : Type 0 where
   pub survey_of_is : (κs engine s aends amasks bends bmasks r engine' s' aends' amasks' bends' bmasks' : _) →
       survey_of.Post κs (engine ▸ s ▸ aends ▸ amasks ▸ bends ▸ bmasks ▸ tt) r
-      (engine' ▸ s' ▸ aends' ▸ amasks' ▸ bends' ▸ bmasks' ▸ tt) → judged s.now ≡ Accepted →
+      (engine' ▸ s' ▸ aends' ▸ amasks' ▸ bends' ▸ bmasks' ▸ tt) → judged s.now ≡ Ok tt →
       TablesAre s.now aends'.now amasks'.now bends'.now bmasks'.now r
   pub first_or_enclosed_is : (κs engine s r e : _) → first_or_enclosed.Post κs (engine ▸ s ▸ tt) r e → FirstOrWords s.now r
   -- of an accepted scene, the question's verdict
-  pub verdict_by_is : (κs s t r e : _) → verdict_by.Post κs (s ▸ t ▸ tt) r e → judged s.now ≡ Accepted → r ≡ verdict_of s.now
+  pub verdict_by_is : (κs s t r e : _) → verdict_by.Post κs (s ▸ t ▸ tt) r e → judged s.now ≡ Ok tt → Ok r ≡ verdict_of s.now
   pub verdict_read_is : (κs t s aends amasks bends bmasks r e : _) →
-      verdict_read.Post κs (t ▸ s ▸ aends ▸ amasks ▸ bends ▸ bmasks ▸ tt) r e → judged s.now ≡ Accepted → r ≡ verdict_of s.now
+      verdict_read.Post κs (t ▸ s ▸ aends ▸ amasks ▸ bends ▸ bmasks ▸ tt) r e → judged s.now ≡ Ok tt → Ok r ≡ verdict_of s.now
   pub write_read_is : (κs t s aends amasks bends bmasks from all out r t' s' aends' amasks' bends' bmasks' from' all' out' : _) →
       write_read.Post κs (t ▸ s ▸ aends ▸ amasks ▸ bends ▸ bmasks ▸ from ▸ all ▸ out ▸ tt) r
       (t' ▸ s' ▸ aends' ▸ amasks' ▸ bends' ▸ bmasks' ▸ from' ▸ all' ▸ out' ▸ tt) →

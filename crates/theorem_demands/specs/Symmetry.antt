@@ -1,10 +1,9 @@
 -- Piercing is of an edge and a face, however they are named: it does not change when the ends are exchanged, when the corners are taken
 -- round, or when they are taken the other way. The statement is `Symmetry`; its proof is `Symmetry.Proof.symmetry`. Assumes nothing.
-use Rattle.std.specs.Prelude.{◌≡◌, List, ℕ}
+use Rattle.std.specs.Prelude.{◌≡◌, List, ℕ, Ok}
 use Rattle.scene.specs.View.{View, view_of, points}
 use Rattle.scene.specs.declared.Face.{Face}
 use Rattle.judge.specs.Judge.{judged}
-use Rattle.judge.specs.declared.Judged.TheVariants.{Accepted}
 use Rattle.pierce.specs.Beside.{Beside}
 use Rattle.pierce.specs.Formula.{pierced}
 
@@ -22,4 +21,4 @@ pub record Symmetric (v : View) (a b : ℕ) (f : Face) : Type 0 where
 
 -- of every accepted scene, and an edge and a face of five different points
 abbrev pub Symmetry : Type 0
-Symmetry = (s : List ℕ) → judged s ≡ Accepted → (a b : ℕ) (f : Face) → Beside (points (view_of s)) a b f → Symmetric (view_of s) a b f
+Symmetry = (s : List ℕ) → judged s ≡ Ok tt → (a b : ℕ) (f : Face) → Beside (points (view_of s)) a b f → Symmetric (view_of s) a b f

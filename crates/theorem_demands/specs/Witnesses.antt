@@ -1,15 +1,13 @@
 -- One accepted scene for each verdict, so that no demand is about nothing: the printed scene, which crosses, and a small solid beside,
 -- within and around another; and the printed scene with a direction as far point, and with an edge of A in four faces. Assumes nothing.
-use Rattle.std.specs.Prelude.{◌≡◌, List, [], ◌∷◌, ℕ, pos, length}
+use Rattle.std.specs.Prelude.{◌≡◌, List, [], ◌∷◌, ℕ, pos, length, Ok}
 use Rattle.scene.specs.Tables.{Table}
 use Rattle.judge.specs.Judge.{judged}
-use Rattle.judge.specs.declared.Judged.TheVariants.{Accepted}
 use Rattle.rules.specs.Write.{bytes_of}
 use Rattle.questions.specs.Hits.{Hit}
 use Rattle.scene.specs.View.{view_of}
 use Rattle.questions.specs.Answers.{counted_of, verdict_of, listing_in}
 use Rattle.questions.specs.declared.Counts.{Counts}
-use Rattle.questions.specs.declared.Counted.TheVariants as counted
 use Rattle.questions.specs.declared.Verdict.{Verdict}
 use Rattle.questions.specs.declared.Verdict.TheVariants.{Cross, AInB, BInA, Apart}
 use Rattle.theorem_demands.specs.Marked.Scenes.{minus, at, corners, four, scene, scene_to}
@@ -81,10 +79,10 @@ numbers p a b = record { pairs = p; a_in_b = a; b_in_a = b }
 
 pub record Witness (s : List ℕ) (pairs : List Hit) (a b : ℕ) (v : Verdict) : Type 0 where
   pub long : length s ≡ 129
-  pub accepted : judged s ≡ Accepted
+  pub accepted : judged s ≡ Ok tt
   pub listing : listing_in (view_of s) ≡ pairs
-  pub counts : counted_of s ≡ counted.Counts (numbers (length pairs) a b)
-  pub verdict : verdict_of s ≡ v
+  pub counts : counted_of s ≡ Ok (numbers (length pairs) a b)
+  pub verdict : verdict_of s ≡ Ok v
 
 pub record Witnesses : Type 0 where
   pub cross : Witness printed (hit 5 6 1 ∷ hit 5 7 1 ∷ hit 5 8 1 ∷ []) 0 1 (Cross 5 6 1)

@@ -1,6 +1,6 @@
 -- With A and B exchanged a mask, an enclosed vertex and the number of them are answered as before, and refused as before, whatever numbers
 -- they are asked with. Assumes nothing.
-use Rattle.std.specs.Prelude.{◌≡◌, Bool, true, ◌&&◌, List, ℕ, ◌+◌, ◌<◌, leb}
+use Rattle.std.specs.Prelude.{◌≡◌, Bool, true, ◌&&◌, List, ℕ, ◌+◌, ◌<◌, leb, Ok, Err}
 use Rattle.std.proofs.Math.Path.{refl, sym, ap, ap₂}
 use Rattle.std.proofs.Common.{◌∙◌, arith}
 use Rattle.std.proofs.Math.Bool.{not, cond}
@@ -12,15 +12,12 @@ use Rattle.scene.specs.View.{view_of, solid}
 use Rattle.scene.specs.declared.Refusal.TheVariants.{NoSuchNumber}
 use Rattle.judge.specs.Judge.{refuse_unless, judged}
 use Rattle.judge.specs.Laws.{rule_ok}
-use Rattle.judge.specs.declared.Judged.TheVariants.{Accepted}
 use Rattle.orient.specs.Signs.{Upto}
 use Rattle.pierce_masks.specs.Faces.{is_odd}
-use Rattle.questions.specs.Answers.{yes_no, is_point, is_vertex, is_solid, is_vertex_of, ends_off_solid, mask_in, refused, masked_of}
+use Rattle.questions.specs.Answers.{is_point, is_vertex, is_solid, is_vertex_of, ends_off_solid, mask_in, refused, masked_of}
 use Rattle.questions.specs.Answers.{other_solid, is_enclosed, enclosed_fault, enclosed_in, enclosed_of, inside_in}
 use Rattle.questions.specs.Answers.{inside_fault, enclosing_in, inside_of}
 use Rattle.questions.specs.Asked.{Outside, enclosed_vertex_law, far_outside}
-use Rattle.questions.specs.declared.Answer.TheVariants as answer
-use Rattle.questions.specs.declared.Enclosing.TheVariants as enclosing
 use Rattle.theorem_lecture.specs.Lecture.{points_of}
 use Rattle.theorem_lecture.specs.Exchange.{exchanged, to, face_to, solid_to, Exchanged, NoTies, seen_of, in_a, in_b}
 use Rattle.theorem_lecture.proofs.Numbers.{of_a, of_b, within_all, within_a, within_b, apart}
@@ -41,7 +38,7 @@ solid_same : (k : ℕ) → is_solid (solid_to k) ≡ is_solid k
 unfolding is_solid
 solid_same k = within_all 1 1 2 k (omega arith)
 
-module _ (s t : List ℕ) (ok : judged s ≡ Accepted) (ok' : judged t ≡ Accepted) (h : Exchanged s t) (ties : NoTies s) where
+module _ (s t : List ℕ) (ok : judged s ≡ Ok tt) (ok' : judged t ≡ Ok tt) (h : Exchanged s t) (ties : NoTies s) where
   abbrev n : ℕ
   n = points_of s
 
@@ -134,12 +131,12 @@ module _ (s t : List ℕ) (ok : judged s ≡ Accepted) (ok' : judged t ≡ Accep
   enclosed_same : (i : ℕ) → enclosed_in (view_of t) (to s i) ≡ enclosed_in (view_of s) i
   unfolding enclosed_in enclosed_fault
   enclosed_same i =
-      answered_same answer.Refused (ap (λ (b : Bool). refuse_unless b NoSuchNumber Accepted) (is_vertex_law i))
-      (λ e. ap yes_no (odd_same i (enclosed_vertex_law (view_of s) i e)))
+      answered_same Err (ap (λ (b : Bool). refuse_unless b NoSuchNumber (Ok tt)) (is_vertex_law i))
+      (λ e. ap Ok (odd_same i (enclosed_vertex_law (view_of s) i e)))
 
   pub enclosed : (i : ℕ) → enclosed_of t (to s i) ≡ enclosed_of s i
   unfolding enclosed_of
-  enclosed i = answered_same answer.Refused (ok' ∙ sym ok) (λ _. enclosed_same i)
+  enclosed i = answered_same Err (ok' ∙ sym ok) (λ _. enclosed_same i)
 
   -- ---- how many are enclosed
 
@@ -157,9 +154,9 @@ module _ (s t : List ℕ) (ok : judged s ≡ Accepted) (ok' : judged t ≡ Accep
   enclosing_same : (k : ℕ) → enclosing_in (view_of t) (solid_to k) ≡ enclosing_in (view_of s) k
   unfolding enclosing_in inside_fault
   enclosing_same k =
-      answered_same enclosing.Refused (ap (λ (b : Bool). refuse_unless b NoSuchNumber Accepted) (solid_same k))
-      (λ e. ap enclosing.Count (inside_same k (rule_ok _ _ _ e)))
+      answered_same Err (ap (λ (b : Bool). refuse_unless b NoSuchNumber (Ok tt)) (solid_same k))
+      (λ e. ap Ok (inside_same k (rule_ok _ _ _ e)))
 
   pub inside : (k : ℕ) → inside_of t (solid_to k) ≡ inside_of s k
   unfolding inside_of
-  inside k = answered_same enclosing.Refused (ok' ∙ sym ok) (λ _. enclosing_same k)
+  inside k = answered_same Err (ok' ∙ sym ok) (λ _. enclosing_same k)

@@ -1,5 +1,5 @@
 -- The exchange of A and B is proved. Assumes nothing.
-use Rattle.std.specs.Prelude.{◌≡◌, refl, ◌↔◌, Bool, true, false, leb, ltb}
+use Rattle.std.specs.Prelude.{◌≡◌, refl, ◌↔◌, Bool, true, false, leb, ltb, Ok}
 use Rattle.std.proofs.Math.Path.{sym, ap₂}
 use Rattle.std.proofs.Common.{ap, ◌∙◌, le-leb}
 use Rattle.std.proofs.Math.Bool.{cond}
@@ -12,18 +12,15 @@ use Rattle.std.proofs.lemmas.Bool.{lt-leb}
 use Rattle.scene.specs.Records.{verts_a, verts_b, verts}
 use Rattle.scene.specs.View.{view_of, solid}
 use Rattle.judge.specs.Judge.{judged}
-use Rattle.judge.specs.declared.Judged.TheVariants.{Accepted}
 use Rattle.questions.specs.Hits.{Hit, solid_hits, enclosed_vertex, enclosed_count, lowest_enclosed}
 use Rattle.questions.specs.First.{first_of}
 use Rattle.questions.specs.Answers.{or_refuse, counts_in, counted_of, cross_or, enclosure_in, verdict_in}
 use Rattle.questions.specs.Answers.{verdict_of, verdict_number, listing_in, inside_in}
 use Rattle.questions.specs.declared.Counts.{Counts}
-use Rattle.questions.specs.declared.Counted.TheVariants as answers
 use Rattle.questions.specs.declared.Verdict.{Verdict}
 use Rattle.questions.specs.declared.Verdict.TheVariants.{AInB, BInA, Apart}
 use Rattle.survey_scene.specs.Ready.{outside_beside}
 use Rattle.clean.specs.Answers.{clean_of, clean_exactly}
-use Rattle.clean.specs.declared.Answer.TheVariants.{Yes}
 use Rattle.theorem_lecture.specs.Lecture.{rows_of, points_of}
 use Rattle.theorem_lecture.specs.Renumbered.{clean_untied}
 use Rattle.theorem_lecture.specs.Exchange.{to, face_to, carried, Exchanged, NoTies, seen_of, in_a, in_b, listed_exchanged}
@@ -66,7 +63,7 @@ apart_alike false true false = (λ e. absurd (omega arith), λ e. absurd (omega 
 apart_alike false false true = (λ e. absurd (omega arith), λ e. absurd (omega arith))
 apart_alike false false false = (λ e. refl, λ e. refl)
 
-module _ (s t : List ℕ) (ok : judged s ≡ Accepted) (ok' : judged t ≡ Accepted) (h : Exchanged s t) (ties : NoTies s) where
+module _ (s t : List ℕ) (ok : judged s ≡ Ok tt) (ok' : judged t ≡ Ok tt) (h : Exchanged s t) (ties : NoTies s) where
   abbrev numbers : Renumbered (seen_of s) (seen_of t) (to s)
   numbers = renumbered s t ok ok' h ties
 
@@ -142,11 +139,11 @@ module _ (s t : List ℕ) (ok : judged s ≡ Accepted) (ok' : judged t ≡ Accep
 
   counted : counted_of t ≡ counted_exchanged (counted_of s)
   unfolding counted_of or_refuse
-  counted = rw (ok, ok') (ap answers.Counts counts_are)
+  counted = rw (ok, ok') (ap Ok counts_are)
 
   verdict : verdict_of t ≡ verdict_exchanged s
   unfolding verdict_of verdict_in verdict_exchanged listing_in solid or_refuse
-  verdict = rw ok' (ap₂ (λ (l : List Hit) (rest : Verdict). cross_or (first_of l) rest) listing enclosure)
+  verdict = rw ok' (ap₂ (λ (l : List Hit) (rest : Verdict). Ok (cross_or (first_of l) rest)) listing enclosure)
 
   cross : (verdict_number (verdict_of t) ≡ 0) ↔ (verdict_number (verdict_of s) ≡ 0)
   cross =
@@ -158,7 +155,7 @@ module _ (s t : List ℕ) (ok : judged s ≡ Accepted) (ok' : judged t ≡ Accep
       rw (word_by_counts t ok' ∙ ap word_by counts_are, word_by_counts s ok)
       (apart_alike (ltb 0 counts.pairs) (ltb 0 counts.b_in_a) (ltb 0 counts.a_in_b))
 
-same : (s t : List ℕ) → judged s ≡ Accepted → judged t ≡ Accepted → Exchanged s t → NoTies s → SameExchanged s t
+same : (s t : List ℕ) → judged s ≡ Ok tt → judged t ≡ Ok tt → Exchanged s t → NoTies s → SameExchanged s t
 same s t ok ok' h ties =
     record {
       masks = masks s t ok ok' h ties;
@@ -171,7 +168,7 @@ same s t ok ok' h ties =
       apart = apart_same s t ok ok' h ties;
     }
 
-no_ties : (s : List ℕ) → judged s ≡ Accepted → clean_of s ≡ Yes → NoTies s
+no_ties : (s : List ℕ) → judged s ≡ Ok tt → clean_of s ≡ Ok true → NoTies s
 no_ties s ok clean u v k o i l =
     clean_untied (points_of s) (rows_of s) ((clean_exactly s ok).0 clean) u v _ (outside_beside s ok o refl refl refl i l)
 

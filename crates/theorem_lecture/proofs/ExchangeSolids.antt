@@ -1,12 +1,11 @@
 -- With A and B exchanged t is s with other numbers, in each solid in the same order: A of s is B of t, and B of s is A of t.
 -- Assumes nothing.
-use Rattle.std.specs.Prelude.{◌≡◌, ◌≢◌, List, ℕ, ◌+◌, ◌<◌}
+use Rattle.std.specs.Prelude.{◌≡◌, ◌≢◌, List, ℕ, ◌+◌, ◌<◌, Ok}
 use Rattle.std.proofs.Common.{ap, ◌∙◌, arith}
 use Rattle.scene.specs.Limits.{limits}
 use Rattle.scene.specs.Records.{verts_a, verts_b, faces_in_a, faces_in_b, verts}
 use Rattle.scene.specs.View.{view_of, solid}
 use Rattle.judge.specs.Judge.{judged}
-use Rattle.judge.specs.declared.Judged.TheVariants.{Accepted}
 use Rattle.rules.proofs.Given.{counts, face_of_a, face_of_b}
 use Rattle.survey_scene.specs.Ready.{scene_weighted}
 use Rattle.theorem_lecture.specs.Lecture.{rows_of, points_of}
@@ -36,7 +35,7 @@ module _ (s : List ℕ) (ties : NoTies s) (i u v : ℕ) where
   untied_b l cu cv d =
       ties u v 2 (record { u_point = cu.point; w_point = cv.point; differ = d; u_out = cu.out; w_out = cv.out }) i l
 
-module _ (s t : List ℕ) (ok : judged s ≡ Accepted) (ok' : judged t ≡ Accepted) (h : Exchanged s t) (ties : NoTies s) where
+module _ (s t : List ℕ) (ok : judged s ≡ Ok tt) (ok' : judged t ≡ Ok tt) (h : Exchanged s t) (ties : NoTies s) where
   abbrev n : ℕ
   n = points_of s
 

@@ -1,5 +1,5 @@
 -- The theorem of the lecture is proved. Assumes nothing.
-use Rattle.std.specs.Prelude.{◌≡◌, ◌⊎◌, Bool, false, not, ◌&&◌, List, ℕ, ◌≤◌, length}
+use Rattle.std.specs.Prelude.{◌≡◌, ◌⊎◌, Bool, false, not, ◌&&◌, List, ℕ, ◌≤◌, length, Ok, Err}
 use Rattle.std.proofs.Math.Path.{refl, ap}
 use Rattle.std.proofs.Common.{sym, subst, ◌∙◌, inr, arith}
 use Rattle.std.proofs.Math.Logic.{inl}
@@ -10,15 +10,13 @@ use Rattle.scene.specs.View.{view_of}
 use Rattle.scene.specs.declared.Refusal.{Refusal}
 use Rattle.scene.specs.declared.Refusal.TheVariants.{NoSuchNumber, NotDistinct}
 use Rattle.judge.specs.Judge.{refuse_unless, judged}
-use Rattle.judge.specs.declared.Judged.{Judged}
-use Rattle.judge.specs.declared.Judged.TheVariants.{Accepted, Refused}
+use Rattle.judge.specs.Judge.{Judged}
 use Rattle.rules.proofs.Given.{counts}
 use Rattle.orient.specs.Signs.{Upto, Four}
 use Rattle.orient.specs.Terms.{is_plus, positive_at, terms_at}
 use Rattle.orient.specs.declared.Terms.{Terms}
 use Rattle.questions.specs.Answers.{or_refuse, is_point, are_points, differ, sign_fault, sign_in, sign_of}
 use Rattle.questions.specs.Asked.{sign_four}
-use Rattle.questions.specs.declared.Signed.TheVariants as signed
 use Rattle.clean.specs.Answers.{clean_exactly}
 use Rattle.clean.specs.Clean.{Clean}
 use Rattle.map_image.specs.Mapped.{determinant_of}
@@ -31,7 +29,7 @@ use Rattle.theorem_lecture.specs.Lecture.{rows_of, points_of, sign_alone, Lectur
 use Rattle.theorem_lecture.specs.Imaged.{image_accepted, image_mapped}
 use Rattle.theorem_lecture.specs.Scenes.{answered_same, points_are, same_answers}
 
-six : (s : List ℕ) → judged s ≡ Accepted → 6 ≤ points_of s
+six : (s : List ℕ) → judged s ≡ Ok tt → 6 ≤ points_of s
 six s ok = let c = counts limits s ok in omega (arith, c.vertices_a_law, c.vertices_b_law)
 
 pub lecture : Lecture
@@ -55,21 +53,21 @@ told = inr
 
 module _ (a b c d : ℕ) where
   -- the sign alone, by what is at fault
-  by_fault : (s : List ℕ) → judged s ≡ Accepted →
+  by_fault : (s : List ℕ) → judged s ≡ Ok tt →
       sign_alone (sign_of s a b c d) ≡ or_refuse inl (sign_fault (view_of s) a b c d) (told (positive_at (rows_of s) a b c d))
   unfolding sign_of sign_in or_refuse
   by_fault s ok = rw ok (by (sign_fault (view_of s) a b c d) (terms_at (rows_of s) a b c d) (positive_at (rows_of s) a b c d))
     where
-      by : (j : Judged) (x : Terms) (p : Bool) → sign_alone (or_refuse signed.Refused j (signed.Sign x p)) ≡ or_refuse inl j (told p)
-      by Accepted x p = refl
-      by (Refused r) x p = refl
+      by : (j : Judged) (x : Terms) (p : Bool) → sign_alone (or_refuse Err j (Ok (x, p))) ≡ or_refuse inl j (told p)
+      by (Ok _) x p = refl
+      by (Err r) x p = refl
 
   fault_same : (s t : List ℕ) → points_of t ≡ points_of s → sign_fault (view_of t) a b c d ≡ sign_fault (view_of s) a b c d
   unfolding sign_fault are_points is_point
   fault_same s t e =
       ap
       (λ (n : ℕ). refuse_unless (within 1 n a && (within 1 n b && (within 1 n c && within 1 n d))) NoSuchNumber
-      (refuse_unless (differ a b c d) NotDistinct Accepted)) e
+      (refuse_unless (differ a b c d) NotDistinct (Ok tt))) e
 
 pub multiplied : Multiplied
 multiplied k s t ok ok' h =

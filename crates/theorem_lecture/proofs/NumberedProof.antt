@@ -1,7 +1,7 @@
 -- That numbers play no part where no tie is broken is proved. Assumes nothing.
 use Rattle.std.proofs.Math.Path.{◌≡◌, refl, sym, ap, ap₂}
 use Rattle.std.proofs.Common.{subst, ◌∙◌}
-use Rattle.std.specs.Prelude.{◌≢◌, Bool, cond, ◌&&◌, List, ℕ, ◌+◌, ◌-◌, ◌≤◌, ◌<◌, eqb, leb, length}
+use Rattle.std.specs.Prelude.{◌≢◌, Bool, cond, ◌&&◌, List, ℕ, ◌+◌, ◌-◌, ◌≤◌, ◌<◌, eqb, leb, length, Ok, Err}
 use Rattle.std.proofs.Math.Bool.{true, false, not}
 use Rattle.std.proofs.Math.Decide.{dec_lt}
 use Rattle.std.proofs.Math.Nat.{le_antisymm}
@@ -16,7 +16,6 @@ use Rattle.scene.specs.View.{view_of, solid}
 use Rattle.scene.specs.declared.Face.{Face}
 use Rattle.scene.specs.declared.Refusal.TheVariants.{NoSuchNumber}
 use Rattle.judge.specs.Judge.{refuse_unless, judged}
-use Rattle.judge.specs.declared.Judged.TheVariants.{Accepted}
 use Rattle.rules.proofs.Given.{counts, face_of_a, face_of_b}
 use Rattle.orient.specs.Signs.{Upto}
 use Rattle.orient.specs.Weighted.{Weighted}
@@ -25,13 +24,10 @@ use Rattle.pierce_masks.specs.Faces.{is_odd}
 use Rattle.pierce.specs.Against.{mask_against}
 use Rattle.pierce.specs.Formula.{pierced}
 use Rattle.questions.specs.Hits.{Hit, enclosed_vertex, enclosed_count}
-use Rattle.questions.specs.Answers.{or_refuse, yes_no, is_point, is_vertex, is_solid, is_vertex_of, ends_off_solid, mask_in, refused, masked_of}
+use Rattle.questions.specs.Answers.{or_refuse, is_point, is_vertex, is_solid, is_vertex_of, ends_off_solid, mask_in, refused, masked_of}
 use Rattle.questions.specs.Answers.{other_solid, is_enclosed, enclosed_fault, enclosed_in, enclosed_of, counts_in, counted_of, inside_in}
 use Rattle.questions.specs.Answers.{inside_fault, enclosing_in, inside_of, listing_in, verdict_number, verdict_of}
 use Rattle.questions.specs.Asked.{Outside, enclosed_vertex_law, far_outside}
-use Rattle.questions.specs.declared.Answer.TheVariants as answer
-use Rattle.questions.specs.declared.Counted.TheVariants.{Counts}
-use Rattle.questions.specs.declared.Enclosing.TheVariants as enclosing
 use Rattle.survey_scene.specs.Ready.{scene_weighted}
 use Rattle.theorem_demands.specs.Words.{VertexOfA, VertexOfB, FaceOfA, FaceOfB, Point, Pierces}
 use Rattle.theorem_demands.specs.Exact.{PiercedPair}
@@ -50,7 +46,7 @@ use Rattle.theorem_lecture.specs.Numbered.{Numbered, carried, AnyNumbers}
 
 -- ---- the two scenes
 
-module _ (to back : ℕ → ℕ) (s t : List ℕ) (ok : judged s ≡ Accepted) (ok' : judged t ≡ Accepted) (h : Numbered to back s t)
+module _ (to back : ℕ → ℕ) (s t : List ℕ) (ok : judged s ≡ Ok tt) (ok' : judged t ≡ Ok tt) (h : Numbered to back s t)
     (ties : NoTies s) where
   abbrev n : ℕ
   n = points_of s
@@ -261,7 +257,7 @@ module _ (to back : ℕ → ℕ) (s t : List ℕ) (ok : judged s ≡ Accepted) (
 
   counted : counted_of t ≡ counted_of s
   unfolding counted_of or_refuse
-  counted = rw (ok, ok') (ap Counts counts_same)
+  counted = rw (ok, ok') (ap Ok counts_same)
 
   verdict : verdict_number (verdict_of t) ≡ verdict_number (verdict_of s)
   verdict = word_by_counts t ok' ∙ ap word_by counts_same ∙ sym (word_by_counts s ok)
@@ -277,8 +273,8 @@ module _ (to back : ℕ → ℕ) (s t : List ℕ) (ok : judged s ≡ Accepted) (
   inside : (k : ℕ) → inside_of t k ≡ inside_of s k
   unfolding inside_of enclosing_in
   inside k =
-      answered_same enclosing.Refused (ok' ∙ sym ok)
-      (λ _. ap (λ (m : ℕ). or_refuse enclosing.Refused (inside_fault k) (enclosing.Count m)) (inside_same k))
+      answered_same Err (ok' ∙ sym ok)
+      (λ _. ap (λ (m : ℕ). or_refuse Err (inside_fault k) (Ok m)) (inside_same k))
 
   -- ---- masks and enclosed vertices, with their refusals
 
@@ -350,12 +346,12 @@ module _ (to back : ℕ → ℕ) (s t : List ℕ) (ok : judged s ≡ Accepted) (
   enclosed_same : (i : ℕ) → Point s i → enclosed_in (view_of t) (to i) ≡ enclosed_in (view_of s) i
   unfolding enclosed_in enclosed_fault
   enclosed_same i p =
-      answered_same answer.Refused (ap (λ (b : Bool). refuse_unless b NoSuchNumber Accepted) (is_vertex_law i p))
-      (λ e. ap yes_no (odd_same i (enclosed_vertex_law (view_of s) i e)))
+      answered_same Err (ap (λ (b : Bool). refuse_unless b NoSuchNumber (Ok tt)) (is_vertex_law i p))
+      (λ e. ap Ok (odd_same i (enclosed_vertex_law (view_of s) i e)))
 
   enclosed : (i : ℕ) → Point s i → enclosed_of t (to i) ≡ enclosed_of s i
   unfolding enclosed_of
-  enclosed i p = answered_same answer.Refused (ok' ∙ sym ok) (λ _. enclosed_same i p)
+  enclosed i p = answered_same Err (ok' ∙ sym ok) (λ _. enclosed_same i p)
 
 pub any_numbers : AnyNumbers
 any_numbers to back s t ok ok' h ties =

@@ -1,5 +1,5 @@
 -- The scene with A and B exchanged, written from the tables: it is accepted, and its tables read back. Assumes nothing.
-use Rattle.std.specs.Prelude.{◌≡◌, List, ℕ, ◌+◌, ◌-◌, ◌≤◌, ◌<◌, length, get_or}
+use Rattle.std.specs.Prelude.{◌≡◌, List, ℕ, ◌+◌, ◌-◌, ◌≤◌, ◌<◌, length, get_or, Ok}
 use Rattle.std.proofs.Common.{sym, ap, ◌∙◌, arith}
 use Rattle.std.proofs.Math.Decide.{dec_lt}
 use Rattle.laws.specs.Lists.{run_at, length_run}
@@ -10,7 +10,6 @@ use Rattle.scene.specs.Records.{verts_a, verts_b, faces_in_a, faces_in_b, verts}
 use Rattle.scene.specs.Tables.{Tables, tables_of, face, size, raise, row_at, face_at, no_row, no_face}
 use Rattle.scene.specs.declared.Face.{Face}
 use Rattle.judge.specs.Judge.{judged}
-use Rattle.judge.specs.declared.Judged.TheVariants.{Accepted}
 use Rattle.rules.proofs.Accepted.{accepted}
 use Rattle.rules.proofs.Bridge.{by_tables, limits_fit}
 use Rattle.rules.proofs.Files.{file_accepted}
@@ -23,7 +22,7 @@ use Rattle.theorem_lecture.specs.Renumbered.{renamed}
 use Rattle.theorem_lecture.specs.Exchange.{to, Exchanged, exchanged_bytes}
 use Rattle.theorem_lecture.proofs.Numbers.{of_a, of_b, of_far}
 
-module _ (s : List ℕ) (ok : judged s ≡ Accepted) where
+module _ (s : List ℕ) (ok : judged s ≡ Ok tt) where
   abbrev other : Tables
   other = record { a = (tables_of s).b; b = (tables_of s).a; far = (tables_of s).far }
 
@@ -38,7 +37,7 @@ module _ (s : List ℕ) (ok : judged s ≡ Accepted) where
   unfolding exchanged_bytes
   same = read_back other limits_fit other_ok
 
-  other_accepted : judged t ≡ Accepted
+  other_accepted : judged t ≡ Ok tt
   unfolding exchanged_bytes
   other_accepted = file_accepted limits_fit other other_ok
 
@@ -137,7 +136,7 @@ module _ (s : List ℕ) (ok : judged s ≡ Accepted) where
       face_a t (0 + 1 + i) (omega arith) (omega (arith, faces_a_law)) ∙ ap (face_at t) (omega arith) ∙ stored_a i l
       ∙ lowered (face_at s (faces_in_a s + i)) (rw e at c) ∙ ap (renamed (to s)) (sym e)
 
-pub exchange_written : (s : List ℕ) → judged s ≡ Accepted → (judged (exchanged_bytes s) ≡ Accepted) × Exchanged s (exchanged_bytes s)
+pub exchange_written : (s : List ℕ) → judged s ≡ Ok tt → (judged (exchanged_bytes s) ≡ Ok tt) × Exchanged s (exchanged_bytes s)
 exchange_written s ok = (
   other_accepted s ok,
   record {

@@ -1,6 +1,6 @@
 -- A mask asked of two views, with the numbers of each: where the numbers name points and a solid in both or in neither, and the points are
 -- outside the solid in both or in neither, it is refused alike; and where the masks are the same, it is answered alike. Assumes nothing.
-use Rattle.std.specs.Prelude.{◌≡◌, refl, ◌≢◌, Bool, true, false, not, cond, ◌&&◌, ℕ, ◌≤◌, eqb, leb}
+use Rattle.std.specs.Prelude.{◌≡◌, refl, ◌≢◌, Bool, true, false, not, cond, ◌&&◌, ℕ, ◌≤◌, eqb, leb, Ok}
 use Rattle.std.proofs.Common.{sym, subst, ◌∙◌, arith, eq-eqb, ne_eqb}
 use Rattle.std.proofs.Math.Path.{ap}
 use Rattle.std.proofs.Math.Decide.{ℕ_discrete}
@@ -13,8 +13,7 @@ use Rattle.scene.specs.declared.Refusal.TheVariants.{NoSuchNumber, NotDistinct}
 use Rattle.judge.specs.Judge.{refuse_unless}
 use Rattle.judge.specs.Laws.{rule_ok}
 use Rattle.judge.specs.Tests.{within_iff}
-use Rattle.judge.specs.declared.Judged.{Judged}
-use Rattle.judge.specs.declared.Judged.TheVariants.{Accepted}
+use Rattle.judge.specs.Judge.{Judged}
 use Rattle.orient.specs.Signs.{Upto}
 use Rattle.questions.specs.Answers.{is_point, is_solid, edge_and_solid, ends_off_solid, differs, mask_fault, mask_in, refused, faces_are, masked_in}
 use Rattle.questions.specs.Answers.{other_solid}
@@ -71,12 +70,12 @@ module _ (v v' : View) (u w k u' w' k' : ℕ)
       (λ e.
       let a = (and_iff (is_point v u) (is_point v w && is_solid k)).0 e in
       let b = (and_iff (is_point v w) (is_solid k)).0 a.1 in
-      ap (λ (c : Bool). refuse_unless c NotDistinct Accepted) (outs (point u a.0) (point w b.0) b.1))
+      ap (λ (c : Bool). refuse_unless c NotDistinct (Ok tt)) (outs (point u a.0) (point w b.0) b.1))
 
-  is_solid_law : mask_fault v u w k ≡ Accepted → is_solid k ≡ true
+  is_solid_law : mask_fault v u w k ≡ Ok tt → is_solid k ≡ true
   unfolding mask_fault edge_and_solid
   is_solid_law e =
-      let points = rule_ok (edge_and_solid v u w k) NoSuchNumber (refuse_unless (ends_off_solid v u w k) NotDistinct Accepted) e in
+      let points = rule_ok (edge_and_solid v u w k) NoSuchNumber (refuse_unless (ends_off_solid v u w k) NotDistinct (Ok tt)) e in
       ((and_iff (is_point v w) (is_solid k)).0 ((and_iff (is_point v u) (is_point v w && is_solid k)).0 points).1).1
 
   pub masked_same : masked_in v' u' w' k' ≡ masked_in v u w k

@@ -2,25 +2,23 @@
 -- where s is clean, t has the answers of s, told of the other letter: its masks, its listing pair by pair, its counts and its verdict, and
 -- the same refusals. (With ties none of it need be so, since the points have other numbers in t and are shifted otherwise: `Ties` has a
 -- scene.) Proved in `ExchangeProof`. Assumes nothing.
-use Rattle.std.specs.Prelude.{◌≡◌, ◌↔◌, cond, List, ◌++◌, map, ℕ, ◌+◌, ◌-◌, ◌<◌, eqb, leb}
+use Rattle.std.specs.Prelude.{◌≡◌, ◌↔◌, cond, List, ◌++◌, map, ℕ, ◌+◌, ◌-◌, ◌<◌, eqb, leb, true, Ok, Err}
 use Rattle.scene.specs.Records.{verts_a, verts_b, faces_in_a, faces_in_b, verts}
 use Rattle.scene.specs.Tables.{tables_of}
 use Rattle.scene.specs.View.{view_of, solid, solid_a, solid_b}
 use Rattle.scene.specs.declared.Solid.{Solid}
 use Rattle.judge.specs.Judge.{judged}
-use Rattle.judge.specs.declared.Judged.TheVariants.{Accepted}
 use Rattle.rules.specs.Write.{bytes_of}
 use Rattle.orient.specs.Signs.{Upto}
 use Rattle.questions.specs.Hits.{PierceView, Hit, solid_hits, lowest_enclosed}
 use Rattle.questions.specs.First.{first_of}
 use Rattle.questions.specs.Answers.{pierce_view, masked_of, enclosed_of, inside_of, counted_of, listing_in, cross_or, verdict_number, verdict_of}
 use Rattle.questions.specs.Asked.{Outside}
-use Rattle.questions.specs.declared.Counted.{Counted}
-use Rattle.questions.specs.declared.Counted.TheVariants.{Refused, Counts}
+use Rattle.questions.specs.Types.{Counted}
 use Rattle.questions.specs.declared.Verdict.{Verdict}
+use Rattle.questions.specs.Types.{Concluded}
 use Rattle.questions.specs.declared.Verdict.TheVariants.{AInB, BInA, Apart}
 use Rattle.clean.specs.Answers.{clean_of}
-use Rattle.clean.specs.declared.Answer.TheVariants.{Yes}
 use Rattle.theorem_lecture.specs.Lecture.{rows_of, points_of}
 use Rattle.theorem_lecture.specs.Renumbered.{Untied, renamed}
 
@@ -76,8 +74,8 @@ unfoldable pub listed_exchanged : List ℕ → List Hit
 listed_exchanged s = map (carried s) (solid_hits (seen_of s) (in_b s) ++ solid_hits (seen_of s) (in_a s))
 
 abbrev pub counted_exchanged : Counted → Counted
-counted_exchanged (Refused r) = Refused r
-counted_exchanged (Counts c) = Counts (record { pairs = c.pairs; a_in_b = c.b_in_a; b_in_a = c.a_in_b })
+counted_exchanged (Err r) = Err r
+counted_exchanged (Ok c) = Ok (record { pairs = c.pairs; a_in_b = c.b_in_a; b_in_a = c.a_in_b })
 
 -- the first such pair; if none, the lowest vertex of B enclosed by A; if none, the lowest of A enclosed by B; else apart
 unfoldable pub enclosure_exchanged : List ℕ → Verdict
@@ -86,8 +84,8 @@ enclosure_exchanged s =
     let q : ℕ = lowest_enclosed (seen_of s) (in_b s) in
     cond (leb q (verts s)) (AInB (to s q)) (cond (leb p (verts_a s)) (BInA (to s p)) Apart)
 
-unfoldable pub verdict_exchanged : List ℕ → Verdict
-verdict_exchanged s = cross_or (first_of (listed_exchanged s)) (enclosure_exchanged s)
+unfoldable pub verdict_exchanged : List ℕ → Concluded
+verdict_exchanged s = Ok (cross_or (first_of (listed_exchanged s)) (enclosure_exchanged s))
 
 -- whatever numbers a question is asked with
 pub record SameExchanged (s t : List ℕ) : Type 0 where
@@ -102,6 +100,6 @@ pub record SameExchanged (s t : List ℕ) : Type 0 where
   pub apart : (verdict_number (verdict_of t) ≡ 3) ↔ (verdict_number (verdict_of s) ≡ 3)
 
 pub record Exchange : Type 0 where
-  pub untied : (s t : List ℕ) → judged s ≡ Accepted → judged t ≡ Accepted → Exchanged s t → NoTies s → SameExchanged s t
-  pub clean : (s : List ℕ) → judged s ≡ Accepted → clean_of s ≡ Yes → NoTies s
-  pub written : (s : List ℕ) → judged s ≡ Accepted → (judged (exchanged_bytes s) ≡ Accepted) × Exchanged s (exchanged_bytes s)
+  pub untied : (s t : List ℕ) → judged s ≡ Ok tt → judged t ≡ Ok tt → Exchanged s t → NoTies s → SameExchanged s t
+  pub clean : (s : List ℕ) → judged s ≡ Ok tt → clean_of s ≡ Ok true → NoTies s
+  pub written : (s : List ℕ) → judged s ≡ Ok tt → (judged (exchanged_bytes s) ≡ Ok tt) × Exchanged s (exchanged_bytes s)

@@ -1,6 +1,6 @@
 -- The image that is written is an accepted scene: the scene's bytes with each row times the table. So no rule is broken by an image that
 -- passed 5 and 6, and 14 never occurs. Assumes nothing.
-use Rattle.std.specs.Prelude.{◌≡◌, ◌⊎◌, List, length}
+use Rattle.std.specs.Prelude.{◌≡◌, ◌⊎◌, List, length, Ok}
 use Rattle.std.proofs.Math.Path.{refl, ap}
 use Rattle.std.proofs.Common.{sym, ◌∙◌, arith}
 use Rattle.std.proofs.Math.Logic.{inl, inr}
@@ -16,7 +16,6 @@ use Rattle.scene.specs.Write.{RowFits, row_put}
 use Rattle.scene.specs.Written.{row_below, row_above, row_back}
 use Rattle.scene.specs.declared.Row.{Row}
 use Rattle.judge.specs.Judge.{judged}
-use Rattle.judge.specs.declared.Judged.TheVariants.{Accepted}
 use Rattle.rules.specs.TableRules.{RowOk}
 use Rattle.rules.proofs.Accepted.{accepted}
 use Rattle.rules.proofs.Bridge.{by_tables}
@@ -104,7 +103,7 @@ module _ (s : List ℕ) (m : Map) (room : ℕ) (p : Passed s m room) where
       let r = rows_in s m p.rows j b in
       rw (image_row_law j b) (record { coordinates = record { x = r.x; y = r.y; z = r.z }; weight = r.weight })
 
-  pub image_accepted : judged (image_bytes m s) ≡ Accepted
+  pub image_accepted : judged (image_bytes m s) ≡ Ok tt
   image_accepted =
       let far = ((by_tables limits s).0 ((accepted limits s).0 p.scene)).1.somewhere in
       still_accepted s t image_rerowed row_ok

@@ -3,7 +3,7 @@
 -- rows of nonzero weight are multiplied by positive whole numbers, clean or not, no sign changes, and so none of these. 14 never occurs
 -- for an image. Two wrong answers that are ruled out: a mask of t that is refused where that of s is answered; a list that t leaves as it
 -- was where s fills it. Proved in `LectureProof` and `FourteenProof`. Assumes nothing.
-use Rattle.std.specs.Prelude.{◌≡◌, ◌≢◌, ◌↔◌, ◌⊎◌, Bool, List, ◌++◌, ℕ, ◌≤◌, ℤ, pos, ◌*ℤ◌, length, drop}
+use Rattle.std.specs.Prelude.{◌≡◌, ◌≢◌, ◌↔◌, ◌⊎◌, Bool, List, ◌++◌, ℕ, ◌≤◌, ℤ, pos, ◌*ℤ◌, length, drop, true, Ok, Err}
 use Rattle.std.proofs.Common.{inl, inr}
 use Rattle.scene.specs.Records.{verts_a, verts_b, faces_in_a, faces_in_b}
 use Rattle.scene.specs.Refusal.{number_of}
@@ -11,20 +11,16 @@ use Rattle.scene.specs.View.{view_of, points}
 use Rattle.scene.specs.declared.Refusal.{Refusal}
 use Rattle.scene.specs.declared.Row.{Row}
 use Rattle.judge.specs.Judge.{judged}
-use Rattle.judge.specs.declared.Judged.TheVariants.{Accepted, Refused}
 use Rattle.rules.specs.Rules.{Zeros}
 use Rattle.orient.specs.Signs.{Upto}
 use Rattle.questions.specs.Answers.{sign_of, pierces_of, masked_of, enclosed_of, counted_of, inside_of, verdict_of, listing_in, IsListed, IsPart}
-use Rattle.questions.specs.declared.Listed.{Listed}
-use Rattle.questions.specs.declared.Signed.{Signed}
-use Rattle.questions.specs.declared.Signed.TheVariants as sign
+use Rattle.questions.specs.Types.{Listed}
+use Rattle.questions.specs.Types.{Signed}
 use Rattle.clean.specs.Answers.{clean_of}
-use Rattle.clean.specs.declared.Answer.TheVariants.{Yes}
 use Rattle.map_image.specs.declared.Map.{Map}
 use Rattle.map_image.specs.Mapped.{mapped, determinant_of}
 use Rattle.map_image.specs.Image.{image_bytes, IsImage, fault_number}
 use Rattle.map_image.specs.declared.Fault.{Fault}
-use Rattle.map_image.specs.declared.Imaged.TheVariants as imaged
 
 -- ---- two scenes
 
@@ -63,12 +59,12 @@ pub record MappedBy (m : Map) (s t : List ℕ) : Type 0 where
   pub rows : (i : ℕ) → Upto (points_of s) i → rows_of t i ≡ mapped m (rows_of s i)
 
 pub record SameMapped (s t : List ℕ) : Type 0 where
-  pub clean : clean_of t ≡ Yes
+  pub clean : clean_of t ≡ Ok true
   pub answers : SameAnswers s t
 
 abbrev pub Lecture : Type 0
 Lecture =
-    (m : Map) (s t : List ℕ) → judged s ≡ Accepted → judged t ≡ Accepted → MappedBy m s t → clean_of s ≡ Yes →
+    (m : Map) (s t : List ℕ) → judged s ≡ Ok tt → judged t ≡ Ok tt → MappedBy m s t → clean_of s ≡ Ok true →
     determinant_of m ≢ pos 0 → SameMapped s t
 
 -- ---- the image that is written into a lent buffer d: an accepted scene of the same shape, and where s is clean with the same answers
@@ -76,23 +72,23 @@ Lecture =
 pub record ImageOf (s : List ℕ) (m : Map) (d d' : List ℕ) (n : ℕ) : Type 0 where
   pub held : d' ≡ image_bytes m s ++ drop (length s) d
   pub long : n ≡ length s
-  pub accepted : judged (image_bytes m s) ≡ Accepted
+  pub accepted : judged (image_bytes m s) ≡ Ok tt
   pub mapped : MappedBy m s (image_bytes m s)
-  pub same : clean_of s ≡ Yes → SameMapped s (image_bytes m s)
+  pub same : clean_of s ≡ Ok true → SameMapped s (image_bytes m s)
 
 abbrev pub Image : Type 0
-Image = (s : List ℕ) (m : Map) (d d' : List ℕ) (n : ℕ) → IsImage s m d d' (imaged.Written n) → ImageOf s m d d' n
+Image = (s : List ℕ) (m : Map) (d d' : List ℕ) (n : ℕ) → IsImage s m d d' (Ok n) → ImageOf s m d d' n
 
 -- ---- "14 never occurs for an image": the far point's four numbers are not all 0; bytes with the image's rows are accepted, or refused
 -- with another number; and so is what `image` answers
 
 pub record NeverFourteen (m : Map) (s : List ℕ) : Type 0 where
   pub somewhere : ¬ Zeros (mapped m (rows_of s (points_of s)))
-  pub judged_so : (t : List ℕ) → MappedBy m s t → (r : Refusal) → judged t ≡ Refused r → number_of r ≢ 14
-  pub refused : (d d' : List ℕ) (f : Fault) → IsImage s m d d' (imaged.Refused f) → fault_number f ≢ 14
+  pub judged_so : (t : List ℕ) → MappedBy m s t → (r : Refusal) → judged t ≡ Err r → number_of r ≢ 14
+  pub refused : (d d' : List ℕ) (f : Fault) → IsImage s m d d' (Err f) → fault_number f ≢ 14
 
 abbrev pub Fourteen : Type 0
-Fourteen = (m : Map) (s : List ℕ) → judged s ≡ Accepted → determinant_of m ≢ pos 0 → NeverFourteen m s
+Fourteen = (m : Map) (s : List ℕ) → judged s ≡ Ok tt → determinant_of m ≢ pos 0 → NeverFourteen m s
 
 -- ---- "Multiplying any rows of nonzero weight by positive whole numbers": that of point i by k i
 
@@ -113,12 +109,12 @@ pub record ScaledBy (k : ℕ → ℕ) (s t : List ℕ) : Type 0 where
 
 -- the sign without its terms, which take the factors: a refusal, or whether it is positive
 abbrev pub sign_alone : Signed → Refusal ⊎ Bool
-sign_alone (sign.Refused r) = inl r
-sign_alone (sign.Sign terms positive) = inr positive
+sign_alone (Err r) = inl r
+sign_alone (Ok (terms, positive)) = inr positive
 
 pub record SameScaled (s t : List ℕ) : Type 0 where
   pub signs : (a b c d : ℕ) → sign_alone (sign_of t a b c d) ≡ sign_alone (sign_of s a b c d)
   pub answers : SameAnswers s t
 
 abbrev pub Multiplied : Type 0
-Multiplied = (k : ℕ → ℕ) (s t : List ℕ) → judged s ≡ Accepted → judged t ≡ Accepted → ScaledBy k s t → SameScaled s t
+Multiplied = (k : ℕ → ℕ) (s t : List ℕ) → judged s ≡ Ok tt → judged t ≡ Ok tt → ScaledBy k s t → SameScaled s t

@@ -1,12 +1,11 @@
 -- The points of a scene numbered in another way: point i of s is point `to i` of t, in the same solid, and the faces keep their numbers.
 -- Where no tie is broken in s, as where s is clean, t has the same masks and refusals, as many enclosed vertices and pairs, the same pairs
 -- with the ends' other numbers, and the same word as its verdict. Proved in `NumberedProof`. Assumes nothing.
-use Rattle.std.specs.Prelude.{◌≡◌, cond, List, ℕ, ltb}
+use Rattle.std.specs.Prelude.{◌≡◌, cond, List, ℕ, ltb, Ok}
 use Rattle.laws.specs.Lists.{Some}
 use Rattle.scene.specs.Records.{verts_a, verts_b, faces_in_a, faces_in_b}
 use Rattle.scene.specs.View.{view_of}
 use Rattle.judge.specs.Judge.{judged}
-use Rattle.judge.specs.declared.Judged.TheVariants.{Accepted}
 use Rattle.questions.specs.Hits.{Hit}
 use Rattle.questions.specs.Answers.{masked_of, enclosed_of, inside_of, counted_of, listing_in, verdict_number, verdict_of}
 use Rattle.theorem_demands.specs.Words.{VertexOfA, VertexOfB, Point, FaceNumber, far_point}
@@ -54,5 +53,5 @@ pub record SameNumbered (to back : ℕ → ℕ) (s t : List ℕ) : Type 0 where
 
 abbrev pub AnyNumbers : Type 0
 AnyNumbers =
-    (to back : ℕ → ℕ) (s t : List ℕ) → judged s ≡ Accepted → judged t ≡ Accepted → Numbered to back s t → NoTies s →
+    (to back : ℕ → ℕ) (s t : List ℕ) → judged s ≡ Ok tt → judged t ≡ Ok tt → Numbered to back s t → NoTies s →
     SameNumbered to back s t

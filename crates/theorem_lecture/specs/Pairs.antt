@@ -1,6 +1,6 @@
 -- The pairs of a scene, where its points are numbered in another way and its edges still pierce what they pierced: each is a pair of the
 -- other scene, with the ends' other numbers, and there are no more of them than there. Assumes nothing.
-use Rattle.std.specs.Prelude.{◌≡◌, ◌≢◌, ◌↔◌, Bool, false, cond, List, [], ◌∷◌, length}
+use Rattle.std.specs.Prelude.{◌≡◌, ◌≢◌, ◌↔◌, Bool, false, cond, List, [], ◌∷◌, length, Ok}
 use Rattle.std.proofs.Math.Path.{refl, ap₂}
 use Rattle.std.proofs.Common.{sym, ap, subst, ◌∙◌, inl, inr, arith}
 use Rattle.std.proofs.Math.Bool.{true}
@@ -15,7 +15,6 @@ use Rattle.scene.specs.Records.{verts_a, verts}
 use Rattle.scene.specs.Tables.{tables_of, face}
 use Rattle.scene.specs.declared.Face.{Face}
 use Rattle.judge.specs.Judge.{judged}
-use Rattle.judge.specs.declared.Judged.TheVariants.{Accepted}
 use Rattle.rules.proofs.Given.{face_of_a, face_of_b}
 use Rattle.pierce.specs.Beside.{Beside, beside}
 use Rattle.scene.specs.View.{view_of}
@@ -31,7 +30,7 @@ use Rattle.theorem_lecture.specs.Fewer.{In, no_more}
 use Rattle.theorem_lecture.specs.Numbered.{NumberedBy, InListing, carried}
 
 -- the listing has the pairs, and no other
-pub pair_iff : (s : List ℕ) → judged s ≡ Accepted → (x : Hit) → InListing s x ↔ PiercedPair s x
+pub pair_iff : (s : List ℕ) → judged s ≡ Ok tt → (x : Hit) → InListing s x ↔ PiercedPair s x
 pair_iff s ok = ((exact s).listing ((exact s).accepted.0 ok)).members
 
 -- a corner of a solid's face is one of the solid's vertices
@@ -41,7 +40,7 @@ corner_vertex f h (inr (inl e)) = omega (arith, h.q, e)
 corner_vertex f h (inr (inr e)) = omega (arith, h.r, e)
 
 -- the ends of a pair are points
-pub ends_in : (s : List ℕ) → judged s ≡ Accepted → (x : Hit) → PiercedPair s x → Point s x.low × Point s x.high
+pub ends_in : (s : List ℕ) → judged s ≡ Ok tt → (x : Hit) → PiercedPair s x → Point s x.low × Point s x.high
 ends_in s ok x (inl p) =
     let e = p.0.on in
     let f = face_of_a limits s ok e.0 (omega (arith, e.1)) (omega (arith, e.1)) in
@@ -55,7 +54,7 @@ ends_in s ok x (inr p) =
     let v = corner_vertex (face (tables_of s) e.0) f e.3 in
     omega (arith, u, v)
 
-module _ (to : ℕ → ℕ) (s t : List ℕ) (ok : judged s ≡ Accepted) (ok' : judged t ≡ Accepted) (h : NumberedBy to s t)
+module _ (to : ℕ → ℕ) (s t : List ℕ) (ok : judged s ≡ Ok tt) (ok' : judged t ≡ Ok tt) (h : NumberedBy to s t)
     (apart : (i j : ℕ) → Point s i → Point s j → i ≢ j → to i ≢ to j) where
   corner_carried : (i f : ℕ) → FaceNumber s f → CornerOf s i f → CornerOf t (to i) f
   corner_carried i f n (inl e) = inl (ap (λ (g : Face). g.p) (h.faces f n) ∙ ap to e)
@@ -190,7 +189,7 @@ module _ (to back : ℕ → ℕ) where
       by true = rw up (λ i. record { low = e i; high = f i; face = x.face })
       by false = rw down (λ i. record { low = e i; high = f i; face = x.face })
 
-  pub no_more_pairs : (s t : List ℕ) → judged s ≡ Accepted → judged t ≡ Accepted →
+  pub no_more_pairs : (s t : List ℕ) → judged s ≡ Ok tt → judged t ≡ Ok tt →
       ((x : Hit) → PiercedPair s x → (back (to x.low) ≡ x.low) × (back (to x.high) ≡ x.high)) →
       ((x : Hit) → PiercedPair s x → PiercedPair t (carried to x)) → length (listing_in (view_of s)) ≤ length (listing_in (view_of t))
   no_more_pairs s t ok ok' inverse pair =

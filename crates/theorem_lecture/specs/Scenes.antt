@@ -1,6 +1,6 @@
 -- Two accepted scenes of one shape, whose rows differ, but with which the same edges pierce the same faces: every question about them has
 -- the same answer, or the same refusal. Assumes nothing.
-use Rattle.std.specs.Prelude.{◌≡◌, ◌↔◌, ℕ, leb}
+use Rattle.std.specs.Prelude.{◌≡◌, ◌↔◌, ℕ, leb, Ok, Err}
 use Rattle.std.proofs.Math.Path.{refl, sym, ap, ap₂}
 use Rattle.std.proofs.Common.{◌∙◌}
 use Rattle.std.proofs.Math.Bool.{cond}
@@ -10,24 +10,19 @@ use Rattle.std.proofs.Math.ListN.{length}
 use Rattle.scene.specs.View.{View, view_of, verts, points, solid}
 use Rattle.scene.specs.declared.Refusal.{Refusal}
 use Rattle.judge.specs.Judge.{judged}
-use Rattle.judge.specs.declared.Judged.{Judged}
-use Rattle.judge.specs.declared.Judged.TheVariants.{Accepted, Refused}
+use Rattle.judge.specs.Judge.{Judged}
 use Rattle.pierce_masks.specs.Faces.{is_odd}
 use Rattle.questions.specs.Hits.{Hit, solid_hits, lowest_enclosed}
 use Rattle.questions.specs.First.{first_of}
 use Rattle.questions.specs.WritePairs.{part_in}
-use Rattle.questions.specs.Answers.{or_refuse, pierce_view, is_point, is_vertex, is_face, is_vertex_of, yes_no, edge_and_face, pierces_fault}
+use Rattle.questions.specs.Answers.{or_refuse, pierce_view, is_point, is_vertex, is_face, is_vertex_of, edge_and_face, pierces_fault}
 use Rattle.questions.specs.Answers.{pierces_in}
 use Rattle.questions.specs.Answers.{pierces_of, edge_and_solid, ends_off_solid, mask_fault, mask_in, refused, faces_are, masked_in, masked_of}
 use Rattle.questions.specs.Answers.{other_solid, is_enclosed, enclosed_fault, enclosed_in, enclosed_of, listing_in, inside_in, counts_in}
 use Rattle.questions.specs.Answers.{inside_fault, enclosing_in, inside_of, counted_of, cross_or, enclosure_in, verdict_in, verdict_of}
 use Rattle.questions.specs.Answers.{list_fault, listed_in, held_in, IsListed, IsPart}
 use Rattle.questions.specs.Asked.{Outside, mask_outside, enclosed_vertex_law, far_outside}
-use Rattle.questions.specs.declared.Answer.TheVariants as answer
-use Rattle.questions.specs.declared.Counted.TheVariants as counted
-use Rattle.questions.specs.declared.Enclosing.TheVariants as enclosing
-use Rattle.questions.specs.declared.Listed.{Listed}
-use Rattle.questions.specs.declared.Listed.TheVariants as listed
+use Rattle.questions.specs.Types.{Listed}
 use Rattle.questions.specs.declared.Verdict.{Verdict}
 use Rattle.questions.specs.declared.Verdict.TheVariants as verdict
 use Rattle.survey_scene.specs.Ready.{outside_beside, pierces_fit, sound}
@@ -35,16 +30,16 @@ use Rattle.theorem_lecture.specs.Alike.{SamePierced, masks_same, hits_same, coun
 use Rattle.theorem_lecture.specs.Lecture.{rows_of, points_of, SameShape, SameAnswers}
 
 -- the same is at fault, and where nothing is, the same is answered
-pub answered_same : {X : Type 0} (refuse : Refusal → X) {x y : X} {i j : Judged} → i ≡ j → (j ≡ Accepted → x ≡ y) →
+pub answered_same : {X : Type 0} (refuse : Refusal → X) {x y : X} {i j : Judged} → i ≡ j → (j ≡ Ok tt → x ≡ y) →
     or_refuse refuse i x ≡ or_refuse refuse j y
 unfolding or_refuse
 answered_same refuse {x} {y} {j} e h = ap (λ (k : Judged). or_refuse refuse k x) e ∙ by j h
   where
-    by : (j : Judged) → (j ≡ Accepted → x ≡ y) → or_refuse refuse j x ≡ or_refuse refuse j y
-    by Accepted h = h refl
-    by (Refused r) h = refl
+    by : (j : Judged) → (j ≡ Ok tt → x ≡ y) → or_refuse refuse j x ≡ or_refuse refuse j y
+    by (Ok _) h = h refl
+    by (Err r) h = refl
 
-module _ (s t : List ℕ) (ok : judged s ≡ Accepted) (ok' : judged t ≡ Accepted) (shape : SameShape s t)
+module _ (s t : List ℕ) (ok : judged s ≡ Ok tt) (ok' : judged t ≡ Ok tt) (shape : SameShape s t)
     (same : SamePierced (points_of s) (rows_of s) (rows_of t)) where
   abbrev v : View
   v = view_of s
@@ -78,7 +73,7 @@ module _ (s t : List ℕ) (ok : judged s ≡ Accepted) (ok' : judged t ≡ Accep
   pierces_same : (u x f : ℕ) → pierces_in w u x f ≡ pierces_in v u x f
   unfolding pierces_in pierces_fault edge_and_face is_point is_face
   pierces_same u x f =
-      answered_same answer.Refused refl (λ e. ap yes_no (sym (same u x (v.face f) (pierces_fit s ok f e refl refl refl).1.1)))
+      answered_same Err refl (λ e. ap Ok (sym (same u x (v.face f) (pierces_fit s ok f e refl refl refl).1.1)))
 
   -- ---- masks
 
@@ -96,8 +91,8 @@ module _ (s t : List ℕ) (ok : judged s ≡ Accepted) (ok' : judged t ≡ Accep
   enclosed_same : (i : ℕ) → enclosed_in w i ≡ enclosed_in v i
   unfolding enclosed_in enclosed_fault is_vertex is_enclosed other_solid
   enclosed_same i =
-      answered_same answer.Refused refl
-      (λ e. ap (λ (m : ℕ). yes_no (is_odd m)) (mask_same i (points v) (other_solid v i) (far_outside v i (enclosed_vertex_law v i e) refl refl)))
+      answered_same Err refl
+      (λ e. ap (λ (m : ℕ). Ok (is_odd m)) (mask_same i (points v) (other_solid v i) (far_outside v i (enclosed_vertex_law v i e) refl refl)))
 
   -- ---- the solids: pairs, and enclosed vertices
 
@@ -119,7 +114,7 @@ module _ (s t : List ℕ) (ok : judged s ≡ Accepted) (ok' : judged t ≡ Accep
 
   enclosing_same : (k : ℕ) → enclosing_in w k ≡ enclosing_in v k
   unfolding enclosing_in
-  enclosing_same k = ap (λ (n : ℕ). or_refuse enclosing.Refused (inside_fault k) (enclosing.Count n)) (inside k)
+  enclosing_same k = ap (λ (n : ℕ). or_refuse Err (inside_fault k) (Ok n)) (inside k)
 
   counts_are : counts_in w ≡ counts_in v
   unfolding counts_in
@@ -147,7 +142,7 @@ module _ (s t : List ℕ) (ok : judged s ≡ Accepted) (ok' : judged t ≡ Accep
 
   listed_so : (d d' : List ℕ) (r : Listed) → IsListed t d d' r ↔ IsListed s d d' r
   listed_so d d' r =
-      let a = of_bytes listed.Refused (λ z. listed_in z d) (list_same d) in
+      let a = of_bytes Err (λ z. listed_in z d) (list_same d) in
       let h = of_bytes (λ _. d) (λ z. held_in z d) (held_same d) in (
         λ x. record { answer = x.answer ∙ a; held = x.held ∙ h },
         λ x. record { answer = x.answer ∙ sym a; held = x.held ∙ sym h },
@@ -155,8 +150,8 @@ module _ (s t : List ℕ) (ok : judged s ≡ Accepted) (ok' : judged t ≡ Accep
 
   part_so : (from : ℕ) (d d' : List ℕ) (r : Listed) → IsPart t from d d' r ↔ IsPart s from d d' r
   part_so from d d' r =
-      let a = of_bytes listed.Refused (λ z. listed.Count (length (listing_in z)))
-      (ap (λ (l : List Hit). listed.Count (length l)) listing_same) in
+      let a = of_bytes Err (λ z. Ok (length (listing_in z)))
+      (ap (λ (l : List Hit). Ok (length l)) listing_same) in
       let h = of_bytes (λ _. d) (λ z. part_in (listing_in z) from d) (ap (λ (l : List Hit). part_in l from d) listing_same) in (
         λ x. record { answer = x.answer ∙ a; held = x.held ∙ h },
         λ x. record { answer = x.answer ∙ sym a; held = x.held ∙ sym h },
@@ -168,13 +163,13 @@ module _ (s t : List ℕ) (ok : judged s ≡ Accepted) (ok' : judged t ≡ Accep
   unfolding verdict_of masked_of pierces_of enclosed_of inside_of counted_of
   same_answers =
       record {
-        verdict = of_bytes verdict.Refused verdict_in verdict_same;
+        verdict = of_bytes Err (λ z. Ok (verdict_in z)) (ap Ok verdict_same);
         masks = λ u x k. of_bytes refused (λ z. masked_in z u x k) (masked_same u x k);
         listing = ap listing_in view_is ∙ listing_same;
         listed = listed_so;
         part = part_so;
-        pierces = λ u x f. of_bytes answer.Refused (λ z. pierces_in z u x f) (pierces_same u x f);
-        enclosed = λ i. of_bytes answer.Refused (λ z. enclosed_in z i) (enclosed_same i);
-        inside = λ k. of_bytes enclosing.Refused (λ z. enclosing_in z k) (enclosing_same k);
-        counted = of_bytes counted.Refused (λ z. counted.Counts (counts_in z)) (ap counted.Counts counts_are);
+        pierces = λ u x f. of_bytes Err (λ z. pierces_in z u x f) (pierces_same u x f);
+        enclosed = λ i. of_bytes Err (λ z. enclosed_in z i) (enclosed_same i);
+        inside = λ k. of_bytes Err (λ z. enclosing_in z k) (enclosing_same k);
+        counted = of_bytes Err (λ z. Ok (counts_in z)) (ap Ok counts_are);
       }

@@ -1,6 +1,6 @@
 -- A scene with ties whose verdict changes when A and B are exchanged: two tetrahedra on the two sides of one face. So nothing can be told
 -- of the exchange where a tie is broken. Assumes nothing.
-use Rattle.std.specs.Prelude.{◌≡◌, refl, List, [], ◌∷◌, ℕ, pos}
+use Rattle.std.specs.Prelude.{◌≡◌, refl, List, [], ◌∷◌, ℕ, pos, Ok}
 use Rattle.std.specs.Int.Count.{ones}
 use Rattle.laws.specs.Mask.{mask_of}
 use Rattle.laws.specs.Runs.{up_to}
@@ -8,7 +8,6 @@ use Rattle.scene.specs.Tables.{Table}
 use Rattle.scene.specs.View.{solid}
 use Rattle.scene.specs.Faces.{is_corner, has_both}
 use Rattle.judge.specs.Judge.{judged}
-use Rattle.judge.specs.declared.Judged.TheVariants.{Accepted}
 use Rattle.rules.specs.Write.{bytes_of}
 use Rattle.scene.specs.Edges.{joined}
 use Rattle.pierce_masks.specs.Faces.{is_odd}
@@ -39,9 +38,9 @@ abbrev pub touching : List ℕ
 touching = bytes_of (scene above below)
 
 pub record Ties : Type 0 where
-  pub accepted : judged touching ≡ Accepted
-  pub crosses : verdict_of touching ≡ Cross 5 6 4
-  pub exchanged : verdict_of (exchanged_bytes touching) ≡ Apart
+  pub accepted : judged touching ≡ Ok tt
+  pub crosses : verdict_of touching ≡ Ok (Cross 5 6 4)
+  pub exchanged : verdict_of (exchanged_bytes touching) ≡ Ok Apart
 
 pub ties : Ties
 unfolding judging piercing ones mask_of is_corner has_both joined is_odd up_to face_hits edge_hits pair_hits vertex_hits solid_hits enclosed_vertex

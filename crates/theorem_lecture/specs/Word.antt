@@ -1,11 +1,10 @@
 -- The word of a verdict is told by the counts alone: whether there is a pair, a vertex of A that is enclosed, one of B. Assumes nothing.
-use Rattle.std.specs.Prelude.{◌≡◌, refl, Bool, true, false, cond, List, [], ◌∷◌, ℕ, zero, suc, ◌+◌, ◌-◌, ◌≤◌, leb, ltb, length}
+use Rattle.std.specs.Prelude.{◌≡◌, refl, Bool, true, false, cond, List, [], ◌∷◌, ℕ, zero, suc, ◌+◌, ◌-◌, ◌≤◌, leb, ltb, length, Ok}
 use Rattle.std.proofs.Common.{sym, ap, ◌∙◌, arith, le-leb, lt-ltb}
 use Rattle.std.proofs.lemmas.Bool.{lt-leb}
 use Rattle.laws.specs.Range.{fold, over, more, count_of, lowest_of}
 use Rattle.scene.specs.View.{view_of, solid}
 use Rattle.judge.specs.Judge.{judged}
-use Rattle.judge.specs.declared.Judged.TheVariants.{Accepted}
 use Rattle.questions.specs.Hits.{Hit, enclosed_vertex, enclosed_count, lowest_enclosed}
 use Rattle.questions.specs.First.{first_of}
 use Rattle.questions.specs.Answers.{or_refuse, counts_in, inside_in, cross_or, enclosure_in, listing_in, verdict_in, verdict_of, verdict_number}
@@ -38,14 +37,14 @@ abbrev pub word_by : Counts → ℕ
 word_by c = word (ltb 0 c.pairs) (ltb 0 c.a_in_b) (ltb 0 c.b_in_a)
 
 word_is : (l : List Hit) (x y : Bool) (p q : ℕ) →
-    verdict_number (cross_or (first_of l) (cond x (AInB p) (cond y (BInA q) Apart))) ≡ word (ltb 0 (length l)) x y
+    verdict_number (Ok (cross_or (first_of l) (cond x (AInB p) (cond y (BInA q) Apart)))) ≡ word (ltb 0 (length l)) x y
 unfolding first_of
 word_is (h ∷ l) x y p q = rw (lt-ltb 0 (suc (length l)) (omega arith))
 word_is [] true y p q = refl
 word_is [] false true p q = refl
 word_is [] false false p q = refl
 
-pub word_by_counts : (s : List ℕ) → judged s ≡ Accepted → verdict_number (verdict_of s) ≡ word_by (counts_in (view_of s))
+pub word_by_counts : (s : List ℕ) → judged s ≡ Ok tt → verdict_number (verdict_of s) ≡ word_by (counts_in (view_of s))
 unfolding verdict_of verdict_in enclosure_in counts_in inside_in enclosed_count lowest_enclosed solid or_refuse
 word_by_counts s ok =
     let x = found (enclosed_vertex (seen_of s) (in_a s)) (0 + 1) (verts_a s) (verts_a s) (omega arith) in

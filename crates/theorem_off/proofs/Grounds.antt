@@ -1,5 +1,5 @@
 -- The rules and the grounds of a refusal, of the scene of tables held in their fields, are those of the tables themselves. Assumes nothing.
-use Rattle.std.specs.Prelude.{ℕ, zero, suc, ◌≤◌, ◌<◌, ◌≡◌, refl, ◌↔◌, length}
+use Rattle.std.specs.Prelude.{ℕ, zero, suc, ◌≤◌, ◌<◌, ◌≡◌, refl, ◌↔◌, length, Ok, Err}
 use Rattle.std.proofs.Math.Path.{sym, ap₂}
 use Rattle.std.proofs.Common.{ap, ◌∙◌, subst, arith}
 use mathlib.Core.Logic.Iff
@@ -15,7 +15,6 @@ use Rattle.scene.specs.declared.Face.{Face}
 use Rattle.scene.specs.declared.Refusal.{Refusal}
 use Rattle.scene.specs.declared.Refusal.TheVariants as refusal
 use Rattle.judge.specs.Judge.{judged}
-use Rattle.judge.specs.declared.Judged.TheVariants.{Accepted, Refused}
 use Rattle.rules.specs.Rules.{Between, CountsOk, HeaderOk, MarkOk, CoordinatesIn, CoordinatesOk, WeightIn, WeightOk, Zeros}
 use Rattle.rules.specs.Rules.{SomewhereOk, CornersOk, RecordOk, RecordsOk, Used, SidesOk}
 use Rattle.rules.specs.TableRules.{TablesOk}
@@ -373,15 +372,15 @@ module _ (t : Tables) (c : CountsIn limits t) where
   grounds_same refusal.NotDistinct = (absurd, absurd)
   grounds_same (refusal.BufferTooShort p) = (absurd, absurd)
 
-  pub judged_refused : (q : Refusal) → (judged (file_of t) ≡ Refused q) ↔ GroundsIn limits t q
+  pub judged_refused : (q : Refusal) → (judged (file_of t) ≡ Err q) ↔ GroundsIn limits t q
   judged_refused q = Iff.trans (refused limits (file_of t) q) (grounds_same q)
 
 -- ---- accepted exactly where the tables keep the rules
 
-pub judged_accepted : (t : Tables) → (judged (file_of t) ≡ Accepted) ↔ TablesOk limits t
+pub judged_accepted : (t : Tables) → (judged (file_of t) ≡ Ok tt) ↔ TablesOk limits t
 judged_accepted t = (
   λ ok.
       let h = subst (TablesOk limits) (tables_read t) (tables_ok limits (file_of t) ok) in
       subst (TablesOk limits) (tables_held t h) h,
-  λ h. subst (λ (u : Tables). judged (bytes_of u) ≡ Accepted) (sym (tables_kept t h)) (file_accepted limits_fit t h),
+  λ h. subst (λ (u : Tables). judged (bytes_of u) ≡ Ok tt) (sym (tables_kept t h)) (file_accepted limits_fit t h),
 )

@@ -1,7 +1,7 @@
 -- The scene of two texts is exactly the one that they denote: what `off_scene::scene_of` answers and leaves, by the tables of the numbers
 -- that stand in the texts (`denoted`), however long these are. The rules and the grounds of the refusals are those of the crate `rules`,
 -- asked of tables in place of a file. Assumes nothing.
-use Rattle.std.specs.Prelude.{ℕ, ◌+◌, ◌*◌, ◌≤◌, ◌<◌, ◌≡◌, ◌⊎◌, ◌↔◌, List, ◌∷◌, ◌++◌, length, get_or, take, drop}
+use Rattle.std.specs.Prelude.{ℕ, ◌+◌, ◌*◌, ◌≤◌, ◌<◌, ◌≡◌, ◌⊎◌, ◌↔◌, List, ◌∷◌, ◌++◌, length, get_or, take, drop, Result, Ok, Err}
 use Rattle.laws.specs.Lists.{Some}
 use Rattle.scene.specs.Limits.{Limits, limits, least_weight}
 use Rattle.scene.specs.Tables.{Tables, size, no_row, no_face, tables_of}
@@ -14,13 +14,10 @@ use Rattle.rules.specs.Rules.{Between, CoordinatesIn, WeightIn, Zeros}
 use Rattle.rules.specs.TableRules.{TablesOk}
 use Rattle.rules.specs.Write.{bytes_of}
 use Rattle.off_form.specs.Form.{form_of}
-use Rattle.off_form.specs.declared.Reading.TheVariants.{At}
 use Rattle.off_solids.specs.Solid.{denoted}
 use Rattle.off_solids.specs.declared.points.Point.{Point}
 use Rattle.off_scene.specs.declared.Fault.{Fault}
 use Rattle.off_scene.specs.declared.Fault.TheVariants.{OfScene}
-use Rattle.off_scene.specs.declared.Made.{Made}
-use Rattle.off_scene.specs.declared.Made.TheVariants.{Scene, Refused}
 
 -- ---- tables by the numbers of a file
 
@@ -138,18 +135,18 @@ pub record Fits (t : Tables) (room n : ℕ) : Type 0 where
 
 -- both texts have the form
 pub record Formed (a b : List ℕ) : Type 0 where
-  pub first : (k : ℕ) × (form_of a ≡ At k)
-  pub second : (k : ℕ) × (form_of b ≡ At k)
+  pub first : (k : ℕ) × (form_of a ≡ Ok k)
+  pub second : (k : ℕ) × (form_of b ≡ Ok k)
 
 -- out and out' are what the lent buffer held, and what it holds afterwards
-pub record IsScene (a b : List ℕ) (far : Point) (out out' : List ℕ) (r : Made) : Type 0 where
+pub record IsScene (a b : List ℕ) (far : Point) (out out' : List ℕ) (r : Result ℕ Fault) : Type 0 where
   -- a scene is made exactly where what the texts denote keeps the rules, and there is room for it
-  pub accepted : (n : ℕ) → (r ≡ Scene n) ↔ (Formed a b × Fits (denoted a b far) (length out) n)
+  pub accepted : (n : ℕ) → (r ≡ Ok n) ↔ (Formed a b × Fits (denoted a b far) (length out) n)
   -- and its bytes are those of what they denote, in front of what the buffer held there
-  pub bytes : (n : ℕ) → r ≡ Scene n → take n out' ≡ bytes_of (denoted a b far)
-  pub tables : (n : ℕ) → r ≡ Scene n → tables_of (take n out') ≡ denoted a b far
-  pub behind : (n : ℕ) → r ≡ Scene n → drop n out' ≡ drop n out
+  pub bytes : (n : ℕ) → r ≡ Ok n → take n out' ≡ bytes_of (denoted a b far)
+  pub tables : (n : ℕ) → r ≡ Ok n → tables_of (take n out') ≡ denoted a b far
+  pub behind : (n : ℕ) → r ≡ Ok n → drop n out' ≡ drop n out
   -- a refusal of a scene is the one that the rules give over what they denote, or else 13
-  pub refused : (q : Refusal) → (r ≡ Refused (OfScene q)) ↔
+  pub refused : (q : Refusal) → (r ≡ Err (OfScene q)) ↔
       (Formed a b × (GroundsIn limits (denoted a b far) q ⊎ Lacks (denoted a b far) (length out) q))
-  pub kept : (f : Fault) → r ≡ Refused f → out' ≡ out
+  pub kept : (f : Fault) → r ≡ Err f → out' ≡ out

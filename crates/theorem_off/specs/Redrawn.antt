@@ -1,6 +1,6 @@
 -- A drawing has the form of a text, and denotes the solid that was drawn. Assumes nothing.
 use Prim.Native.Nat.{ℕ, suc, ◌+◌, ◌*◌, ◌-◌, ◌<◌}
-use Rattle.std.specs.Prelude.{◌≡◌, Bool, pos, drop}
+use Rattle.std.specs.Prelude.{◌≡◌, Bool, pos, drop, Result, Ok, Err}
 use Rattle.std.proofs.Math.Path.{refl, sym, ap, ap₂, subst}
 use Rattle.std.proofs.Common.{◌∙◌, add-one, eq-eqb}
 use Rattle.std.proofs.Math.Bool.{true, false, cond}
@@ -17,8 +17,8 @@ use Rattle.off_items.specs.Items.{start_of, end_of, after}
 use Rattle.off_items.specs.Numbers.{whole_from}
 use Rattle.off_form.specs.Form.{go_on, wholes, face_from, faces_from, end_from, numbers_of, vertices_of, faces_of, faces_then, vertices_then}
 use Rattle.off_form.specs.Form.{counts_then, form_of}
-use Rattle.off_form.specs.declared.Reading.{Reading}
-use Rattle.off_form.specs.declared.Reading.TheVariants.{At, Outside}
+use Rattle.off_form.specs.declared.Flaw.{Flaw}
+use Rattle.off_form.specs.declared.Flaw.TheVariants.{Outside}
 use Rattle.off_solids.specs.Solid.{past, weight_from, row_from, row_of, corners_from, face_of, solid_of}
 use Rattle.off_solids.specs.ReadOf.{group_next}
 use Rattle.off_write.specs.Drawing.{row_words, face_words}
@@ -85,7 +85,7 @@ module _ (s : List ℕ) where
 
   pub record Triangle (at : ℕ) (f : Face) (ws : List Word) : Type 0 where
     pub is : corners_from s at ≡ f
-    pub read : face_from s at ≡ At (past s at 4)
+    pub read : face_from s at ≡ Ok (past s at 4)
     pub rest : Rest (drop (past s at 4) s) ws
 
   three_is : ascii "3" ≡ decimal 3
@@ -121,7 +121,7 @@ module _ (s : List ℕ) (four : Bool) (np : numbers_of s ≡ per four) where
 
   pub record Vertices (i : ℕ) (rs : List Row) (us : List Word) : Type 0 where
     pub is : run (row_of s) i (length rs) ≡ rs
-    pub read : wholes true (length rs * per four) s (vertex_at i) ≡ At (vertex_at (i + length rs))
+    pub read : wholes true (length rs * per four) s (vertex_at i) ≡ Ok (vertex_at (i + length rs))
     pub rest : Rest (drop (vertex_at (i + length rs)) s) us
 
   pub vertices_told : (rs : List Row) (i : ℕ) (us : List Word) → Each (Shown four) rs →
@@ -132,7 +132,7 @@ module _ (s : List ℕ) (four : Bool) (np : numbers_of s ≡ per four) where
       let z : 0 * per four ≡ 0 = omega arith in
       record {
         is = refl;
-        read = ap (λ (n : ℕ). wholes true n s (vertex_at i)) z ∙ ap (λ (n : ℕ). At (vertex_at n)) e;
+        read = ap (λ (n : ℕ). wholes true n s (vertex_at i)) z ∙ ap (λ (n : ℕ). Ok (vertex_at n)) e;
         rest = subst (λ (n : ℕ). Rest (drop (vertex_at n) s) us) e x;
       }
   vertices_told (r ∷ rs) i us h x =
@@ -146,7 +146,7 @@ module _ (s : List ℕ) (four : Bool) (np : numbers_of s ≡ per four) where
         is = ap₂ (λ (q : Row) (l : List Row). q ∷ l) (ap (λ (n : ℕ). row_from n s (after s (4 + i * n))) np ∙ v.is) k.is;
         read =
             ap (λ (n : ℕ). wholes true n s (vertex_at i)) d ∙ v.read (length rs * per four)
-            ∙ ap (wholes true (length rs * per four) s) g ∙ k.read ∙ ap (λ (n : ℕ). At (vertex_at n)) e;
+            ∙ ap (wholes true (length rs * per four) s) g ∙ k.read ∙ ap (λ (n : ℕ). Ok (vertex_at n)) e;
         rest = subst (λ (n : ℕ). Rest (drop (vertex_at n) s) us) e k.rest;
       }
 
@@ -156,7 +156,7 @@ module _ (s : List ℕ) where
 
   pub record Faces (i : ℕ) (fs : List Face) (us : List Word) : Type 0 where
     pub is : run (face_of s) i (length fs) ≡ fs
-    pub read : faces_from (length fs) s (face_at i) ≡ At (face_at (i + length fs))
+    pub read : faces_from (length fs) s (face_at i) ≡ Ok (face_at (i + length fs))
     pub rest : Rest (drop (face_at (i + length fs)) s) us
 
   pub faces_told : (fs : List Face) (i : ℕ) (us : List Word) → Each Cornered fs →
@@ -164,7 +164,7 @@ module _ (s : List ℕ) where
   unfolding flat_map faces_from face_of
   faces_told [] i us h x =
       let e : i ≡ i + 0 = omega arith in
-      record { is = refl; read = ap (λ (n : ℕ). At (face_at n)) e; rest = subst (λ (n : ℕ). Rest (drop (face_at n) s) us) e x }
+      record { is = refl; read = ap (λ (n : ℕ). Ok (face_at n)) e; rest = subst (λ (n : ℕ). Rest (drop (face_at n) s) us) e x }
   faces_told (f ∷ fs) i us h x =
       let v = next_triangle s (face_at i) f (flat_map face_words fs ++ us) h.0
       (subst (λ (ws : List Word). Rest (drop (face_at i) s) ws) (append_assoc (face_words f) (flat_map face_words fs) us) x) in
@@ -174,8 +174,8 @@ module _ (s : List ℕ) where
       record {
         is = ap₂ (λ (q : Face) (l : List Face). q ∷ l) v.is k.is;
         read =
-            ap (λ (r : Reading). go_on r (faces_from (length fs) s)) v.read ∙ ap (faces_from (length fs) s) g
-            ∙ k.read ∙ ap (λ (n : ℕ). At (face_at n)) e;
+            ap (λ (r : Result ℕ Flaw). go_on r (faces_from (length fs) s)) v.read ∙ ap (faces_from (length fs) s) g
+            ∙ k.read ∙ ap (λ (n : ℕ). Ok (face_at n)) e;
         rest = subst (λ (n : ℕ). Rest (drop (face_at n) s) us) e k.rest;
       }
 
@@ -184,7 +184,7 @@ module _ (s : List ℕ) where
 -- it has the form, and denotes this solid
 pub record Denotes (s : List ℕ) (t : Table) : Type 0 where
   pub end : ℕ
-  pub form : form_of s ≡ At end
+  pub form : form_of s ≡ Ok end
   pub solid : solid_of s ≡ t
 
 per_some : (four : Bool) → eqb (per four) 0 ≡ false
@@ -211,20 +211,20 @@ module _ (s : List ℕ) (four : Bool) (np : numbers_of s ≡ per four) (t : Tabl
       (let e : 4 + (0 + size t) * per four ≡ 4 + vertices_of s * numbers_of s + 0 * 4 = omega arith in ap (after s) e) in
       let f = faces_told s t.faces 0 [] cornered
       (subst (λ (n : ℕ). Rest (drop n s) (flat_map face_words t.faces ++ [])) behind-vertices v.rest) in
-      let counted : wholes false 3 s (after s 1) ≡ At (after s 4) = rw (a.whole, b.whole, c.whole) in
-      let rows_read : wholes true (vertices_of s * numbers_of s) s (after s 4) ≡ At (face_at s 0) =
-      ap₂ (λ (n k : ℕ). wholes true n s (after s k)) many zero-behind ∙ v.read ∙ ap At behind-vertices in
-      let faces_read : faces_from (faces_of s) s (face_at s 0) ≡ At (face_at s (0 + length t.faces)) =
+      let counted : wholes false 3 s (after s 1) ≡ Ok (after s 4) = rw (a.whole, b.whole, c.whole) in
+      let rows_read : wholes true (vertices_of s * numbers_of s) s (after s 4) ≡ Ok (face_at s 0) =
+      ap₂ (λ (n k : ℕ). wholes true n s (after s k)) many zero-behind ∙ v.read ∙ ap Ok behind-vertices in
+      let faces_read : faces_from (faces_of s) s (face_at s 0) ≡ Ok (face_at s (0 + length t.faces)) =
       ap (λ (n : ℕ). faces_from n s (face_at s 0)) b.size ∙ f.read in
       let last = face_at s (0 + length t.faces) in
-      let ended : end_from s last ≡ At last =
-      ap (λ (o : Bool). cond o (At last) (Outside (start_of s last))) (eq-eqb (start_of s last) (length s) (last_item s last f.rest)) in
+      let ended : end_from s last ≡ Ok last =
+      ap (λ (o : Bool). cond o (Ok last) (Err (Outside (start_of s last)))) (eq-eqb (start_of s last) (length s) (last_item s last f.rest)) in
       record {
         end = last;
         form =
-            ap (λ (o : Bool). cond o (Outside (start_of s 0)) (counts_then s)) (ap (λ (n : ℕ). eqb n 0) np ∙ per_some four)
-            ∙ ap (λ (r : Reading). go_on r (vertices_then s)) counted ∙ ap (λ (r : Reading). go_on r (faces_then s)) rows_read
-            ∙ ap (λ (r : Reading). go_on r (end_from s)) faces_read ∙ ended;
+            ap (λ (o : Bool). cond o (Err (Outside (start_of s 0))) (counts_then s)) (ap (λ (n : ℕ). eqb n 0) np ∙ per_some four)
+            ∙ ap (λ (r : Result ℕ Flaw). go_on r (vertices_then s)) counted ∙ ap (λ (r : Result ℕ Flaw). go_on r (faces_then s)) rows_read
+            ∙ ap (λ (r : Result ℕ Flaw). go_on r (end_from s)) faces_read ∙ ended;
         solid =
             (let rows = ap (run (row_of s) 0) a.size ∙ v.is in
             let faces = ap (run (face_of s) 0) b.size ∙ f.is in

@@ -1,5 +1,5 @@
 -- The drawing of a solid of an accepted scene reads back: it has the form of a text, and denotes that solid. Assumes nothing.
-use Rattle.std.specs.Prelude.{ℕ, ◌+◌, ◌-◌, ◌≡◌, refl, List, [], ◌∷◌, map}
+use Rattle.std.specs.Prelude.{ℕ, ◌+◌, ◌-◌, ◌≡◌, refl, List, [], ◌∷◌, map, Ok}
 use Rattle.std.proofs.Common.{sym, ap, ap₂, ◌∙◌, subst, arith}
 use Rattle.laws.specs.Lists.{each_map}
 use Rattle.laws.specs.Mapped.{run_from}
@@ -12,7 +12,6 @@ use Rattle.scene.specs.View.{view_of, solid_a, solid_b}
 use Rattle.scene.specs.View.Laws.{solid_a_law, solid_b_law}
 use Rattle.scene.specs.declared.Face.{Face}
 use Rattle.judge.specs.Judge.{judged}
-use Rattle.judge.specs.declared.Judged.TheVariants.{Accepted}
 use Rattle.rules.proofs.Given.{tables_ok}
 use Rattle.rules.proofs.Raised.{faces_a_law, faces_b_law}
 use Rattle.off_write.specs.Drawing.{lowered, table_in, drawn, drawn_of}
@@ -56,7 +55,7 @@ cornered f h = record { one = omega arith; two = omega arith; three = omega arit
 
 -- ---- the theorem
 
-module _ (s : List ℕ) (ok : judged s ≡ Accepted) where
+module _ (s : List ℕ) (ok : judged s ≡ Ok tt) where
   pub a_redrawn : Denotes (drawn_of s 1) (tables_of s).a
   a_redrawn =
       subst (λ (t : Table). Denotes (drawn t) (tables_of s).a) (sym (ap (table_in s) (solid_a_law (view_of s) refl) ∙ table_a s))

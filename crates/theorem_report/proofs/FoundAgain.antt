@@ -1,15 +1,13 @@
 -- What a report says of an accepted scene is found again in its text. Assumes nothing.
-use Rattle.std.specs.Prelude.{ℕ, ◌≡◌, refl, List, [], ◌∷◌, ◌++◌, map, drop}
+use Rattle.std.specs.Prelude.{ℕ, ◌≡◌, refl, List, [], ◌∷◌, ◌++◌, map, drop, Ok}
 use Rattle.std.proofs.Common.{ap, ◌∙◌}
 use Rattle.judge.specs.Judge.{judged}
-use Rattle.judge.specs.declared.Judged.{Judged}
-use Rattle.judge.specs.declared.Judged.TheVariants.{Accepted}
+use Rattle.judge.specs.Judge.{Judged}
 use Rattle.questions.specs.Hits.{Hit}
 use Rattle.scene.specs.View.{view_of}
 use Rattle.questions.specs.Answers.{or_refuse, counted_of, listing_in}
 use Rattle.questions.specs.declared.Counts.{Counts}
-use Rattle.questions.specs.declared.Counted.{Counted}
-use Rattle.questions.specs.declared.Counted.TheVariants as counted
+use Rattle.questions.specs.Types.{Counted}
 use Rattle.print.specs.Text.{text}
 use Rattle.print.specs.Decimal.{number_in, number_back}
 use Rattle.print.specs.Back.{Words, lines_in}
@@ -21,12 +19,12 @@ hits_back [] = refl
 hits_back (h ∷ l) =
     λ i. record { low = number_back h.low i; high = number_back h.high i; face = number_back h.face i } ∷ hits_back l i
 
-pub found_again : (s : List ℕ) (c : Counts) → judged s ≡ Accepted → counted_of s ≡ counted.Counts c → Again s c (text (report_of s))
+pub found_again : (s : List ℕ) (c : Counts) → judged s ≡ Ok tt → counted_of s ≡ Ok c → Again s c (text (report_of s))
 unfolding report_of listing_lines or_refuse
 found_again s c j e =
-    let ls : lines_in (text (report_of s)) ≡ head_of s (counted.Counts c) ++ map hit_line (listing_in (view_of s)) =
+    let ls : lines_in (text (report_of s)) ≡ head_of s (Ok c) ++ map hit_line (listing_in (view_of s)) =
     report_back s ∙ ap (λ (a : Counted). head_of s a ++ listing_lines s) e
-    ∙ ap (λ (k : Judged). head_of s (counted.Counts c) ++ or_refuse (λ _. []) k (map hit_line (listing_in (view_of s)))) j in
+    ∙ ap (λ (k : Judged). head_of s (Ok c) ++ or_refuse (λ _. []) k (map hit_line (listing_in (view_of s)))) j in
     record {
       word = ap (λ (l : List Words). word_in l 1 1) ls;
       a_in_b_law = ap (λ (l : List Words). number_in (word_in l 2 1)) ls ∙ number_back c.a_in_b;

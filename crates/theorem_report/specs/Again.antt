@@ -1,18 +1,16 @@
 -- A report reads back: from its text its lines are found again, and from them the verdict's word, the counts and the listing.
 -- (That it is found is proofs/FoundAgain.) Assumes nothing.
-use Rattle.std.specs.Prelude.{ℕ, ◌≡◌, refl, Bool, true, not, ◌&&◌, List, [], ◌∷◌, map, eqb, get_or, drop}
+use Rattle.std.specs.Prelude.{ℕ, ◌≡◌, refl, Bool, true, not, ◌&&◌, List, [], ◌∷◌, map, eqb, get_or, drop, Ok, Err}
 use Rattle.laws.specs.Lists.{Each, each_append}
 use Rattle.laws.specs.Decides.{and_iff, differ_iff}
 use Rattle.judge.specs.Judge.{judged}
-use Rattle.judge.specs.declared.Judged.{Judged}
-use Rattle.judge.specs.declared.Judged.TheVariants.{Accepted, Refused}
+use Rattle.judge.specs.Judge.{Judged}
 use Rattle.questions.specs.Hits.{Hit}
 use Rattle.scene.specs.View.{view_of}
 use Rattle.questions.specs.Answers.{or_refuse, verdict_of, counted_of, listing_in}
 use Rattle.questions.specs.declared.Counts.{Counts}
-use Rattle.questions.specs.declared.Counted.{Counted}
-use Rattle.questions.specs.declared.Counted.TheVariants as counted
-use Rattle.questions.specs.declared.Verdict.{Verdict}
+use Rattle.questions.specs.Types.{Counted}
+use Rattle.questions.specs.Types.{Concluded}
 use Rattle.questions.specs.declared.Verdict.TheVariants as verdict
 use Rattle.print.specs.Text.{ascii, text}
 use Rattle.print.specs.Decimal.{number_in}
@@ -34,18 +32,18 @@ plain_is (b ∷ w) e =
     let y = (and_iff _ _).0 x.0 in
     (record { no_space = (differ_iff b 32).0 y.0; no_newline = (differ_iff b 10).0 y.1 }, plain_is w x.1)
 
-word_plain : (v : Verdict) → Plain (word_of v)
+word_plain : (v : Concluded) → Plain (word_of v)
 unfolding all_plain
-word_plain (verdict.Cross u v f) = plain_is (ascii "cross") refl
-word_plain (verdict.AInB p) = plain_is (ascii "a-in-b") refl
-word_plain (verdict.BInA p) = plain_is (ascii "b-in-a") refl
-word_plain verdict.Apart = plain_is (ascii "apart") refl
-word_plain (verdict.Refused r) = plain_is (ascii "refused") refl
+word_plain (Ok (verdict.Cross u v f)) = plain_is (ascii "cross") refl
+word_plain (Ok (verdict.AInB p)) = plain_is (ascii "a-in-b") refl
+word_plain (Ok (verdict.BInA p)) = plain_is (ascii "b-in-a") refl
+word_plain (Ok verdict.Apart) = plain_is (ascii "apart") refl
+word_plain (Err r) = plain_is (ascii "refused") refl
 
 head_lines_law : (s : List ℕ) (a : Counted) → Each Line (head_of s a)
 unfolding all_plain
-head_lines_law s (counted.Refused r) = ((plain_is (ascii "refused") refl, (decimal_plain _, (decimal_plain _, tt))), tt)
-head_lines_law s (counted.Counts c) = (
+head_lines_law s (Err r) = ((plain_is (ascii "refused") refl, (decimal_plain _, (decimal_plain _, tt))), tt)
+head_lines_law s (Ok c) = (
   (plain_is (ascii "scene") refl, (decimal_plain _, (decimal_plain _, (decimal_plain _, (decimal_plain _, tt))))),
   (
     (plain_is (ascii "verdict") refl, (word_plain (verdict_of s), tt)),
@@ -65,8 +63,8 @@ unfolding listing_lines or_refuse
 listing_lines_law s = go (judged s)
   where
     go : (j : Judged) → Each Line (or_refuse (λ _. []) j (map hit_line (listing_in (view_of s))))
-    go Accepted = hits_lines (listing_in (view_of s))
-    go (Refused r) = tt
+    go (Ok _) = hits_lines (listing_in (view_of s))
+    go (Err r) = tt
 
 -- ---- so they are found again
 

@@ -1,14 +1,13 @@
 -- What a session holds, after any operations from any string of bytes, keeps the written rules, and demands 2 and 3 read on it, with the
 -- counts that a fresh count of it gives; or the session is empty. So it is of each group's session at a bench, after anyone's moves.
 -- Assumes nothing.
-use Rattle.std.specs.Prelude.{◌≡◌, ◌⊎◌, List, ℕ, ◌+◌, ◌%◌}
+use Rattle.std.specs.Prelude.{◌≡◌, ◌⊎◌, List, ℕ, ◌+◌, ◌%◌, Ok}
 use Rattle.std.proofs.Common.{inl, inr}
 use Rattle.std.specs.Int.Count.{ones}
 use Rattle.scene.specs.Limits.{limits}
 use Rattle.scene.specs.View.{view_of}
 use Rattle.rules.specs.Rules.{FileOk}
 use Rattle.questions.specs.Answers.{mask_in, counted_of}
-use Rattle.questions.specs.declared.Counted.TheVariants.{Counts}
 use Rattle.session.specs.Session.{scene, opened}
 use Rattle.session.specs.Kept as session
 use Rattle.session.specs.Kept.{Empty, Full}
@@ -28,7 +27,7 @@ pub record Held (s : Session) : Type 0 where
   pub exact : Exact (scene s)
   pub parity : (k : ℕ) → SolidNumber k → (u v w : ℕ) → Outside (scene s) k u v w →
       (ones (mask_in (view_of (scene s)) u v k) + ones (mask_in (view_of (scene s)) v w k) + ones (mask_in (view_of (scene s)) w u k)) % 2 ≡ 0
-  pub counts : counted_of (scene s) ≡ Counts s.counts
+  pub counts : counted_of (scene s) ≡ Ok s.counts
 
 abbrev pub EmptyOrHeld : Session → Type 0
 EmptyOrHeld s = Empty s ⊎ Held s

@@ -2,9 +2,9 @@
 use Rattle.bench_moves.specs.Laws.{open_refused, open_done}
 use Rattle.bench_moves.proofs.open.Goals as goal
 
-pub returns-in-Refused : goal.returns-in-Refused
-returns-in-Refused c =
-    open_refused _ _ c.open_fault.ensures c.in-Refused.is c.nothing.ensures c.nothing-in-Refused.ensures
+pub returns-in-Err : goal.returns-in-Err
+returns-in-Err c =
+    open_refused _ _ c.open_fault.ensures c.in-Err.is c.nothing.ensures c.nothing-in-Err.ensures
 
 pub returns : goal.returns
 returns c =

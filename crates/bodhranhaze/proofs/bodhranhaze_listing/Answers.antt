@@ -2,5 +2,5 @@
 use Rattle.bodhranhaze.specs.Calls.{listed_are}
 use Rattle.bodhranhaze.proofs.bodhranhaze_listing.Goals as goal
 
-pub returns-in-Count : goal.returns-in-Count
-returns-in-Count c = record { answer = search listed_are; held = search }
+pub returns-in-Ok : goal.returns-in-Ok
+returns-in-Ok c = record { answer = search listed_are; held = search }

@@ -6,8 +6,8 @@ use Rattle.class_block.proofs.is_headed.Goals as goal
 pub returns-then-s-lt6 : goal.returns-then-s-lt6
 returns-then-s-lt6 c = search unheaded
 
-pub returns-in-Refused : goal.returns-in-Refused
-returns-in-Refused c = search (headed_six, rules)
+pub returns-in-Err : goal.returns-in-Err
+returns-in-Err c = search (headed_six, rules)
 
 pub returns : goal.returns
 returns c = search (never_six, rules)

@@ -1,4 +1,5 @@
-use mathlib.Core.Path.{refl}
+use mathlib.Core.Path.{◌≡◌, refl}
+use lib.ListN.{length}
 use native.Mathlib.Omega.{arith}
 use Rattle.class_read.specs.Branches.{fed_end, fed_stops, read_next, end_next}
 use Rattle.class_read.proofs.feed.Goals as goal
@@ -13,4 +14,4 @@ pub loop-i-preserved : goal.loop-i-preserved
 loop-i-preserved c = search (read_next, end_next)
 
 pub returns : goal.returns
-returns c = search fed_end
+returns c = let e : c.loop-i.i ≡ length c.args.text.now = omega arith in rw (← e) (search fed_end)

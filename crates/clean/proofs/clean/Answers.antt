@@ -1,12 +1,10 @@
--- The judge decides; then some four points lie in one plane, or none do.
-use Rattle.clean.specs.Answers.{clean_refused, clean_no, clean_yes}
+-- The judge decides; then whether some four points lie in one plane.
+use Rattle.laws.specs.Exits.{exits}
+use Rattle.clean.specs.Answers.{clean_refused, clean_told}
 use Rattle.clean.proofs.clean.Goals as goal
 
-pub returns-in-Refused : goal.returns-in-Refused
-returns-in-Refused c = search clean_refused
-
-pub returns-then-flat_scene : goal.returns-then-flat_scene
-returns-then-flat_scene c = search clean_no
+pub returns-in_err-judge : goal.returns-in_err-judge
+returns-in_err-judge c = exits c.from_residual.ensures.1 (clean_refused _ c.judge.ensures c.in_err-judge.was)
 
 pub returns : goal.returns
-returns c = search clean_yes
+returns c = search (clean_told, c.in_ok-judge.was)

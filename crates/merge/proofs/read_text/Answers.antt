@@ -7,7 +7,7 @@ use Rattle.merge.proofs.read_text.Goals as goal
 pub overflow_add-bytes : goal.overflow_add-bytes
 overflow_add-bytes c = let w = fed_within _ _ _ c.read-f.ensures in omega (arith, simp (length-take, length-drop) at w)
 
-pub loop-left-preserved : goal.loop-left-preserved
-loop-left-preserved c =
+pub loop-preserved : goal.loop-preserved
+loop-preserved c =
     let w = fed_within _ _ _ c.read-f.ensures in
     (search rules, omega (arith, simp (length-take, length-drop) at w))

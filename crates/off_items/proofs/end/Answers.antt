@@ -1,30 +1,20 @@
-use mathlib.Core.Path.{refl}
-use native.Mathlib.Omega.{arith}
-use Rattle.off_items.specs.Items.{word_end}
-use Rattle.off_items.specs.Laws.{scans}
+-- Of an item come first the bytes before the first that separates.
+use Rattle.std.proofs.Common.{◌≡◌, ℕ, List, cond, refl, arith, ap}
+use Rattle.std.specs.List.{position_or_len}
+use Rattle.std.proofs.lemmas.List.Recursion.{is_position_or_len}
+use Rattle.std.proofs.lemmas.List.Sums.{prefix_len-le-length}
+use Rattle.std.proofs.lemmas.Grind.{common_steps}
+use Rattle.off_items.specs.Items.{separates, word, word_end}
 use Rattle.off_items.proofs.end.Goals as goal
 
-pub loop-i-init : goal.loop-i-init
+word_is : (s : List ℕ) → word s ≡ position_or_len separates s
+unfolding word
+word_is = is_position_or_len word separates refl (λ c s. ap (cond (separates c) 0) (omega arith))
+
+pub returns-in-Some : goal.returns-in-Some
 unfolding word_end
-loop-i-init c = (refl, omega arith, omega arith)
+returns-in-Some c = grind (arith, common_steps, word_is)
 
-pub bounds-text-i : goal.bounds-text-i
-bounds-text-i c = search scans
-
-pub separates-requires : goal.separates-requires
-separates-requires c = search scans
-
-pub returns-then-separates : goal.returns-then-separates
-returns-then-separates c = search scans
-
-pub overflow_add-i : goal.overflow_add-i
-overflow_add-i c = search scans
-
-pub loop-i-smaller : goal.loop-i-smaller
-loop-i-smaller c = search scans
-
-pub loop-i-preserved : goal.loop-i-preserved
-loop-i-preserved c = search scans
-
-pub returns : goal.returns
-returns c = search scans
+pub returns-in-None : goal.returns-in-None
+unfolding word_end
+returns-in-None c = grind (arith, common_steps, word_is, prefix_len-le-length)

@@ -1,5 +1,4 @@
 -- A line a turn.
-use Prim.Native.Nat.{◌-◌, ◌≤◌}
 use mathlib.Core.List.{map}
 use Rattle.laws.specs.Lists.{run}
 use Rattle.print.specs.Put.{Put}
@@ -10,7 +9,4 @@ use Rattle.off_write.proofs.faces.Given as goal
 
 abbrev pub invariant-loop-i : goal.invariant-loop-i
 invariant-loop-i l =
-    (l.i ≤ l.n) × Put l.initial.out l.at (text (map (λ f. face_words (lowered l.low f)) (run (face (tables_of l.s)) l.first l.i))) l.out l.p
-
-abbrev pub decreases-loop-i : goal.decreases-loop-i
-decreases-loop-i l = l.n - l.i
+    Put l.initial.out l.at (text (map (λ f. face_words (lowered l.low f)) (run (face (tables_of l.s)) l.first l.i))) l.out l.p

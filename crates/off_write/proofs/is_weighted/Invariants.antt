@@ -1,5 +1,5 @@
 -- The rest says what all say.
-use Prim.Native.Nat.{◌+◌, ◌-◌, ◌≤◌}
+use Prim.Native.Nat.{◌+◌, ◌-◌}
 use mathlib.Core.Path.{◌≡◌}
 use Rattle.laws.specs.Lists.{run}
 use Rattle.scene.specs.Tables.{tables_of, row}
@@ -8,7 +8,4 @@ use Rattle.off_write.proofs.is_weighted.Given as goal
 
 abbrev pub invariant-loop-i : goal.invariant-loop-i
 invariant-loop-i l =
-    (l.i ≤ l.n) × (weighted (run (row (tables_of l.s)) (l.first + l.i) (l.n - l.i)) ≡ weighted (run (row (tables_of l.s)) l.first l.n))
-
-abbrev pub decreases-loop-i : goal.decreases-loop-i
-decreases-loop-i l = l.n - l.i
+    (weighted (run (row (tables_of l.s)) (l.first + l.i) (l.n - l.i)) ≡ weighted (run (row (tables_of l.s)) l.first l.n))

@@ -10,11 +10,11 @@ returns-then-out-at c = put_full _ _ _ (omega arith)
 
 pub loop-i-init : goal.loop-i-init
 loop-i-init c =
-    (omega arith, lines_none (row_words c.args.is_four) (row (tables_of c.args.s.now)) c.args.first _ _ (omega arith))
+    (lines_none (row_words c.args.is_four) (row (tables_of c.args.s.now)) c.args.first _ _ (omega arith))
 
 pub loop-i-preserved : goal.loop-i-preserved
 loop-i-preserved c =
-    (omega arith, lines_more _ _ _ c.loop-i.i c.loop-i.invariant.1 c.row.ensures c.vertex-p.ensures)
+    (lines_more _ _ _ c.loop-i.i c.loop-i.invariant c.row.ensures c.vertex-p.ensures)
 
 pub returns : goal.returns
-returns c = lines_all _ _ _ c.loop-i.invariant.0 c.loop-i-test.false c.loop-i.invariant.1
+returns c = lines_all _ _ _ (omega arith) c.loop-i-test.false c.loop-i.invariant

@@ -2,5 +2,5 @@
 use Rattle.pack.specs.PackedProof.{number_passes}
 use Rattle.pack.proofs.passes.Goals as goal
 
-pub returns-in-Refused : goal.returns-in-Refused
-returns-in-Refused c = search number_passes
+pub returns-in-Err : goal.returns-in-Err
+returns-in-Err c = search number_passes

@@ -10,13 +10,13 @@ loop-h-init c = search rules
 
 pub returns-then-can_help : goal.returns-then-can_help
 returns-then-can_help c =
-    lowest_found (can_help _ _ _) _ _ c.loop-h.invariant.1 (omega arith) c.can_help.ensures c.if-can_help.true
+    lowest_found (can_help _ _ _) _ _ c.loop-h.invariant (omega arith) c.can_help.ensures c.if-can_help.true
 
 pub loop-h-preserved : goal.loop-h-preserved
 loop-h-preserved c =
-    (omega arith, lowest_next (can_help _ _ _) _ _ c.loop-h.invariant.1 (omega arith) c.can_help.ensures c.if-can_help.false)
+    lowest_next (can_help _ _ _) _ _ c.loop-h.invariant (omega arith) c.can_help.ensures c.if-can_help.false
 
 pub returns : goal.returns
 returns c =
-    let e = lowest_end (can_help _ _ _) _ _ c.loop-h.invariant.1 (omega arith) in
+    let e = lowest_end (can_help _ _ _) _ _ c.loop-h.invariant (omega arith) in
     omega arith

@@ -20,13 +20,10 @@ pierces-requires c =
       edge = (c.requires.edge.0, beside_same c.face_in-f.ensures (c.requires.edge.1 c.loop-k.k (search rules)));
     }
 
-pub overflow_shl-word : goal.overflow_shl-word
-overflow_shl-word c = omega arith
-
 pub loop-k-preserved : goal.loop-k-preserved
 loop-k-preserved c =
     let e = c.pierces.ensures ∙ ap (pierced _ _ _ _) c.face_in-f.ensures in
-    (omega arith, mask_more _ _ (omega arith) c.loop-k.invariant.1 (c.bit.ensures ∙ ap digit e))
+    mask_more _ _ (omega arith) c.loop-k.invariant (c.bit.ensures ∙ ap digit e)
 
 pub returns : goal.returns
-returns c = c.loop-k.invariant.1 ∙ ap (mask_of _) (omega arith)
+returns c = c.loop-k.invariant ∙ ap (mask_of _) (omega arith)

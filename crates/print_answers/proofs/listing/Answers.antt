@@ -4,10 +4,10 @@ use Rattle.print_lines.specs.Laws.{by_case}
 use Rattle.print_answers.specs.Said.{listing_line}
 use Rattle.print_answers.proofs.listing.Goals as goal
 
-pub returns-in-Refused : goal.returns-in-Refused
-returns-in-Refused c =
-    by_case listing_line (sym c.count-x.ensures ∙ c.in-Refused.is) c.refused.ensures
+pub returns-in-Err : goal.returns-in-Err
+returns-in-Err c =
+    by_case listing_line (sym c.count-x.ensures ∙ c.in-Err.is) c.refused.ensures
 
-pub returns-in-Counts : goal.returns-in-Counts
-returns-in-Counts c =
-    by_case listing_line (sym c.count-x.ensures ∙ c.in-Counts.is) c.pairs.ensures
+pub returns-in-Ok : goal.returns-in-Ok
+returns-in-Ok c =
+    by_case listing_line (sym c.count-x.ensures ∙ c.in-Ok.is) c.pairs.ensures

@@ -3,8 +3,8 @@ use mathlib.Core.Path.{sym, ◌∙◌}
 use Rattle.session.specs.Laws.{accepted_short, opened_not, opened_so}
 use Rattle.session.proofs.open.Goals as goal
 
-pub returns-in-Refused : goal.returns-in-Refused
-returns-in-Refused c = opened_not _ c.judge.ensures c.in-Refused.is c.empty.ensures
+pub returns-in-Err : goal.returns-in-Err
+returns-in-Err c = opened_not _ c.judge.ensures c.in-Err.is c.empty.ensures
 
 pub copy-requires : goal.copy-requires
 copy-requires c = accepted_short _ (sym c.judge.ensures ∙ c.in_default.is)

@@ -10,8 +10,8 @@ pub first_look-found-requires : goal.first_look-found-requires
 first_look-found-requires c =
     record { solid = (c.requires.0.within.sound, c.make_planes.ensures); links = c.fill_links.ensures.own; sloped = zeros_sloped _ _ }
 
-pub returns-in-Pair : goal.returns-in-Pair
-returns-in-Pair c =
+pub returns-in-Some : goal.returns-in-Some
+returns-in-Some c =
     let v = view_in c.args.n c.args.rows.now c.args.corners.now in
     sought_early v c.args.a c.args.b {x = c.first_look-found.result} (search rules) c.crossed.ensures c.first_look-found.ensures.0
 

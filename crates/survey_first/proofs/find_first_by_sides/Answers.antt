@@ -80,8 +80,8 @@ returns c =
     sought_none v c.args.a c.args.b c.first_of-of_a.ensures c.in_default.is
     c.first_of-of_b.ensures c.in_default-of_b.is c.inside_still.ensures c.inside_still-2.ensures
 
-pub returns-in-Pair : goal.returns-in-Pair
-returns-in-Pair c = search sought_in_a
+pub returns-in-Some : goal.returns-in-Some
+returns-in-Some c = search sought_in_a
 
-pub returns-in-Pair-of_b : goal.returns-in-Pair-of_b
-returns-in-Pair-of_b c = search sought_in_b
+pub returns-in-Some-of_b : goal.returns-in-Some-of_b
+returns-in-Some-of_b c = search sought_in_b

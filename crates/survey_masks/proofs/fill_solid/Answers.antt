@@ -7,7 +7,7 @@ use Rattle.survey_masks.specs.Store.{filled_none, filled_more}
 use Rattle.survey_masks.proofs.fill_solid.Goals as goal
 
 pub loop-i-init : goal.loop-i-init
-loop-i-init c = (omega arith, filled_none _ _ _)
+loop-i-init c = filled_none _ _ _
 
 pub fill_vertex-c-requires : goal.fill_vertex-c-requires
 fill_vertex-c-requires c =
@@ -15,14 +15,14 @@ fill_vertex-c-requires c =
     let r = room v c.args.k c.requires.solid.0 c.loop-i.i (omega arith) in record {
       solid = (c.requires.solid.0.sound, c.requires.solid.1, omega arith);
       room =
-          (omega (arith, c.loop-i.invariant.1.ends_size), omega (arith, c.loop-i.invariant.1.masks_size), omega (arith, c.loop-i.invariant.1.count, r));
+          (omega (arith, c.loop-i.invariant.ends_size), omega (arith, c.loop-i.invariant.masks_size), omega (arith, c.loop-i.invariant.count, r));
       sides = c.requires.sides;
     }
 
 pub loop-i-preserved : goal.loop-i-preserved
 loop-i-preserved c =
-    (omega arith, filled_more _ _ c.loop-i.invariant.1 c.fill_vertex-c.ensures)
+    filled_more _ _ c.loop-i.invariant c.fill_vertex-c.ensures
 
 pub returns : goal.returns
 unfolding solid_edges
-returns c = let e : c.loop-i.i ≡ c.args.k.verts = omega arith in rw e at c.loop-i.invariant.1
+returns c = let e : c.loop-i.i ≡ c.args.k.verts = omega arith in rw e at c.loop-i.invariant

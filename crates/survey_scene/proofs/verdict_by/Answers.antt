@@ -2,8 +2,8 @@
 use Rattle.survey_scene.specs.Readings.{cross_told, a_in_b_told, b_in_a_told, apart_told}
 use Rattle.survey_scene.proofs.verdict_by.Goals as goal
 
-pub returns-in-Pair : goal.returns-in-Pair
-returns-in-Pair c = search cross_told
+pub returns-in-Some : goal.returns-in-Some
+returns-in-Some c = search cross_told
 
 pub returns-then-p-a : goal.returns-then-p-a
 returns-then-p-a c = search a_in_b_told

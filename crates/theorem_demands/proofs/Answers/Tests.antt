@@ -1,6 +1,6 @@
 -- A question's rules: the scene's come first, so that the turn of a refusal tells which of them gave it; and what the tests of each
 -- question decide. Assumes nothing.
-use Rattle.std.specs.Prelude.{◌≡◌, refl, ◌↔◌, Bool, true, false, List, ℕ, suc, ◌≤◌, ◌<◌, eqb}
+use Rattle.std.specs.Prelude.{◌≡◌, refl, ◌↔◌, Bool, true, false, List, ℕ, suc, ◌≤◌, ◌<◌, eqb, Ok, Err}
 use Rattle.std.proofs.Common.{sym, ap, ⊎_elim, arith}
 use mathlib.Core.Logic.Iff
 use Rattle.laws.specs.Decides.{eqb_iff, and_iff, fails_iff, passes_iff, either_fails, not_fails}
@@ -13,8 +13,7 @@ use Rattle.scene.specs.declared.Refusal.{Refusal}
 use Rattle.scene.specs.declared.Refusal.TheVariants.{Opening, Counts, Length, Mark, Coordinate, Weight, Corner as BadCorner}
 use Rattle.scene.specs.declared.Refusal.TheVariants.{Unused, Edge, ListTooShort, NoSuchNumber, NotDistinct, BufferTooShort, FarAllZero}
 use Rattle.judge.specs.Judge.{refuse_unless, and_then, judged}
-use Rattle.judge.specs.declared.Judged.{Judged}
-use Rattle.judge.specs.declared.Judged.TheVariants.{Accepted, Refused}
+use Rattle.judge.specs.Judge.{Judged}
 use Rattle.rules.specs.Rules.{Between, FileOk}
 use Rattle.judge.specs.Tests.{never, within_iff, then_refused, rule_iff, then_iff}
 use Rattle.rules.specs.Numbers.{check_order, Gives, gives, gives_none, gives_wider, rule_alone, rule_next, then_here, then_next}
@@ -56,7 +55,7 @@ same_fails a b = not_fails (eqb a b) (eqb_iff a b)
 module _ (s : List ℕ) where
   module _ {Has Alike : Type 0} (p q : Bool) (has : (p ≡ true) ↔ Has) (alike : Has → (q ≡ false) ↔ Alike) where
     abbrev alone : Judged
-    alone = refuse_unless q NotDistinct Accepted
+    alone = refuse_unless q NotDistinct (Ok tt)
 
     abbrev own : Judged
     own = refuse_unless p NoSuchNumber alone
@@ -65,11 +64,11 @@ module _ (s : List ℕ) where
     own_gives = search gives
 
     -- at a turn that is neither the judge's nor one of these
-    neither : (r : Refusal) → 10 < check_order r → ¬ Between 12 13 (check_order r) → ¬ (and_then (judged s) own ≡ Refused r)
+    neither : (r : Refusal) → 10 < check_order r → ¬ Between 12 13 (check_order r) → ¬ (and_then (judged s) own ≡ Err r)
     neither r l n e =
         ⊎_elim (λ k. omega (arith, (judge_gives limits s).turn r k)) (λ k. n (own_gives.turn r k.1)) ((then_refused (judged s) own r).0 e)
 
-    pub asked : Refusals s (λ r. and_then (judged s) own ≡ Refused r) NoList Has Alike
+    pub asked : Refusals s (λ r. and_then (judged s) own ≡ Err r) NoList Has Alike
     asked =
         record {
           scene = λ r h. Iff.trans (then_here (judged s) own r 13
@@ -82,21 +81,21 @@ module _ (s : List ℕ) where
           same =
               Iff.trans (then_next (judged s) own NotDistinct 1 10 (judge_gives limits s) (omega arith) (accepted limits s)
               (rule_next has NoSuchNumber alone (omega arith)
-              (Iff.trans (rule_alone Iff.rfl NotDistinct Accepted 14 (gives_none 14 14)) (Iff.symm (fails_iff q Iff.rfl)))))
+              (Iff.trans (rule_alone Iff.rfl NotDistinct (Ok tt) 14 (gives_none 14 14)) (Iff.symm (fails_iff q Iff.rfl)))))
               (λ h. (h.0, h.1.0, (alike h.1.0).0 h.1.1), λ h. (h.0, (h.1, (alike h.1).1 h.2)));
         }
 
     -- none of them is at fault
-    pub asked_ok : (and_then (judged s) own ≡ Accepted) ↔ (FileOk limits s × Has × ¬ Alike)
+    pub asked_ok : (and_then (judged s) own ≡ Ok tt) ↔ (FileOk limits s × Has × ¬ Alike)
     asked_ok =
         Iff.trans (then_iff (judged s) own)
-        (Iff.trans (Iff.and (accepted limits s) (Iff.trans (rule_iff p NoSuchNumber alone) (Iff.and has (rule_iff q NotDistinct Accepted)))) (
+        (Iff.trans (Iff.and (accepted limits s) (Iff.trans (rule_iff p NoSuchNumber alone) (Iff.and has (rule_iff q NotDistinct (Ok tt))))) (
           λ h. (h.0, h.1.0, (passes_iff q (alike h.1.0)).0 h.1.1.0),
           λ h. (h.0, (h.1, ((passes_iff q (alike h.1)).1 h.2, refl))),
         ))
 
   -- no rules of its own
-  pub plain : Refusals s (λ r. judged s ≡ Refused r) NoList Always Never
+  pub plain : Refusals s (λ r. judged s ≡ Err r) NoList Always Never
   plain =
       record {
         scene = λ r h. table.refused limits s r;
@@ -121,26 +120,26 @@ module _ (s : List ℕ) where
 -- an answer is a refusal exactly when something is at fault
 pub answered_iff : {X : Type 0} (refuse : Refusal → X) → ((q r : Refusal) → refuse q ≡ refuse r → q ≡ r) → (x : X) →
     ((r : Refusal) → ¬ (x ≡ refuse r)) →
-    (j : Judged) (r : Refusal) → (or_refuse refuse j x ≡ refuse r) ↔ (j ≡ Refused r)
+    (j : Judged) (r : Refusal) → (or_refuse refuse j x ≡ refuse r) ↔ (j ≡ Err r)
 unfolding or_refuse
-answered_iff refuse one x not-refused Accepted r = (λ e. absurd (not-refused r e), λ e. absurd (never e))
-answered_iff refuse one x not-refused (Refused q) r = (λ e. ap Refused (one q r e), λ e. let d : q ≡ r = cc in ap refuse d)
+answered_iff refuse one x not-refused (Ok _) r = (λ e. absurd (not-refused r e), λ e. absurd (never e))
+answered_iff refuse one x not-refused (Err q) r = (λ e. ap Err (one q r e), λ e. let d : q ≡ r = cc in ap refuse d)
 
 -- and it is another answer exactly when nothing is
 pub answered_ok : {X : Type 0} (refuse : Refusal → X) (v : X) → ((r : Refusal) → ¬ (refuse r ≡ v)) → (j : Judged) (x : X) →
-    (or_refuse refuse j x ≡ v) ↔ ((j ≡ Accepted) × (x ≡ v))
+    (or_refuse refuse j x ≡ v) ↔ ((j ≡ Ok tt) × (x ≡ v))
 unfolding or_refuse
-answered_ok refuse v n Accepted x = (λ e. (refl, e), λ h. h.1)
-answered_ok refuse v n (Refused r) x = (λ e. absurd (n r e), λ h. absurd (never (sym h.0)))
+answered_ok refuse v n (Ok _) x = (λ e. (refl, e), λ h. h.1)
+answered_ok refuse v n (Err r) x = (λ e. absurd (n r e), λ h. absurd (never (sym h.0)))
 
 -- the same of the judge's refusal, else the question's own
 pub twice_iff : {X : Type 0} (refuse : Refusal → X) → ((q r : Refusal) → refuse q ≡ refuse r → q ≡ r) → (x : X) →
     ((r : Refusal) → ¬ (x ≡ refuse r)) →
-    (j k : Judged) (r : Refusal) → (or_refuse refuse j (or_refuse refuse k x) ≡ refuse r) ↔ (and_then j k ≡ Refused r)
+    (j k : Judged) (r : Refusal) → (or_refuse refuse j (or_refuse refuse k x) ≡ refuse r) ↔ (and_then j k ≡ Err r)
 twice_iff refuse one x n j k r = rw (answered_then refuse j k x) (answered_iff refuse one x n (and_then j k) r)
 
 pub twice_ok : {X : Type 0} (refuse : Refusal → X) (v : X) → ((r : Refusal) → ¬ (refuse r ≡ v)) → (j k : Judged) (x : X) →
-    (or_refuse refuse j (or_refuse refuse k x) ≡ v) ↔ ((and_then j k ≡ Accepted) × (x ≡ v))
+    (or_refuse refuse j (or_refuse refuse k x) ≡ v) ↔ ((and_then j k ≡ Ok tt) × (x ≡ v))
 twice_ok refuse v n j k x = rw (answered_then refuse j k x) (answered_ok refuse v n (and_then j k) x)
 
 -- ---- what each question asks of its numbers

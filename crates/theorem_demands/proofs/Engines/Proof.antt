@@ -1,11 +1,10 @@
 -- Both engines are the test of five signs: an accepted scene's points have weights, so their signs keep the rules. Assumes nothing.
-use Rattle.std.specs.Prelude.{◌≡◌, List, ℕ, ◌+◌, ◌≤◌}
+use Rattle.std.specs.Prelude.{◌≡◌, List, ℕ, ◌+◌, ◌≤◌, Ok, Err}
 use Rattle.std.proofs.Common.{sym, ap, ◌∙◌, arith}
 use Rattle.scene.specs.Limits.{limits}
 use Rattle.scene.specs.Records.{verts}
 use Rattle.scene.specs.Tables.{tables_of, row}
 use Rattle.judge.specs.Judge.{judged}
-use Rattle.judge.specs.declared.Judged.TheVariants.{Accepted}
 use Rattle.rules.proofs.Given.{counts}
 use Rattle.orient.proofs.Rules.{rules}
 use Rattle.orient.specs.Signs.{Upto, Rules}
@@ -14,11 +13,10 @@ use Rattle.pierce.specs.Formula.{pierces}
 use Rattle.pierce_plain.specs.Five.{five_pierce}
 use Rattle.survey_scene.specs.Ready.{scene_weighted}
 use Rattle.questions.specs.Answers.{or_refuse, pierces_of, masked_of, enclosed_of, counted_of, inside_of, verdict_of, listed_in, held_in}
-use Rattle.questions.specs.declared.Listed.TheVariants.{Refused}
 use Rattle.scene.specs.View.{view_of}
 use Rattle.theorem_demands.specs.Engines.{sign_in, SameEngines, AnyHelper, OneAnswer}
 
-module _ (s : List ℕ) (ok : judged s ≡ Accepted) where
+module _ (s : List ℕ) (ok : judged s ≡ Ok tt) where
   six : 6 ≤ verts s + 1
   six = let c = counts limits s ok in omega (arith, c.vertices_a_law, c.vertices_b_law)
 
@@ -45,7 +43,7 @@ one_answer =
       inside = λ κs λs g h s t k r q e d p x y. x ∙ ap (λ (b : List ℕ). inside_of b k) p ∙ sym y;
       verdict = λ κs λs g h s t r q e d p x y. x ∙ ap verdict_of p ∙ sym y;
       listing = λ κs λs g h s t out list r q g' h' s' t' out' list' p o x y. (
-        x.answer ∙ (λ i. or_refuse Refused (judged (p i)) (listed_in (view_of (p i)) (o i))) ∙ sym y.answer,
+        x.answer ∙ (λ i. or_refuse Err (judged (p i)) (listed_in (view_of (p i)) (o i))) ∙ sym y.answer,
         x.held ∙ (λ i. or_refuse (λ _. o i) (judged (p i)) (held_in (view_of (p i)) (o i))) ∙ sym y.held,
       );
     }

@@ -1,5 +1,5 @@
 -- The entries of the listing of an accepted scene are the pierced pairs, each once, and they rise. Assumes nothing.
-use Rattle.std.specs.Prelude.{◌≡◌, ◌↔◌, true, ◌&&◌, List, [], ◌∷◌, ltb}
+use Rattle.std.specs.Prelude.{◌≡◌, ◌↔◌, true, ◌&&◌, List, [], ◌∷◌, ltb, Ok}
 use Rattle.std.proofs.Common.{sym, ◌∙◌}
 use Rattle.std.proofs.Math.Path.{subst}
 use Rattle.std.proofs.Math.Logic.{inl, inr, ⊎_elim}
@@ -16,7 +16,6 @@ use Rattle.scene.specs.Tables.{tables_of, face}
 use Rattle.scene.specs.Faces.{Corner, Both, Vertex, FaceOf, both_iff}
 use Rattle.scene.specs.declared.Face.{Face}
 use Rattle.judge.specs.Judge.{judged}
-use Rattle.judge.specs.declared.Judged.TheVariants.{Accepted}
 use Rattle.scene.specs.Edges.{joined, Corners}
 use Rattle.scene.specs.declared.Solid.{Solid}
 use Rattle.pierce.specs.Formula.{pierced}
@@ -158,7 +157,7 @@ module _ (s : List ℕ) where
         numbers_in (solid_rises (pierce_view (view_of s)) k)
 
   -- of both, A's first
-  module _ (ok : judged s ≡ Accepted) where
+  module _ (ok : judged s ≡ Ok tt) where
     pub members : (h : Hit) → Some (λ x. x ≡ h) (listing_in (view_of s)) ↔ PiercedPair s h
     unfolding listing_in solid
     members h =
@@ -174,7 +173,7 @@ module _ (s : List ℕ) where
       (each_map (λ x p. each_map (λ y q. inl (omega (arith, p, q))) (hits_of (solid_b (view_of s))) (numbers_in (b_worded s)))
       (hits_of (solid_a (view_of s))) (numbers_in (a_worded s)))
 
-  pub listing_is : judged s ≡ Accepted → ListingIs s
+  pub listing_is : judged s ≡ Ok tt → ListingIs s
   listing_is ok =
       record {
         rising = rises;

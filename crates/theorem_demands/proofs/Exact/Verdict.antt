@@ -1,5 +1,6 @@
 -- The verdict of an accepted scene is what the first of its listing and the lowest of its enclosed vertices say. Assumes nothing.
-use Rattle.std.specs.Prelude.{◌≡◌, ◌⊎◌, ◌↔◌, ℕ, ◌+◌, ◌<◌, leb}
+use Rattle.std.specs.Prelude.{◌≡◌, ◌⊎◌, ◌↔◌, ℕ, ◌+◌, ◌<◌, leb, Ok}
+use Rattle.std.specs.declared.option.Option.TheVariants as option
 use Rattle.std.proofs.Math.Path.{refl, sym, ap}
 use Rattle.std.proofs.Common.{◌∙◌, subst, inl, inr, arith}
 use Rattle.std.proofs.Math.Logic.{⊎_elim}
@@ -12,12 +13,10 @@ use Rattle.laws.specs.Members.{each_of}
 use Rattle.laws.specs.Rising.{Rising, less_never, less_back}
 use Rattle.scene.specs.Records.{verts_a, verts}
 use Rattle.judge.specs.Judge.{judged}
-use Rattle.judge.specs.declared.Judged.TheVariants.{Accepted}
 use Rattle.scene.specs.declared.Solid.{Solid}
 use Rattle.questions.specs.Hits.{Hit, enclosed_vertex, lowest_enclosed}
 use Rattle.questions.specs.First.{first_of}
 use Rattle.questions.specs.WritePairs.{three}
-use Rattle.questions.specs.declared.find.Found.TheVariants.{Nothing, Pair}
 use Rattle.scene.specs.View.{view_of, solid_a, solid_b, solid}
 use Rattle.questions.specs.Answers.{enclosure_in, verdict_in, listing_in, pierce_view}
 use Rattle.questions.specs.declared.Verdict.{Verdict}
@@ -36,14 +35,14 @@ module _ (s : List ℕ) where
   abbrev Lists : List Hit → Type 0
   Lists l = Rising (Before s) l × ((h : Hit) → Some (λ k. k ≡ h) l ↔ PiercedPair s h)
 
-  first_pair : (l : List Hit) → Lists l → (h : Hit) → FirstPair s h → first_of l ≡ Pair h.low h.high h.face
+  first_pair : (l : List Hit) → Lists l → (h : Hit) → FirstPair s h → first_of l ≡ option.Some (h.low, h.high, h.face)
   unfolding first_of
   first_pair [] m h p = absurd ((m.1 h).1 p.pierced)
   first_pair (x ∷ l) m h p =
-      ⊎_elim (λ e. ap (λ (h : Hit). Pair h.low h.high h.face) e)
+      ⊎_elim (λ e. ap (λ (h : Hit). option.Some (h.low, h.high, h.face)) e)
       (λ t. absurd (p.none_earlier x ((m.1 x).0 (inl refl)) (each_of (Before s x) l m.0.0 h t))) ((m.1 h).1 p.pierced)
 
-  none_first : (l : List Hit) → Lists l → NonePierced s → first_of l ≡ Nothing
+  none_first : (l : List Hit) → Lists l → NonePierced s → first_of l ≡ option.None
   unfolding first_of
   none_first [] m n = refl
   none_first (x ∷ l) m n =
@@ -124,20 +123,18 @@ module _ (s : List ℕ) where
   -- ---- the verdict
 
   abbrev pub Says : Verdict → Type 0
-  Says (verdict.Refused r) = ⊥
   Says (verdict.Cross u v f) = FirstPair s (record { low = u; high = v; face = f })
   Says (verdict.AInB p) = NonePierced s × LowestEnclosed s (VertexOfA s) p
   Says (verdict.BInA p) = NonePierced s × NoneEnclosed s (VertexOfA s) × LowestEnclosed s (VertexOfB s) p
   Says verdict.Apart = NonePierced s × NoneEnclosed s (VertexOfA s) × NoneEnclosed s (VertexOfB s)
 
-  module _ (ok : judged s ≡ Accepted) where
+  module _ (ok : judged s ≡ Ok tt) where
     lists : Lists (listing_in (view_of s))
     lists = (rises s, members s ok)
 
     -- what a verdict says holds of that verdict alone
     given : (v : Verdict) → Says v → verdict_in (view_of s) ≡ v
     unfolding verdict_in
-    given (verdict.Refused r) h = absurd h
     given (verdict.Cross u v f) h = rw (first_pair (listing_in (view_of s)) lists _ h)
     given (verdict.AInB p) h = rw (none_first (listing_in (view_of s)) lists h.0) (in_a_law p h.1)
     given (verdict.BInA p) h = rw (none_first (listing_in (view_of s)) lists h.0) (in_b_law h.1 p h.2)

@@ -1,5 +1,5 @@
 -- What was accepted is accepted still, with the same answers. Assumes nothing.
-use Rattle.std.specs.Prelude.{◌≡◌, List, ◌≢◌, ℕ, ◌+◌, ◌≤◌, ◌<◌, pos, nat_abs}
+use Rattle.std.specs.Prelude.{◌≡◌, List, ◌≢◌, ℕ, ◌+◌, ◌≤◌, ◌<◌, pos, nat_abs, Ok, Err}
 use Rattle.std.proofs.Math.Path.{refl, sym}
 use Rattle.std.proofs.Common.{ap, subst, ◌∙◌, arith}
 use Rattle.std.proofs.Math.Decide.{dec_lt}
@@ -21,17 +21,10 @@ use Rattle.scene.specs.declared.Refusal.{Refusal}
 use Rattle.scene.specs.declared.Refusal.TheVariants.{Counts}
 use Rattle.judge.specs.Judge.{refuse_unless, and_then, counts_ok, header_fault, coordinate_ok, weight_ok, point_fault}
 use Rattle.judge.specs.Judge.{record_fault, records_fault, judged_at, judged}
-use Rattle.judge.specs.declared.Judged.{Judged}
-use Rattle.judge.specs.declared.Judged.TheVariants.{Accepted, Refused}
+use Rattle.judge.specs.Judge.{Judged}
 use Rattle.rules.specs.Rules.{CountsOk, FileOk}
 use Rattle.rules.proofs.Accepted.{opens_iff, counts_iff, accepted}
 use Rattle.questions.specs.Answers.{or_refuse, sign_of, pierces_of, masked_of, refused, enclosed_of, counted_of, inside_of, verdict_of}
-use Rattle.questions.specs.declared.Signed.TheVariants as sign
-use Rattle.questions.specs.declared.Answer.TheVariants as answer
-use Rattle.questions.specs.declared.Counted.TheVariants as counted
-use Rattle.questions.specs.declared.Enclosing.TheVariants as enclosing
-use Rattle.questions.specs.declared.Verdict.TheVariants as verdict
-use Rattle.questions.specs.declared.Listed.TheVariants as listed
 use Rattle.theorem_demands.specs.Kept.{Answers, Still, RulesOfWeights, by_weight, terms_by_weight, sign_by_weight, SameTerms, AllWeighted}
 use Rattle.theorem_demands.specs.Kept.{SharedEdges, LargerModels, FarAtInfinity, FirstKernel}
 use Rattle.theorem_demands.specs.Kept.Before.{judged_before}
@@ -40,23 +33,23 @@ use Rattle.theorem_demands.proofs.Kept.Before.Proof.{least_one, before_accepted,
 use Rattle.theorem_demands.proofs.Shift.Same.{pierces_same}
 
 -- the scene's judgement comes first, and says nothing
-taken : {X : Type 0} (refuse : Refusal → X) {j : Judged} → j ≡ Accepted → (x : X) → or_refuse refuse j x ≡ x
+taken : {X : Type 0} (refuse : Refusal → X) {j : Judged} → j ≡ Ok tt → (x : X) → or_refuse refuse j x ≡ x
 unfolding or_refuse
 taken refuse e x = ap (λ (j : Judged). or_refuse refuse j x) e
 
-pub answers_of : (s : List ℕ) → judged s ≡ Accepted → Answers s
+pub answers_of : (s : List ℕ) → judged s ≡ Ok tt → Answers s
 unfolding sign_of pierces_of masked_of enclosed_of counted_of inside_of verdict_of
 answers_of s e =
     record {
-      sign = λ a b c d. taken sign.Refused e _;
-      pierces = λ u v f. taken answer.Refused e _;
+      sign = λ a b c d. taken Err e _;
+      pierces = λ u v f. taken Err e _;
       mask = λ u v k. taken refused e _;
-      enclosed = λ i. taken answer.Refused e _;
-      counts = taken counted.Refused e _;
-      inside = λ k. taken enclosing.Refused e _;
-      verdict = taken verdict.Refused e _;
-      listing = λ d d' r h. (h.answer ∙ taken listed.Refused e _, h.held ∙ taken (λ _. d) e _);
-      part = λ from d d' r h. (h.answer ∙ taken listed.Refused e _, h.held ∙ taken (λ _. d) e _);
+      enclosed = λ i. taken Err e _;
+      counts = taken Err e _;
+      inside = λ k. taken Err e _;
+      verdict = taken Err e _;
+      listing = λ d d' r h. (h.answer ∙ taken Err e _, h.held ∙ taken (λ _. d) e _);
+      part = λ from d d' r h. (h.answer ∙ taken Err e _, h.held ∙ taken (λ _. d) e _);
     }
 
 still : (s : List ℕ) → FileOk limits s → Still s
@@ -97,7 +90,7 @@ module _ (s : List ℕ) where
   unfolding judged_at
   alike c = rw (same_header ((counts_iff limits_before s).1 c ∙ sym ((counts_iff limits s).1 (wider c))), same_records)
 
-  refused_then : judged s ≡ Accepted → (CountsOk limits_before s → ⊥) → judged_at limits_before s ≡ Refused Counts
+  refused_then : judged s ≡ Ok tt → (CountsOk limits_before s → ⊥) → judged_at limits_before s ≡ Err Counts
   unfolding judged_at header_fault refuse_unless and_then
   refused_then e n =
       let h = (accepted limits s).0 e in
@@ -189,7 +182,7 @@ far_at_infinity s h =
 
 -- ---- what the judge of document 01 accepted keeps the rules of weights
 
-before_weighted : (s : List ℕ) → judged_before s ≡ Accepted → AllWeighted s
+before_weighted : (s : List ℕ) → judged_before s ≡ Ok tt → AllWeighted s
 before_weighted s e =
     let a = before_accepted s e in
     let h = (accepted limits s).0 (sym (alike s ((accepted limits_before s).0 a).header.counts) ∙ a) in

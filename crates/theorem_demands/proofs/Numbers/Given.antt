@@ -1,6 +1,6 @@
 -- Demand 1, each refusal number given: bytes for 1 to 9 and 14, and for 10, 11 and 12 a scene that keeps the rules, in which an edge of B
 -- pierces a face of A. Assumes nothing.
-use Rattle.std.specs.Prelude.{◌≡◌, refl, List, [], ◌∷◌, ◌++◌, ℕ, ◌<◌, length, set}
+use Rattle.std.specs.Prelude.{◌≡◌, refl, List, [], ◌∷◌, ◌++◌, ℕ, ◌<◌, length, set, Ok, Err}
 use Rattle.std.proofs.Common.{sym, subst, inl, inr, arith}
 use Rattle.laws.specs.Range.{first_of, over, any_of, count_of, lowest_of}
 use Rattle.laws.specs.Lists.{Each, Some, each_append, run, run_each}
@@ -16,7 +16,6 @@ use Rattle.judge.specs.Judge.{refuse_unless, and_then, opens, counts_ok, header_
 use Rattle.judge.specs.Judge.{nowhere, somewhere_ok, point_fault, are_corners}
 use Rattle.judge.specs.Judge.{verts_at, corners_ok, face_fault, end_fault, record_fault, records_fault, is_corner_of, is_edge, is_used, unused_fault}
 use Rattle.judge.specs.Judge.{unuseds_fault, edge_ok, sides_ok, closed_at, edge_fault, edges_fault, judged_at, judged}
-use Rattle.judge.specs.declared.Judged.TheVariants.{Accepted, Refused}
 use Rattle.rules.specs.Rules.{FileOk}
 use Rattle.rules.specs.Grounds.{Grounds}
 use Rattle.rules.proofs.Accepted.{accepted}
@@ -26,8 +25,7 @@ use Rattle.pierce.specs.Formula.{can_help, helper, counts, sides_count, formula,
 use Rattle.questions.specs.WritePairs.{part_in}
 use Rattle.scene.specs.View.{view_of}
 use Rattle.questions.specs.Answers.{or_refuse, IsListed, IsPart, listing_in, listed_in, held_in}
-use Rattle.questions.specs.declared.Listed.{Listed}
-use Rattle.questions.specs.declared.Listed.TheVariants as listed
+use Rattle.questions.specs.Types.{Listed}
 use Rattle.theorem_demands.specs.Words.{Pierces, CornerOf}
 use Rattle.theorem_demands.specs.Numbers.{of_scene, Gives}
 use Rattle.theorem_demands.specs.Answers.{OfScene}
@@ -73,7 +71,7 @@ four =
     70 ∷ 67 ∷ 1 ∷ 2 ∷ 3 ∷
     69 ∷ 78 ∷ []
 
-base_accepted : judged base ≡ Accepted
+base_accepted : judged base ≡ Ok tt
 unfolding judged_at and_then refuse_unless header_fault opens counts_ok within records_fault first_of over record_fault point_fault coordinate_ok
     weight_ok
     nowhere somewhere_ok face_fault corners_ok are_corners verts_at end_fault unuseds_fault unused_fault is_used is_corner_of is_corner any_of edges_fault
@@ -87,7 +85,7 @@ keeps = (accepted limits base).0 base_accepted
 -- face and in one; and a far point of four zeros
 
 abbrev ByScene : List ℕ → Refusal → Type 0
-ByScene s r = judged s ≡ Refused r
+ByScene s r = judged s ≡ Err r
 
 ten : Each (Given ByScene) of_scene
 unfolding judged_at and_then refuse_unless header_fault opens counts_ok within records_fault first_of over record_fault point_fault coordinate_ok
@@ -162,7 +160,7 @@ not_empty =
     (inr (record { lower_first = omega arith; on = (3, (omega arith, omega arith), on_4, on_5) }, (omega arith, omega arith), through)))
 
 abbrev pub listed_of : (s d : List ℕ) → Listed
-listed_of s d = or_refuse listed.Refused (judged s) (listed_in (view_of s) d)
+listed_of s d = or_refuse Err (judged s) (listed_in (view_of s) d)
 
 abbrev pub held_of : (s d : List ℕ) → List ℕ
 held_of s d = or_refuse (λ _. d) (judged s) (held_in (view_of s) d)
@@ -171,7 +169,7 @@ pub is_listed : (s d : List ℕ) → IsListed s d (held_of s d) (listed_of s d)
 is_listed s d = record { answer = refl; held = refl }
 
 abbrev pub part_of : List ℕ → Listed
-part_of s = or_refuse listed.Refused (judged s) (listed.Count (length (listing_in (view_of s))))
+part_of s = or_refuse Err (judged s) (Ok (length (listing_in (view_of s))))
 
 abbrev pub part_held : List ℕ → List ℕ
 part_held s = or_refuse (λ _. []) (judged s) (part_in (listing_in (view_of s)) 0 [])

@@ -1,5 +1,5 @@
 -- The refusal numbers of each question, from exactly when each is given. Assumes nothing.
-use Rattle.std.specs.Prelude.{◌≡◌, refl, List, [], ◌∷◌, ◌++◌, ℕ, length}
+use Rattle.std.specs.Prelude.{◌≡◌, refl, List, [], ◌∷◌, ◌++◌, ℕ, length, Err}
 use Rattle.std.proofs.Common.{inl, inr, arith}
 use Rattle.laws.specs.Lists.{Some}
 use Rattle.scene.specs.Refusal.{number_of}
@@ -8,8 +8,7 @@ use Rattle.scene.specs.declared.Refusal.TheVariants.{Opening, Counts, Length, Ma
 use Rattle.scene.specs.declared.Refusal.TheVariants.{Unused, Edge, ListTooShort, NoSuchNumber, NotDistinct, BufferTooShort, FarAllZero}
 use Rattle.scene.specs.View.{view_of}
 use Rattle.questions.specs.Answers.{IsListed, listing_in}
-use Rattle.questions.specs.declared.Listed.{Listed}
-use Rattle.questions.specs.declared.Listed.TheVariants as listed
+use Rattle.questions.specs.Types.{Listed}
 use Rattle.theorem_demands.specs.Answers.{Refusals, NoList}
 use Rattle.theorem_demands.proofs.Answers.Proof.{answers}
 use Rattle.theorem_demands.specs.Numbers.{Places, of_scene, Numbers}
@@ -91,7 +90,7 @@ numbers =
           (λ r s h g. ([], held_of s [], listed_of s [], is_listed s [], (((answers s).listing [] _ _ (is_listed s [])).scene r h).1 g))
           (by_room, tt) (λ s r q.
           let t = (answers s).listing q.0 q.1 q.2 q.3 in
-          by (10 ∷ []) (λ r. q.2 ≡ listed.Refused r) t.buffer (λ n e. inl refl) (λ e. absurd ((t.lacking.0 e).1 tt))
+          by (10 ∷ []) (λ r. q.2 ≡ Err r) t.buffer (λ n e. inl refl) (λ e. absurd ((t.lacking.0 e).1 tt))
           (λ e. absurd (t.same.0 e).2) r q.4);
       part =
           gives [] (λ r s h g. (0, [], part_held s, part_of s, is_part s, (((answers s).part 0 [] _ _ (is_part s)).scene r h).1 g)) tt
@@ -99,7 +98,7 @@ numbers =
     }
   where
     by_room : (r : Refusal) × (number_of r ≡ 10) × (s : List ℕ)
-        × ((d : List ℕ) × (d' : List ℕ) × (x : Listed) × IsListed s d d' x × (x ≡ listed.Refused r))
+        × ((d : List ℕ) × (d' : List ℕ) × (x : Listed) × IsListed s d d' x × (x ≡ Err r))
     by_room =
         let n = length (listing_in (view_of base)) in
         let told = (((answers base).listing [] _ _ (is_listed base [])).room n).1 (keeps, (refl, omega (arith, not_empty))) in

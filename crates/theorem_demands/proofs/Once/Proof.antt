@@ -1,6 +1,6 @@
 -- No second answer: an equation with a definition has none, a mask is its number, the arrays of a scene are read at every place, and those
 -- of edges at every place up to their count. Assumes nothing.
-use Rattle.std.specs.Prelude.{◌≡◌, List, ℕ, zero, suc, ◌+◌, ◌*◌, ◌/◌, ◌%◌, ◌<◌, ℤ, pos, length, get_or}
+use Rattle.std.specs.Prelude.{◌≡◌, List, ℕ, zero, suc, ◌+◌, ◌*◌, ◌/◌, ◌%◌, ◌<◌, ℤ, pos, length, get_or, Ok, Err}
 use Rattle.std.proofs.Math.Path.{sym}
 use Rattle.std.proofs.Common.{ap, ◌∙◌, arith, ext_get_or}
 use Rattle.laws.specs.Unique.{once}
@@ -14,7 +14,7 @@ use Rattle.pierce_masks.specs.Faces.{value_of}
 use Rattle.pierce_masks.specs.declared.Mask.{Mask}
 use Rattle.scene.specs.declared.Solid.{Solid}
 use Rattle.questions.specs.Hits.{PierceView}
-use Rattle.questions.specs.declared.find.Found.{Found}
+use Rattle.questions.specs.Types.{Found}
 use Rattle.survey_edges.specs.Table.{Entry, entry_in, entries_in}
 use Rattle.survey_enclosed.specs.Walk.{inside_word}
 use Rattle.survey.specs.Survey.{Surveyed}
@@ -22,8 +22,7 @@ use Rattle.survey_first.specs.FindFirst.{unless_pair}
 use Rattle.survey_first.specs.declared.FirstOrEnclosed.{FirstOrEnclosed}
 use Rattle.questions.specs.Answers.{said_mask, pierce_view}
 use Rattle.survey_scene.specs.Surveys.{FirstOrEnclosedIs}
-use Rattle.questions.specs.declared.Masked.{Masked}
-use Rattle.questions.specs.declared.Masked.TheVariants.{Refused, Faces}
+use Rattle.questions.specs.Types.{Masked}
 use Rattle.theorem_demands.specs.Once.{Words, WordsSaid, SceneOnce, JudgeOnce, RecordOnce, OrientOnce, EdgesOnce, PierceOnce}
 use Rattle.theorem_demands.specs.Once.{KernelOnce}
 use Rattle.theorem_demands.specs.Once.{Table, WordsHeld, Alike, SurveysOnce, NoSecondAnswer}
@@ -37,10 +36,10 @@ same_mask m o p q e =
     λ i. record { low = h.0 i; high = h.1 i }
 
 same_said : (a b : Masked) → WordsSaid a → WordsSaid b → said_mask a ≡ said_mask b → a ≡ b
-same_said (Refused q) (Refused r) x y e = cc
-same_said (Refused q) (Faces o n) x y e = cc
-same_said (Faces m k) (Refused r) x y e = cc
-same_said (Faces m k) (Faces o n) x y e =
+same_said (Err q) (Err r) x y e = cc
+same_said (Err q) (Ok (o, n)) x y e = cc
+same_said (Ok (m, k)) (Err r) x y e = cc
+same_said (Ok (m, k)) (Ok (o, n)) x y e =
     let d : value_of m ≡ value_of o = cc in let f : k ≡ n = cc in let g : m ≡ o = same_mask m o x y d in cc
 
 -- ---- the arrays of a scene

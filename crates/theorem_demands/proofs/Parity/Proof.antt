@@ -1,5 +1,5 @@
 -- Parity holds: an accepted scene's points have weights and its solids are closed. Assumes nothing.
-use Rattle.std.specs.Prelude.{◌≡◌, true, false, List, ℕ, ◌+◌}
+use Rattle.std.specs.Prelude.{◌≡◌, true, false, List, ℕ, ◌+◌, Ok}
 use native.Mathlib.Omega.{arith}
 use Rattle.std.proofs.Common.{ne_eqb}
 use Rattle.laws.specs.Decides.{fails_iff}
@@ -11,7 +11,6 @@ use Rattle.scene.specs.View.{View, view_of, points, solid}
 use Rattle.scene.specs.View.Laws.{either_solid}
 use Rattle.scene.specs.declared.Solid as numbers
 use Rattle.judge.specs.Judge.{judged_at, refuse_unless}
-use Rattle.judge.specs.declared.Judged.TheVariants.{Accepted}
 use Rattle.rules.proofs.Given.{weighted, each_of_a, each_of_b, edges_of_a, edges_of_b}
 use Rattle.judge.specs.Tests.{within_iff}
 use Rattle.orient.specs.Signs.{Upto}
@@ -33,7 +32,7 @@ module _ (s : List ℕ) where
   abbrev IsClosed : numbers.Solid → Type 0
   IsClosed o = Solid (points v) o.vert0 (o.vert0 + o.verts) (run v.face (o.face0 + 1) o.faces)
 
-  module _ (l : Limits) (ok : judged_at l s ≡ Accepted) where
+  module _ (l : Limits) (ok : judged_at l s ≡ Ok tt) where
     closed : (k : ℕ) → IsClosed (solid v k)
     closed =
         let e : 0 + verts_a s ≡ verts_a s = omega arith in

@@ -1,21 +1,16 @@
 -- What is asked of each contract is what it says, or follows at once. Assumes nothing.
-use Rattle.std.specs.Prelude.{◌≡◌, List, ℕ}
+use Rattle.std.specs.Prelude.{◌≡◌, List, ℕ, Ok, Err}
 use Rattle.std.proofs.Math.Path.{refl, ap}
 use Rattle.std.proofs.Common.{◌∙◌}
 use Rattle.scene.specs.View.{View, view_of}
 use Rattle.scene.specs.declared.Refusal.{Refusal}
 use Rattle.judge.specs.Judge.{judged}
 use Rattle.judge.specs.Tests.{within_iff}
-use Rattle.judge.specs.declared.Judged.{Judged}
-use Rattle.judge.specs.declared.Judged.TheVariants as judgement
+use Rattle.judge.specs.Judge.{Judged}
 use Rattle.questions.specs.Answers.{or_refuse, is_point, verdict_in, verdict_of, counts_in, counted_of, listed_in, held_in}
 use Rattle.questions.specs.Laws.{answered_so}
-use Rattle.questions.specs.declared.Counted.TheVariants as counted
 use Rattle.questions.specs.declared.Facts.{Facts}
-use Rattle.questions.specs.declared.Listed.TheVariants.{Refused}
-use Rattle.questions.specs.declared.Surveyed.{Surveyed}
-use Rattle.questions.specs.declared.Surveyed.TheVariants as surveyed
-use Rattle.questions.specs.declared.Verdict.TheVariants as verdicts
+use Rattle.questions.specs.Types.{Surveyed}
 use Rattle.survey_scene.specs.Facts.{facts_in, IsSurvey}
 use Rattle.theorem_demands.specs.Promised.{AtOnce, Contracts, SaysSame}
 use Rattle.theorem_demands.proofs.Surveys.Inside.{are_words}
@@ -26,23 +21,23 @@ module _ (s d d' : List ℕ) {r : Surveyed} (x : IsSurvey s d d' r) where
   abbrev v : View
   v = view_of s
 
-  refused : (q : Refusal) → judged s ≡ judgement.Refused q → (r ≡ surveyed.Refused q) × (d' ≡ d)
+  refused : (q : Refusal) → judged s ≡ Err q → (r ≡ Err q) × (d' ≡ d)
   unfolding or_refuse
   refused q f = (
-    x.answer ∙ ap (λ (j : Judged). or_refuse surveyed.Refused j (surveyed.Facts (facts_in v))) f,
+    x.answer ∙ ap (λ (j : Judged). or_refuse Err j (Ok (facts_in v))) f,
     x.held ∙ ap (λ (j : Judged). or_refuse (λ _. d) j (held_in v d)) f,
   )
 
-  told : judged s ≡ judgement.Accepted → (f : Facts) × (r ≡ surveyed.Facts f) × AtOnce s d d' f
+  told : judged s ≡ Ok tt → (f : Facts) × (r ≡ Ok f) × AtOnce s d d' f
   unfolding facts_in verdict_of counted_of or_refuse
   told ok = (
     facts_in v,
-    x.answer ∙ ap (λ (j : Judged). or_refuse surveyed.Refused j (surveyed.Facts (facts_in v))) ok,
+    x.answer ∙ ap (λ (j : Judged). or_refuse Err j (Ok (facts_in v))) ok,
     record {
-      verdict = answered_so verdicts.Refused (verdict_in v) refl ok refl;
-      counts = answered_so counted.Refused (counted.Counts (counts_in v)) refl ok refl;
+      verdict = answered_so Err (Ok (verdict_in v)) refl ok refl;
+      counts = answered_so Err (Ok (counts_in v)) refl ok refl;
       inside = are_words s refl refl;
-      listed = (or_refuse Refused (judged s) (listed_in v d), record { answer = refl; held = x.held });
+      listed = (or_refuse Err (judged s) (listed_in v d), record { answer = refl; held = x.held });
     },
   )
 

@@ -1,23 +1,17 @@
 -- An answer is found again from its number and its values, so no two answers say the same. Assumes nothing.
-use Rattle.std.specs.Prelude.{◌≡◌, refl, Bool, true, false, [], ◌∷◌, ℕ, ◌-◌, ℤ, pos, negsuc, nat_abs, get_or}
+use Rattle.std.specs.Prelude.{◌≡◌, refl, Bool, true, false, [], ◌∷◌, map, ℕ, ◌-◌, ℤ, pos, negsuc, nat_abs, get_or, Ok, Err}
 use Rattle.std.proofs.Common.{sym, ap, ◌∙◌}
 use Rattle.scene.specs.Refusal.{number_of, place_of}
 use Rattle.scene.specs.declared.Refusal.{Refusal}
 use Rattle.scene.specs.declared.Refusal.TheVariants as refuse
-use Rattle.judge.specs.declared.Judged.{Judged}
-use Rattle.judge.specs.declared.Judged.TheVariants as judge
+use Rattle.judge.specs.Judge.{Judged}
 use Rattle.questions.specs.Answers.{MaskSaid, refused, faces_are}
-use Rattle.questions.specs.declared.Signed.{Signed}
-use Rattle.questions.specs.declared.Signed.TheVariants as sign
-use Rattle.questions.specs.declared.Answer.{Answer}
-use Rattle.questions.specs.declared.Answer.TheVariants as answer
-use Rattle.questions.specs.declared.Counted.{Counted}
-use Rattle.questions.specs.declared.Counted.TheVariants as counted
-use Rattle.questions.specs.declared.Enclosing.{Enclosing}
-use Rattle.questions.specs.declared.Enclosing.TheVariants as enclosing
-use Rattle.questions.specs.declared.Listed.{Listed}
-use Rattle.questions.specs.declared.Listed.TheVariants as listed
-use Rattle.questions.specs.declared.Verdict.{Verdict}
+use Rattle.questions.specs.Types.{Signed}
+use Rattle.questions.specs.Types.{Answer}
+use Rattle.questions.specs.Types.{Counted}
+use Rattle.questions.specs.Types.{Enclosing}
+use Rattle.questions.specs.Types.{Listed}
+use Rattle.questions.specs.Types.{Concluded}
 use Rattle.questions.specs.declared.Verdict.TheVariants as verdict
 use Rattle.theorem_demands.specs.Said.{Said, judged_says, sign_says, answer_says, faces_say, counts_say, inside_says, listed_says}
 use Rattle.theorem_demands.specs.Said.{verdict_says}
@@ -69,11 +63,11 @@ abbrev either : {A : Type 0} → A → (Refusal → A) → Said → A
 either a refuse x = get_or (a ∷ []) x.number (refuse (refusal_in x))
 
 abbrev judged_in : Said → Judged
-judged_in x = either judge.Accepted judge.Refused x
+judged_in x = either (Ok tt) Err x
 
 judged_found : (j : Judged) → judged_in (judged_says j) ≡ j
-judged_found judge.Accepted = refl
-judged_found (judge.Refused r) = ap judge.Refused (refusal_found r)
+judged_found (Ok _) = refl
+judged_found (Err r) = ap Err (refusal_found r)
 
 abbrev is_positive : ℤ → Bool
 is_positive (pos n) = true
@@ -81,20 +75,20 @@ is_positive (negsuc n) = false
 
 abbrev sign_in : Said → Signed
 sign_in x =
-    either (sign.Sign (record { c0 = value x 0; c1 = value x 1; c2 = value x 2; c3 = value x 3 }) (is_positive (value x 4))) sign.Refused x
+    either (Ok (record { c0 = value x 0; c1 = value x 1; c2 = value x 2; c3 = value x 3 }, is_positive (value x 4))) Err x
 
 sign_found : (s : Signed) → sign_in (sign_says s) ≡ s
-sign_found (sign.Sign t true) = refl
-sign_found (sign.Sign t false) = refl
-sign_found (sign.Refused r) = ap sign.Refused (refusal_found r)
+sign_found (Ok (t, true)) = refl
+sign_found (Ok (t, false)) = refl
+sign_found (Err r) = ap Err (refusal_found r)
 
 abbrev answer_in : Said → Answer
-answer_in x = get_or (answer.Yes ∷ answer.No ∷ []) x.number (answer.Refused (refusal_in x))
+answer_in x = get_or (Ok true ∷ Ok false ∷ []) x.number (Err (refusal_in x))
 
 answer_found : (a : Answer) → answer_in (answer_says a) ≡ a
-answer_found answer.Yes = refl
-answer_found answer.No = refl
-answer_found (answer.Refused r) = ap answer.Refused (refusal_found r)
+answer_found (Ok true) = refl
+answer_found (Ok false) = refl
+answer_found (Err r) = ap Err (refusal_found r)
 
 abbrev faces_in : Said → MaskSaid
 faces_in x = either (faces_are (whole x 0) (whole x 1)) refused x
@@ -104,37 +98,38 @@ faces_found (faces_are mask ones) = refl
 faces_found (refused r) = ap refused (refusal_found r)
 
 abbrev counts_in : Said → Counted
-counts_in x = either (counted.Counts (record { a_in_b = whole x 0; b_in_a = whole x 1; pairs = whole x 2 })) counted.Refused x
+counts_in x = either (Ok (record { a_in_b = whole x 0; b_in_a = whole x 1; pairs = whole x 2 })) Err x
 
 counts_found : (c : Counted) → counts_in (counts_say c) ≡ c
-counts_found (counted.Counts c) = refl
-counts_found (counted.Refused r) = ap counted.Refused (refusal_found r)
+counts_found (Ok c) = refl
+counts_found (Err r) = ap Err (refusal_found r)
 
 abbrev inside_in : Said → Enclosing
-inside_in x = either (enclosing.Count (whole x 0)) enclosing.Refused x
+inside_in x = either (Ok (whole x 0)) Err x
 
 inside_found : (n : Enclosing) → inside_in (inside_says n) ≡ n
-inside_found (enclosing.Count n) = refl
-inside_found (enclosing.Refused r) = ap enclosing.Refused (refusal_found r)
+inside_found (Ok n) = refl
+inside_found (Err r) = ap Err (refusal_found r)
 
 abbrev listed_in : Said → Listed
-listed_in x = either (listed.Count (whole x 0)) listed.Refused x
+listed_in x = either (Ok (whole x 0)) Err x
 
 listed_found : (n : Listed) → listed_in (listed_says n) ≡ n
-listed_found (listed.Count n) = refl
-listed_found (listed.Refused r) = ap listed.Refused (refusal_found r)
+listed_found (Ok n) = refl
+listed_found (Err r) = ap Err (refusal_found r)
 
-abbrev verdict_in : Said → Verdict
+abbrev verdict_in : Said → Concluded
 verdict_in x =
-    get_or (verdict.Cross (whole x 0) (whole x 1) (whole x 2) ∷ verdict.AInB (whole x 0) ∷ verdict.BInA (whole x 0) ∷ verdict.Apart ∷ [])
-    x.number (verdict.Refused (refusal_in x))
+    get_or
+    (map Ok (verdict.Cross (whole x 0) (whole x 1) (whole x 2) ∷ verdict.AInB (whole x 0) ∷ verdict.BInA (whole x 0) ∷ verdict.Apart ∷ []))
+    x.number (Err (refusal_in x))
 
-verdict_found : (v : Verdict) → verdict_in (verdict_says v) ≡ v
-verdict_found (verdict.Cross u w f) = refl
-verdict_found (verdict.AInB p) = refl
-verdict_found (verdict.BInA p) = refl
-verdict_found verdict.Apart = refl
-verdict_found (verdict.Refused r) = ap verdict.Refused (refusal_found r)
+verdict_found : (v : Concluded) → verdict_in (verdict_says v) ≡ v
+verdict_found (Ok (verdict.Cross u w f)) = refl
+verdict_found (Ok (verdict.AInB p)) = refl
+verdict_found (Ok (verdict.BInA p)) = refl
+verdict_found (Ok verdict.Apart) = refl
+verdict_found (Err r) = ap Err (refusal_found r)
 
 pub all_tell : AllTell
 all_tell =

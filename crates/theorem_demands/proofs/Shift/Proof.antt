@@ -1,6 +1,6 @@
 -- The shift is real: above the size of every term, the whole determinant has the sign of the terms, and the answers depend on the signs
 -- alone. Assumes nothing.
-use Rattle.std.specs.Prelude.{◌≡◌, refl, ◌≢◌, List, ℤ, pos}
+use Rattle.std.specs.Prelude.{◌≡◌, refl, ◌≢◌, List, ℤ, pos, Ok}
 use Rattle.std.proofs.Math.Path.{sym, ap}
 use Rattle.std.proofs.Common.{◌∙◌, le_trans, arith}
 use Prim.Native.Nat.{ℕ, zero, suc, ◌≤◌, ◌<◌}
@@ -9,7 +9,6 @@ use Rattle.scene.specs.Limits.{limits}
 use Rattle.scene.specs.View.{View, view_of, points}
 use Rattle.scene.specs.declared.Row.{Row}
 use Rattle.judge.specs.Judge.{judged}
-use Rattle.judge.specs.declared.Judged.TheVariants.{Accepted}
 use Rattle.rules.proofs.Given.{rows_within}
 use Rattle.orient.specs.Columns.{part_of, c0_parts}
 use Rattle.orient.specs.Formed.{most_formed}
@@ -27,7 +26,7 @@ use Rattle.theorem_demands.specs.Words.{SolidNumber, VertexOf}
 use Rattle.theorem_demands.specs.Shift.{shifted_row, shifted_view, shifted_det, Shift}
 use Rattle.theorem_demands.proofs.Shift.Same.{mask_same_rows, inside_same_rows, listing_same_rows, verdict_same_rows}
 
-module _ (s : List ℕ) (ok : judged s ≡ Accepted) where
+module _ (s : List ℕ) (ok : judged s ≡ Ok tt) where
   abbrev v : View
   v = view_of s
 

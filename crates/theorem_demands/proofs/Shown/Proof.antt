@@ -1,5 +1,5 @@
 -- Each record begins where the one before it ends. Assumes nothing.
-use Rattle.std.specs.Prelude.{◌≡◌, refl, ℕ, zero, suc, ◌+◌, ◌*◌, ◌-◌, ◌≤◌, ◌<◌, take, drop}
+use Rattle.std.specs.Prelude.{◌≡◌, refl, ℕ, zero, suc, ◌+◌, ◌*◌, ◌-◌, ◌≤◌, ◌<◌, take, drop, Ok}
 use Rattle.std.proofs.Common.{sym, ◌∙◌, add-one, arith, take-add, get_or-take}
 use Rattle.std.proofs.Math.Path.{ap, ap₂}
 use mathlib.Core.List.{List, [], ◌++◌}
@@ -9,14 +9,13 @@ use Rattle.scene.specs.Bytes.{byte_at, two_at}
 use Rattle.scene.specs.Limits.{limits}
 use Rattle.scene.specs.Records.{verts, faces, last_record, length_of, point_start, face_start, end_start}
 use Rattle.judge.specs.Judge.{judged}
-use Rattle.judge.specs.declared.Judged.TheVariants.{Accepted}
 use Rattle.rules.specs.Rules.{FileOk}
 use Rattle.rules.proofs.Accepted.{accepted}
 use Rattle.record.specs.Shown.{part, part_at, shown}
 use Rattle.record.specs.Cases.{at_header, at_point, at_face, at_end, shown_all, had}
 use Rattle.theorem_demands.specs.Shown.{end_to_end, Is, Records}
 
-module _ (s : List ℕ) (ok : judged s ≡ Accepted) where
+module _ (s : List ℕ) (ok : judged s ≡ Ok tt) where
   rules : FileOk limits s
   rules = (accepted limits s).0 ok
 

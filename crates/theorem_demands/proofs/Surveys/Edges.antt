@@ -1,5 +1,5 @@
 -- The table of a solid's edges, in the demands' words: the edges of its faces, each once with its mask, and they rise. Assumes nothing.
-use Rattle.std.specs.Prelude.{◌≡◌, ◌↔◌, Bool, ◌&&◌, List, [], ◌∷◌, ltb}
+use Rattle.std.specs.Prelude.{◌≡◌, ◌↔◌, Bool, ◌&&◌, List, [], ◌∷◌, ltb, Ok}
 use Rattle.std.proofs.Math.Path.{refl, subst}
 use Rattle.std.proofs.Common.{sym, ◌∙◌, arith}
 use Rattle.std.proofs.Math.Logic.{inl, inr, ⊎_elim}
@@ -13,7 +13,6 @@ use Rattle.laws.specs.Rising.{Rising}
 use Rattle.scene.specs.declared.Solid.{Solid}
 use Rattle.scene.specs.View.{view_of, solid}
 use Rattle.judge.specs.Judge.{judged}
-use Rattle.judge.specs.declared.Judged.TheVariants.{Accepted}
 use Rattle.scene.specs.Edges.{joined, Corners}
 use Rattle.questions.specs.Hits.{PierceView, edge_mask}
 use Rattle.survey_edges.specs.Table.{Entry}
@@ -126,7 +125,7 @@ module _ (s : List ℕ) where
     edges_are : EdgesAre s Own m (solid_edges v k)
     edges_are = record { rising = edges_rise v k; members = λ e. Iff.trans (to_entry v k e, from_entry v k e corners) (entered e) }
 
-  module _ (ok : judged s ≡ Accepted) where
+  module _ (ok : judged s ≡ Ok tt) where
     pub edges_of_a : EdgesAre s (FaceOfA s) 2 (solid_edges v (solid (view_of s) 1))
     unfolding mask_in edge_mask solid
     edges_of_a = edges_are (a_worded s) 2 (λ u w. refl) (sound_a s ok).corners

@@ -1,12 +1,11 @@
 -- What the functions that survey a scene leave and answer, from what their contracts say. Assumes nothing.
-use Rattle.std.specs.Prelude.{◌≡◌, refl, Bool, cond, List, ℕ, length}
+use Rattle.std.specs.Prelude.{◌≡◌, refl, Bool, cond, List, ℕ, length, Ok, Err}
 use Rattle.std.proofs.Common.{ap, ◌∙◌}
 use Rattle.scene.specs.View.{view_of, solid}
 use Rattle.judge.specs.Judge.{judged}
-use Rattle.judge.specs.declared.Judged.TheVariants.{Accepted}
 use Rattle.questions.specs.Hits.{Hit}
 use Rattle.questions.specs.PairsWritten.{pairs_written_part}
-use Rattle.questions.specs.declared.find.Found.{Found}
+use Rattle.questions.specs.Types.{Found}
 use Rattle.survey_enclosed.specs.Walk.{inside_word}
 use Rattle.survey.specs.Laws.{surveyed_pairs}
 use Rattle.survey.specs.declared.Survey.{Survey}
@@ -16,7 +15,6 @@ use Rattle.questions.specs.Answers.{pierce_view, verdict_in, verdict_of, listing
 use Rattle.questions.specs.Laws.{answered_so}
 use Rattle.questions.specs.Listings.{PouredIf, lacks_room}
 use Rattle.questions.specs.declared.Verdict.{Verdict}
-use Rattle.questions.specs.declared.Verdict.TheVariants.{Refused}
 use Rattle.survey_scene.specs.Ready.{sound}
 use Rattle.survey_scene.specs.Surveys.{SurveyIs, FirstOrEnclosedIs, sought_settles}
 use Rattle.theorem_demands.specs.Surveys.{TablesAre, FirstOrWords, PartPoured, Surveys}
@@ -24,7 +22,7 @@ use Rattle.theorem_demands.proofs.Surveys.Edges.{edges_of_a, edges_of_b}
 use Rattle.theorem_demands.proofs.Surveys.Inside.{are_words}
 
 tables_are : (s ends-a masks-a ends-b masks-b : List ℕ) {t : Survey} → SurveyIs (view_of s) ends-a masks-a ends-b masks-b t →
-    judged s ≡ Accepted → TablesAre s ends-a masks-a ends-b masks-b t
+    judged s ≡ Ok tt → TablesAre s ends-a masks-a ends-b masks-b t
 unfolding listing_in
 tables_are s ends-a masks-a ends-b masks-b {t} x ok =
     let v = view_of s in
@@ -48,9 +46,9 @@ first_or_words s {t} x =
       some = λ u v f p. (x.a_inside_law ∙ ap (word 1) p, x.b_inside_law ∙ ap (word 2) p);
     }
 
-asked : (s : List ℕ) {r : Verdict} → r ≡ verdict_in (view_of s) → judged s ≡ Accepted → r ≡ verdict_of s
+asked : (s : List ℕ) {r : Verdict} → r ≡ verdict_in (view_of s) → judged s ≡ Ok tt → Ok r ≡ verdict_of s
 unfolding verdict_of
-asked s e ok = answered_so Refused (verdict_in (view_of s)) refl ok e
+asked s e ok = answered_so Err (Ok (verdict_in (view_of s))) refl ok (ap Ok e)
 
 part_poured : (l : List Hit) (from : ℕ) (all : Bool) (d d' : List ℕ) {r : ℕ} → PouredIf l from all d d' r → PartPoured l from all d d' r
 unfolding lacks_room

@@ -11,7 +11,7 @@ use Rattle.judge.specs.Judge.{nowhere, somewhere_ok, point_fault, are_corners}
 use Rattle.judge.specs.Judge.{verts_at, corners_ok, face_fault, end_fault, record_fault, records_fault, is_corner_of, is_edge, is_used, unused_fault}
 use Rattle.judge.specs.Judge.{unuseds_fault, edge_ok, sides_ok, closed_at, edge_fault, edges_fault, judged_at, judged}
 use Rattle.scene.specs.Limits.{within}
-use Rattle.judge.specs.declared.Judged.{Judged}
+use Rattle.judge.specs.Judge.{Judged}
 use Rattle.orient.specs.Terms.{terms, orientation, positive_at}
 use Rattle.pierce.specs.Formula.{can_help, helper, counts, sides_count, formula, pierces, pierced}
 

@@ -2,9 +2,9 @@
 use Rattle.bench_moves.specs.Laws.{fixture_refused, fixture_moved}
 use Rattle.bench_moves.proofs.moves.fixture_move.Goals as goal
 
-pub returns-in-Refused : goal.returns-in-Refused
-returns-in-Refused c =
-    fixture_refused _ _ _ c.solids_of-k.ensures.0 c.number_fault.ensures c.in-Refused.is
+pub returns-in-Err : goal.returns-in-Err
+returns-in-Err c =
+    fixture_refused _ _ _ c.solids_of-k.ensures.0 c.number_fault.ensures c.in-Err.is
 
 pub returns : goal.returns
 returns c =

@@ -2,9 +2,9 @@
 use Rattle.bench_moves.specs.Laws.{own_refused, own_done}
 use Rattle.bench_moves.proofs.moves.own_move.Goals as goal
 
-pub returns-in-Refused : goal.returns-in-Refused
-returns-in-Refused c =
-    own_refused _ _ _ c.solids_of.ensures.0 c.own_fault.ensures c.in-Refused.is
+pub returns-in-Err : goal.returns-in-Err
+returns-in-Err c =
+    own_refused _ _ _ c.solids_of.ensures.0 c.own_fault.ensures c.in-Err.is
 
 pub returns : goal.returns
 returns c =

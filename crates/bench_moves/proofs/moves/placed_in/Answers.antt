@@ -1,12 +1,12 @@
+use Rattle.std.specs.Prelude.{Err}
 use mathlib.Core.Path.{sym, ap, ◌∙◌}
-use Rattle.judge.specs.declared.Judged.TheVariants as judge
 use Rattle.bench_moves.specs.Bench.{placed_in}
 use Rattle.bench_moves.proofs.moves.placed_in.Goals as goal
 
-pub returns-in-Accepted : goal.returns-in-Accepted
+pub returns-in-Ok : goal.returns-in-Ok
 unfolding placed_in
-returns-in-Accepted c = sym (ap (placed_in _) c.in-Accepted.is)
+returns-in-Ok c = sym (ap (placed_in _) c.in-Ok.is)
 
-pub returns-in-Refused : goal.returns-in-Refused
+pub returns-in-Err : goal.returns-in-Err
 unfolding placed_in
-returns-in-Refused c = ap judge.Refused c.placed.ensures ∙ sym (ap (placed_in _) c.in-Refused.is)
+returns-in-Err c = ap Err c.placed.ensures ∙ sym (ap (placed_in _) c.in-Err.is)

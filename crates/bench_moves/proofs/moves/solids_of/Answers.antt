@@ -7,14 +7,14 @@ use Rattle.bench_moves.specs.Laws.{scene_fits, solids_none, solids_held}
 use borrow.Author.Rules.{rules}
 use Rattle.bench_moves.proofs.moves.solids_of.Goals as goal
 
-pub returns-in-Refused : goal.returns-in-Refused
-returns-in-Refused c =
+pub returns-in-Err : goal.returns-in-Err
+returns-in-Err c =
     let h : length c.args.s.bytes ≡ longest limits = search rules in (
-      solids_none _ _ c.save-j.ensures.answer c.in-Refused.is (scene_fits c.args.s (longest limits) h),
+      solids_none _ _ c.save-j.ensures.answer c.in-Err.is (scene_fits c.args.s (longest limits) h),
       omega arith,
       omega arith,
     )
 
-pub returns-in-Accepted : goal.returns-in-Accepted
-returns-in-Accepted c =
-    (solids_held _ _ _ c.save-j.ensures c.in-Accepted.is c.byte.ensures.0 c.byte-in-Accepted.ensures.0, c.byte.ensures.1, c.byte-in-Accepted.ensures.1)
+pub returns-in-Ok : goal.returns-in-Ok
+returns-in-Ok c =
+    (solids_held _ _ _ c.save-j.ensures c.in-Ok.is c.byte.ensures.0 c.byte-in-Ok.ensures.0, c.byte.ensures.1, c.byte-in-Ok.ensures.1)

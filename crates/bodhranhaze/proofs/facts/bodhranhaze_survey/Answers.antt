@@ -5,8 +5,8 @@ use Rattle.bodhranhaze.proofs.facts.bodhranhaze_survey.Goals as goal
 pub returns-then-facts-lt8 : goal.returns-then-facts-lt8
 returns-then-facts-lt8 c = search too_few
 
-pub returns-in-Refused : goal.returns-in-Refused
-returns-in-Refused c = search facts_refused
+pub returns-in-Err : goal.returns-in-Err
+returns-in-Err c = search facts_refused
 
-pub returns-in-Facts : goal.returns-in-Facts
-returns-in-Facts c = search facts_told
+pub returns-in-Ok : goal.returns-in-Ok
+returns-in-Ok c = search facts_told

@@ -5,12 +5,12 @@ use Rattle.session.specs.Place.{move_fault}
 use Rattle.bodhranhaze.specs.Moves.{row_again, moved_by}
 use Rattle.bodhranhaze.proofs.moves.bodhranhaze_move.Goals as goal
 
-pub returns-in-Accepted : goal.returns-in-Accepted
-returns-in-Accepted c =
+pub returns-in-Ok : goal.returns-in-Ok
+returns-in-Ok c =
     moved_by (move_fault c.args.s.now c.args.p) (row_put c.args.s.now c.args.p) c.args.s.now
-    (row_again c.ranges.x c.ranges.y c.ranges.z c.ranges.w) c.move_vertex-j.ensures c.in-Accepted.is refl
+    (row_again c.ranges.x c.ranges.y c.ranges.z c.ranges.w) c.move_vertex-j.ensures c.in-Ok.is refl
 
-pub returns-in-Refused : goal.returns-in-Refused
-returns-in-Refused c =
+pub returns-in-Err : goal.returns-in-Err
+returns-in-Err c =
     moved_by (move_fault c.args.s.now c.args.p) (row_put c.args.s.now c.args.p) c.args.s.now
-    (row_again c.ranges.x c.ranges.y c.ranges.z c.ranges.w) c.move_vertex-j.ensures c.in-Refused.is c.number.ensures
+    (row_again c.ranges.x c.ranges.y c.ranges.z c.ranges.w) c.move_vertex-j.ensures c.in-Err.is c.number.ensures

@@ -2,8 +2,8 @@
 use Rattle.class_tally.specs.Counting.{mark_refused, mark_told}
 use Rattle.class_tally.proofs.marks.mark_of.Goals as goal
 
-pub returns-in-Refused : goal.returns-in-Refused
-returns-in-Refused c = search mark_refused
+pub returns-in-Err : goal.returns-in-Err
+returns-in-Err c = search mark_refused
 
-pub returns-in-Facts : goal.returns-in-Facts
-returns-in-Facts c = search mark_told
+pub returns-in-Ok : goal.returns-in-Ok
+returns-in-Ok c = search mark_told

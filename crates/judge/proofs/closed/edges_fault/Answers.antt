@@ -16,11 +16,11 @@ pub edge_fault-requires : goal.edge_fault-requires
 edge_fault-requires c =
     record { face = (omega arith, c.requires.faces.0 _ (omega arith)); words = c.requires.words }
 
-pub returns-in-Refused : goal.returns-in-Refused
-returns-in-Refused c = search loops
-
 pub loop-i-preserved : goal.loop-i-preserved
 loop-i-preserved c = search loops
+
+pub returns-in_err-edge_fault : goal.returns-in_err-edge_fault
+returns-in_err-edge_fault c = search loops
 
 pub returns : goal.returns
 returns c = search loops

@@ -1,6 +1,7 @@
 -- The words of both solids decide.
 use native.Mathlib.Omega.{arith}
-use Rattle.judge.specs.Laws.{chain}
+use Rattle.laws.specs.Exits.{exits}
+use Rattle.judge.specs.Laws.{then_refused, chain}
 use Rattle.judge.specs.Words.{words_none}
 use Rattle.judge.proofs.closed.solids_fault.Goals as goal
 
@@ -32,8 +33,8 @@ edges_fault-requires c =
       );
     }
 
-pub returns-in-Refused : goal.returns-in-Refused
-returns-in-Refused c = search chain depth 12
+pub returns-in_err-unuseds_fault : goal.returns-in_err-unuseds_fault
+returns-in_err-unuseds_fault c = exits c.from_residual.ensures.1 (then_refused _ c.unuseds_fault.ensures c.in_err-unuseds_fault.was)
 
 pub returns : goal.returns
-returns c = search chain depth 12
+returns c = search (chain, c.in_ok-unuseds_fault.was) depth 12

@@ -12,8 +12,8 @@ pub unused_fault-requires : goal.unused_fault-requires
 unused_fault-requires c =
     record { words = c.requires.words; point = (omega arith, c.requires.vertices.0, c.requires.vertices.1) }
 
-pub returns-in-Refused : goal.returns-in-Refused
-returns-in-Refused c = search loops
+pub returns-in_err-unused_fault : goal.returns-in_err-unused_fault
+returns-in_err-unused_fault c = search loops
 
 pub loop-p-preserved : goal.loop-p-preserved
 loop-p-preserved c = search loops

@@ -6,16 +6,16 @@ use Rattle.judge.proofs.records.records_fault.Goals as goal
 
 pub loop-k-init : goal.loop-k-init
 unfolding records_fault
-loop-k-init c = (omega arith, first_to _ 1 (omega arith))
+loop-k-init c = first_to _ 1 (omega arith)
 
 pub record_fault-requires : goal.record_fault-requires
 record_fault-requires c = (omega arith, omega arith)
 
-pub returns-in-Refused : goal.returns-in-Refused
-returns-in-Refused c = search loops
-
 pub loop-k-preserved : goal.loop-k-preserved
 loop-k-preserved c = search loops
+
+pub returns-in_err-record_fault : goal.returns-in_err-record_fault
+returns-in_err-record_fault c = search loops
 
 pub returns : goal.returns
 returns c = search loops

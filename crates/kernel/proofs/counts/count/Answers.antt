@@ -1,17 +1,17 @@
 -- The judge decides; an accepted scene is answered.
-use Rattle.questions.specs.declared.Counted.TheVariants.{Refused}
-use Rattle.questions.specs.Laws.{accepted_so, refused_so, answered_so}
+use Rattle.laws.specs.Exits.{exits}
+use Rattle.questions.specs.Laws.{accepted_so, answered_so, err_so}
 use Rattle.questions.specs.Answers.{counted_of}
 use Rattle.kernel.proofs.counts.count.Goals as goal
 
-pub returns-in-Refused : goal.returns-in-Refused
+pub returns-in_err-judge : goal.returns-in_err-judge
 unfolding counted_of
-returns-in-Refused c = search (refused_so Refused)
+returns-in_err-judge c = exits c.from_residual.ensures.1 (err_so _ c.judge.ensures c.in_err-judge.was)
 
 pub counts_of-requires : goal.counts_of-requires
 unfolding counted_of
-counts_of-requires c = search accepted_so
+counts_of-requires c = search (accepted_so, c.in_ok-judge.was)
 
 pub returns : goal.returns
 unfolding counted_of
-returns c = search answered_so
+returns c = search (answered_so, c.in_ok-judge.was)

@@ -1,27 +1,24 @@
 -- The judge decides, then 11; else the oddness of the mask toward the far point.
+use Rattle.laws.specs.Exits.{exits}
 use Rattle.questions.specs.Answers.{enclosed_in, enclosed_of}
 use Rattle.questions.specs.Asked.{enclosed_vertex_law, far_outside}
-use Rattle.questions.specs.Laws.{accepted_so, refused_so, own_refused, both_accept, yes_so, no_so}
+use Rattle.questions.specs.Laws.{accepted_so, said_so, err_so, own_err, both_ok}
 use Rattle.survey_scene.specs.Ready.{enclosed_found}
-use Rattle.questions.specs.declared.Answer.TheVariants.{Refused}
 use Rattle.kernel.proofs.masks.enclosed.Goals as goal
 
-pub returns-in-Refused : goal.returns-in-Refused
+pub returns-in_err-judge : goal.returns-in_err-judge
 unfolding enclosed_of enclosed_in
-returns-in-Refused c = search (refused_so Refused)
+returns-in_err-judge c = exits c.from_residual.ensures.1 (err_so _ c.judge.ensures c.in_err-judge.was)
 
-pub returns-in-Refused-enclosed_fault : goal.returns-in-Refused-enclosed_fault
+pub returns-in_err-enclosed_fault : goal.returns-in_err-enclosed_fault
 unfolding enclosed_of enclosed_in
-returns-in-Refused-enclosed_fault c = search (own_refused Refused)
+returns-in_err-enclosed_fault c =
+    exits c.from_residual-in_err-enclosed_fault.ensures.1 (own_err _ c.judge.ensures c.in_ok-judge.was c.enclosed_fault.ensures c.in_err-enclosed_fault.was)
 
 pub mask_of-requires : goal.mask_of-requires
 unfolding enclosed_of enclosed_in
-mask_of-requires c = search (far_outside, enclosed_vertex_law, accepted_so)
-
-pub returns-then-is_odd : goal.returns-then-is_odd
-unfolding enclosed_of enclosed_in
-returns-then-is_odd c = search (both_accept Refused, accepted_so, yes_so, enclosed_found)
+mask_of-requires c = search (far_outside, enclosed_vertex_law, accepted_so, c.in_ok-judge.was, c.in_ok-enclosed_fault.was)
 
 pub returns : goal.returns
 unfolding enclosed_of enclosed_in
-returns c = search (both_accept Refused, accepted_so, no_so, enclosed_found)
+returns c = search (both_ok, accepted_so, said_so, enclosed_found, c.in_ok-judge.was, c.in_ok-enclosed_fault.was)

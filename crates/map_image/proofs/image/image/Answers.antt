@@ -1,13 +1,12 @@
 -- A fault is told and leaves the buffer; else it is filled.
-use borrow.Author.Rules.{rules}
 use Rattle.map_image.proofs.Faults.{image_refused, image_written, fill_ready}
 use Rattle.map_image.proofs.image.image.Goals as goal
 
 pub fill-requires : goal.fill-requires
-fill-requires c = fill_ready c.image_fault.ensures (search rules)
+fill-requires c = fill_ready c.image_fault.ensures c.in_ok-image_fault.was
 
-pub returns-in-Faulty : goal.returns-in-Faulty
-returns-in-Faulty c = search image_refused
+pub returns-in_err-image_fault : goal.returns-in_err-image_fault
+returns-in_err-image_fault c = image_refused c.image_fault.ensures c.in_err-image_fault.was c.from_residual.ensures.1
 
 pub returns : goal.returns
-returns c = search image_written
+returns c = image_written c.image_fault.ensures c.in_ok-image_fault.was c.fill.ensures

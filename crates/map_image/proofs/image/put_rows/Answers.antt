@@ -4,15 +4,12 @@ use lib.ListN.{length}
 use Rattle.laws.specs.Filled.{filled, filled_more}
 use Rattle.scene.specs.Write.{row_put}
 use Rattle.scene.specs.Written.{row_length}
-use Rattle.map_image.specs.Ready.{point_room, row_fits, all_stored}
+use Rattle.map_image.specs.Ready.{point_room, row_fits}
 use Rattle.map_image.proofs.image.put_rows.Goals as goal
 
 pub loop-j-init : goal.loop-j-init
 unfolding filled
-loop-j-init c = (omega arith, omega arith, refl, refl)
-
-pub image_row-requires : goal.image_row-requires
-image_row-requires c = (c.requires.0, omega arith)
+loop-j-init c = (omega arith, refl, refl)
 
 pub put_row-requires : goal.put_row-requires
 put_row-requires c =
@@ -21,11 +18,7 @@ put_row-requires c =
 
 pub loop-j-preserved : goal.loop-j-preserved
 loop-j-preserved c = (
-  omega arith,
-  c.loop-j.invariant.1,
-  c.put_row.ensures ∙ filled_more row_put _ _ _ c.loop-j.invariant.2 c.image_row.ensures,
-  ap length c.put_row.ensures ∙ row_length _ _ _ ∙ c.loop-j.invariant.3,
+  c.loop-j.invariant.0,
+  c.put_row.ensures ∙ filled_more row_put _ _ _ c.loop-j.invariant.1 c.image_row.ensures,
+  ap length c.put_row.ensures ∙ row_length _ _ _ ∙ c.loop-j.invariant.2,
 )
-
-pub returns : goal.returns
-returns c = all_stored _ _ c.loop-j.invariant.2 (omega arith)

@@ -1,6 +1,6 @@
 -- Each turn stores one row more.
 use mathlib.Core.Path.{◌≡◌}
-use Prim.Native.Nat.{◌+◌, ◌-◌, ◌≤◌}
+use Prim.Native.Nat.{◌+◌}
 use lib.ListN.{length}
 use Rattle.laws.specs.Filled.{filled}
 use Rattle.scene.specs.Records.{verts}
@@ -9,7 +9,4 @@ use Rattle.map_image.specs.Image.{image_row}
 use Rattle.map_image.proofs.image.put_rows.Given as goal
 
 abbrev pub invariant-loop-j : goal.invariant-loop-j
-invariant-loop-j l = (l.j ≤ l.e) × (l.e ≡ verts l.s + 1) × (l.out ≡ filled row_put (image_row l.m l.s) l.j l.initial.out) × (length l.out ≡ length l.initial.out)
-
-abbrev pub decreases-loop-j : goal.decreases-loop-j
-decreases-loop-j l = l.e - l.j
+invariant-loop-j l = (l.e ≡ verts l.s + 1) × (l.out ≡ filled row_put (image_row l.m l.s) l.j l.initial.out) × (length l.out ≡ length l.initial.out)

@@ -1,16 +1,15 @@
 use Rattle.off_solids.specs.ReadOf.{past_next}
-use mathlib.Core.Path.{refl, ap, ◌∙◌}
-use native.Mathlib.Nat.{le_antisymm}
-use native.Mathlib.Omega.{arith}
+use Rattle.std.proofs.Common.{◌≡◌, refl, ap, ◌∙◌, arith, rules}
 use Rattle.off_solids.specs.Solid.{past}
-use borrow.Author.Rules.{rules}
 use Rattle.off_solids.proofs.points.past.Goals as goal
 
-pub loop-i-init : goal.loop-i-init
-loop-i-init c = (refl, omega arith, omega arith)
+pub loop-init : goal.loop-init
+loop-init c = (refl, omega arith)
 
-pub loop-i-preserved : goal.loop-i-preserved
-loop-i-preserved c = (search (past_next, rules), omega arith, omega arith)
+pub loop-preserved : goal.loop-preserved
+loop-preserved c = (search (past_next, rules), omega arith)
 
 pub returns : goal.returns
-returns c = (c.loop-i.invariant.0 ∙ ap (past _ _) (le_antisymm c.loop-i.invariant.2 c.loop-i-test.false), omega arith)
+returns c =
+    let e : c.loop.counter ≡ c.args.k = omega arith in
+    (c.loop.invariant.0 ∙ ap (past _ _) e, omega arith)

@@ -1,4 +1,3 @@
-use mathlib.Core.Path.{refl}
 use native.Mathlib.Omega.{arith}
 use Rattle.off_solids.specs.ReadOf.{group_next}
 use Rattle.off_solids.specs.Bytes.{few_items, faces_none, faces_first, faces_more}
@@ -10,7 +9,7 @@ overflow_mul-h c = let h = few_items _ _ c.requires.0 in omega arith
 
 pub loop-i-init : goal.loop-i-init
 loop-i-init c =
-    (omega arith, faces_none c.args.text.now c.args.k _, search faces_first, c.past-at.ensures.1, refl)
+    (faces_none c.args.text.now c.args.k _, search faces_first, c.past-at.ensures.1)
 
 pub loop-i-preserved : goal.loop-i-preserved
-loop-i-preserved c = (omega arith, search faces_more, search group_next, search rules, search rules)
+loop-i-preserved c = (search faces_more, search group_next, search rules)

@@ -1,5 +1,5 @@
 -- One face a turn.
-use Prim.Native.Nat.{◌+◌, ◌*◌, ◌-◌, ◌≤◌}
+use Prim.Native.Nat.{◌+◌, ◌*◌, ◌≤◌}
 use mathlib.Core.Path.{◌≡◌}
 use lib.ListN.{length}
 use Rattle.off_items.specs.Items.{after}
@@ -10,8 +10,5 @@ use Rattle.off_solids.proofs.whole.put_faces.Given as goal
 
 abbrev pub invariant-loop-i : goal.invariant-loop-i
 invariant-loop-i l =
-    (l.i ≤ l.n) × Grown l.k (faces_bytes l.text l.i) l.initial.out l.out × (l.at ≡ after l.text (4 + vertices_of l.text * numbers_of l.text + l.i * 4))
-    × (l.at ≤ length l.text) × (length l.out ≡ length l.initial.out)
-
-abbrev pub decreases-loop-i : goal.decreases-loop-i
-decreases-loop-i l = l.n - l.i
+    Grown l.k (faces_bytes l.text l.i) l.initial.out l.out × (l.at ≡ after l.text (4 + vertices_of l.text * numbers_of l.text + l.i * 4))
+    × (l.at ≤ length l.text)

@@ -1,24 +1,12 @@
-use mathlib.Core.Path.{refl}
-use Rattle.off_words.specs.Stands.{finds}
+use Rattle.std.proofs.Common.{◌≡◌, ℕ, List, [], ◌∷◌, ◌||◌, eqb, refl, ap, ◌∙◌}
+use Rattle.std.specs.List.{list_any}
+use Rattle.off_words.specs.Stands.{holds}
 use Rattle.off_words.proofs.stands.holds.Goals as goal
 
-pub loop-i-init : goal.loop-i-init
-loop-i-init c = refl
-
-pub bounds-w-i : goal.bounds-w-i
-bounds-w-i c = search finds
-
-pub returns-then-w-i : goal.returns-then-w-i
-returns-then-w-i c = search finds
-
-pub overflow_add-i : goal.overflow_add-i
-overflow_add-i c = search finds
-
-pub loop-i-smaller : goal.loop-i-smaller
-loop-i-smaller c = search finds
-
-pub loop-i-preserved : goal.loop-i-preserved
-loop-i-preserved c = search finds
+any_is : (c : ℕ) (w : List ℕ) → list_any (λ b. eqb b c) w ≡ holds c w
+unfolding holds
+any_is c [] = refl
+any_is c (b ∷ w) = ap (λ t. eqb b c || t) (any_is c w)
 
 pub returns : goal.returns
-returns c = search finds
+returns c = c.contains.ensures.value ∙ any_is c.args.c c.args.w.now

@@ -6,17 +6,8 @@ pub loop-i-init : goal.loop-i-init
 unfolding are_touched
 loop-i-init c = search loops
 
-pub is_touched-requires : goal.is_touched-requires
-is_touched-requires c = search loops
-
 pub returns-then-is_touched : goal.returns-then-is_touched
 returns-then-is_touched c = search loops
-
-pub overflow_add-i : goal.overflow_add-i
-overflow_add-i c = search loops
-
-pub loop-i-smaller : goal.loop-i-smaller
-loop-i-smaller c = search loops
 
 pub loop-i-preserved : goal.loop-i-preserved
 loop-i-preserved c = search loops

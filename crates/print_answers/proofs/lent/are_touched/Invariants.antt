@@ -1,5 +1,4 @@
 -- The rest of the places decides like all of them.
-use Prim.Native.Nat.{◌-◌}
 use mathlib.Core.Path.{◌≡◌}
 use lib.ListN.{length}
 use Rattle.laws.specs.Range.{any_of}
@@ -8,6 +7,3 @@ use Rattle.print_answers.proofs.lent.are_touched.Given as goal
 
 abbrev pub invariant-loop-i : goal.invariant-loop-i
 invariant-loop-i l = any_of (is_touched l.l) l.i (length l.l) ≡ are_touched l.l l.from
-
-abbrev pub decreases-loop-i : goal.decreases-loop-i
-decreases-loop-i l = length l.l - l.i

@@ -1,15 +1,10 @@
-use native.Mathlib.Omega.{arith}
-use lib.ListN.{length-set}
-use Rattle.print_answers.specs.Laws.{fill_none, fill_more, fill_all}
+use Rattle.print_answers.specs.Laws.{fill_none, fill_more}
 use borrow.Author.Rules.{rules}
 use Rattle.print_answers.proofs.lent.fill.Goals as goal
 
 pub loop-i-preserved : goal.loop-i-preserved
 loop-i-preserved c =
-    (simp length-set (omega arith), simp length-set (omega arith), search (rules, fill_more))
+    search (rules, fill_more)
 
 pub loop-i-init : goal.loop-i-init
 loop-i-init c = search (rules, fill_none)
-
-pub returns : goal.returns
-returns c = search (rules, fill_all)

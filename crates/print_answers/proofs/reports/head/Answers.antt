@@ -3,8 +3,8 @@ use Rattle.questions.specs.Laws.{accepted_so}
 use Rattle.print_lines.specs.Report.{head_refused}
 use Rattle.print_answers.proofs.reports.head.Goals as goal
 
-pub returns-in-Refused : goal.returns-in-Refused
-returns-in-Refused c = search head_refused
+pub returns-in-Err : goal.returns-in-Err
+returns-in-Err c = search head_refused
 
 pub survey_head-requires : goal.survey_head-requires
 survey_head-requires c = search accepted_so

@@ -3,8 +3,8 @@ use Rattle.print_lines.specs.Laws.{by_case}
 use Rattle.print_lines.specs.Lines.{sign_line}
 use Rattle.print_answers.proofs.said.sign.Goals as goal
 
-pub returns-in-Refused : goal.returns-in-Refused
-returns-in-Refused c = by_case sign_line c.in-Refused.is c.refused.ensures
+pub returns-in-Err : goal.returns-in-Err
+returns-in-Err c = by_case sign_line c.in-Err.is c.refused.ensures
 
-pub returns-in-Sign : goal.returns-in-Sign
-returns-in-Sign c = by_case sign_line c.in-Sign.is c.sign_line.ensures
+pub returns-in-Ok : goal.returns-in-Ok
+returns-in-Ok c = by_case sign_line c.in-Ok.is c.sign_line.ensures

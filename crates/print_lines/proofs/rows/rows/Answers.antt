@@ -1,4 +1,4 @@
-use mathlib.Core.Path.{refl}
+use mathlib.Core.Path.{◌≡◌, refl}
 use Rattle.std.proofs.Common.{ap, not}
 use native.Mathlib.Omega.{arith}
 use lib.ListN.{length}
@@ -25,4 +25,5 @@ loop-i-preserved c =
 
 pub returns : goal.returns
 returns c =
-    rendered_all _ _ _ c.loop-i.invariant.3 (omega (arith, rows_length c.args.list.now c.args.n))
+    let e : c.loop-i.i ≡ c.least-m.result = omega arith in
+    rw (← e) (rendered_all _ _ _ c.loop-i.invariant.3 (omega (arith, rows_length c.args.list.now c.args.n)))

@@ -13,17 +13,11 @@ pub loop-k-init : goal.loop-k-init
 unfolding filled
 loop-k-init c = search rules
 
-pub put_face-requires : goal.put_face-requires
-put_face-requires c =
-    (search rules, rw c.corners.ensures (c.requires.within _))
-
 pub loop-k-preserved : goal.loop-k-preserved
-loop-k-preserved c = (
-  omega arith,
-  c.put_face.ensures ∙ filled_more face_set _ _ _ c.loop-k.invariant.1 c.corners.ensures,
-)
+loop-k-preserved c =
+    c.put_face.ensures ∙ filled_more face_set _ _ _ c.loop-k.invariant c.corners.ensures
 
 pub returns : goal.returns
 returns c =
-    faces_decoded (face (tables_of c.args.s.now)) c.loop-k.k (3 * (2 * limits.most_faces + 1)) c.loop-k.invariant.1 (omega arith)
+    faces_decoded (face (tables_of c.args.s.now)) c.loop-k.k (3 * (2 * limits.most_faces + 1)) c.loop-k.invariant (omega arith)
     (λ j h. face_none c.args.s.now j (omega arith))

@@ -13,17 +13,11 @@ pub loop-i-init : goal.loop-i-init
 unfolding filled
 loop-i-init c = search rules
 
-pub put_row-requires : goal.put_row-requires
-put_row-requires c =
-    (search rules, rw c.row.ensures (c.requires.within _))
-
 pub loop-i-preserved : goal.loop-i-preserved
-loop-i-preserved c = (
-  omega arith,
-  c.put_row.ensures ∙ filled_more row_set _ _ _ c.loop-i.invariant.1 c.row.ensures,
-)
+loop-i-preserved c =
+    c.put_row.ensures ∙ filled_more row_set _ _ _ c.loop-i.invariant c.row.ensures
 
 pub returns : goal.returns
 returns c =
-    rows_decoded (row (tables_of c.args.s.now)) c.loop-i.i (4 * (most_points limits + 1)) c.loop-i.invariant.1 (omega arith)
+    rows_decoded (row (tables_of c.args.s.now)) c.loop-i.i (4 * (most_points limits + 1)) c.loop-i.invariant (omega arith)
     (λ j h. row_none c.args.s.now j (omega arith))

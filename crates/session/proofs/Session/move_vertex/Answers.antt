@@ -11,16 +11,16 @@ slice_bounds-vertex_fault-end c = sym (length-take-le _ _ c.size-n.ensures.withi
 pub with_row-requires : goal.with_row-requires
 with_row-requires c =
     let l = length-take-le c.size-n.result c.args.self.bytes c.size-n.ensures.within in
-    let f = vertex_free _ _ _ (sym c.vertex_fault-j.ensures ∙ c.in-Accepted.is) in
+    let f = vertex_free _ _ _ (sym c.vertex_fault-j.ensures ∙ c.in-Ok.is) in
     (row_fits f.row, omega (arith, f.whole, f.high, c.size-n.ensures.fits, l), c.size-n.ensures.fits)
 
-pub returns-in-Refused : goal.returns-in-Refused
+pub returns-in-Err : goal.returns-in-Err
 unfolding moved_of
-returns-in-Refused c =
-    changed_not _ _ (rw c.size-n.ensures.same at c.vertex_fault-j.ensures) c.in-Refused.is
+returns-in-Err c =
+    changed_not _ _ (rw c.size-n.ensures.same at c.vertex_fault-j.ensures) c.in-Err.is
 
-pub returns-in-Accepted : goal.returns-in-Accepted
+pub returns-in-Ok : goal.returns-in-Ok
 unfolding moved_of
-returns-in-Accepted c =
-    changed_so _ _ (rw c.size-n.ensures.same at c.vertex_fault-j.ensures) c.in-Accepted.is c.size-n.ensures.long
+returns-in-Ok c =
+    changed_so _ _ (rw c.size-n.ensures.same at c.vertex_fault-j.ensures) c.in-Ok.is c.size-n.ensures.long
     c.with_row.ensures

@@ -5,11 +5,11 @@ use Rattle.session.proofs.place.move_far.Goals as goal
 
 pub put_row-requires : goal.put_row-requires
 put_row-requires c =
-    let m = far_room _ _ (sym c.move_far_fault-j.ensures ∙ c.in-Accepted.is) in (m.fits, m.room)
+    let m = far_room _ _ (sym c.move_far_fault.ensures ∙ c.in_ok-move_far_fault.was) in (m.fits, m.room)
 
-pub returns-in-Refused : goal.returns-in-Refused
-returns-in-Refused c = kept_so _ _ c.move_far_fault-j.ensures c.in-Refused.is
+pub returns-in_err-move_far_fault : goal.returns-in_err-move_far_fault
+returns-in_err-move_far_fault c = kept_so _ _ c.move_far_fault.ensures c.in_err-move_far_fault.was c.from_residual.ensures.1
 
-pub returns-in-Accepted : goal.returns-in-Accepted
-returns-in-Accepted c =
-    put_so _ _ c.move_far_fault-j.ensures c.in-Accepted.is c.put_row.ensures
+pub returns : goal.returns
+returns c =
+    put_so _ _ c.move_far_fault.ensures c.in_ok-move_far_fault.was c.put_row.ensures

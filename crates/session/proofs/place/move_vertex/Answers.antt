@@ -5,11 +5,11 @@ use Rattle.session.proofs.place.move_vertex.Goals as goal
 
 pub put_row-requires : goal.put_row-requires
 put_row-requires c =
-    let m = move_room _ _ _ (sym c.move_fault-j.ensures ∙ c.in-Accepted.is) in (m.fits, m.room)
+    let m = move_room _ _ _ (sym c.move_fault.ensures ∙ c.in_ok-move_fault.was) in (m.fits, m.room)
 
-pub returns-in-Refused : goal.returns-in-Refused
-returns-in-Refused c = kept_so _ _ c.move_fault-j.ensures c.in-Refused.is
+pub returns-in_err-move_fault : goal.returns-in_err-move_fault
+returns-in_err-move_fault c = kept_so _ _ c.move_fault.ensures c.in_err-move_fault.was c.from_residual.ensures.1
 
-pub returns-in-Accepted : goal.returns-in-Accepted
-returns-in-Accepted c =
-    put_so _ _ c.move_fault-j.ensures c.in-Accepted.is c.put_row.ensures
+pub returns : goal.returns
+returns c =
+    put_so _ _ c.move_fault.ensures c.in_ok-move_fault.was c.put_row.ensures

@@ -7,30 +7,30 @@ use Rattle.session.proofs.place.reverse.Goals as goal
 
 pub overflow_sub-f : goal.overflow_sub-f
 overflow_sub-f c =
-    let m = face_room _ _ (sym c.reverse_fault-j.ensures ∙ c.in-Accepted.is) in m.low
+    let m = face_room _ _ (sym c.reverse_fault.ensures ∙ c.in_ok-reverse_fault.was) in m.low
 
 pub face_start-at-requires : goal.face_start-at-requires
 face_start-at-requires c =
-    let m = face_room _ _ (sym c.reverse_fault-j.ensures ∙ c.in-Accepted.is) in
+    let m = face_room _ _ (sym c.reverse_fault.ensures ∙ c.in_ok-reverse_fault.was) in
     omega (arith, m.high)
 
-pub overflow_sub-f-in-Accepted : goal.overflow_sub-f-in-Accepted
-overflow_sub-f-in-Accepted c =
-    let m = face_room _ _ (sym c.reverse_fault-j.ensures ∙ c.in-Accepted.is) in m.low
+pub overflow_sub-f-2 : goal.overflow_sub-f-2
+overflow_sub-f-2 c =
+    let m = face_room _ _ (sym c.reverse_fault.ensures ∙ c.in_ok-reverse_fault.was) in m.low
 
 pub reversed_face-t-requires : goal.reversed_face-t-requires
 reversed_face-t-requires c =
-    let m = face_room _ _ (sym c.reverse_fault-j.ensures ∙ c.in-Accepted.is) in omega (arith, m.high)
+    let m = face_room _ _ (sym c.reverse_fault.ensures ∙ c.in_ok-reverse_fault.was) in omega (arith, m.high)
 
 pub put_corners-requires : goal.put_corners-requires
 put_corners-requires c =
-    let m = face_room _ _ (sym c.reverse_fault-j.ensures ∙ c.in-Accepted.is) in
+    let m = face_room _ _ (sym c.reverse_fault.ensures ∙ c.in_ok-reverse_fault.was) in
     (c.reversed_face-t.ensures.1, omega (arith, m.room, c.face_start-at.ensures.0))
 
-pub returns-in-Refused : goal.returns-in-Refused
-returns-in-Refused c = kept_so _ _ c.reverse_fault-j.ensures c.in-Refused.is
+pub returns-in_err-reverse_fault : goal.returns-in_err-reverse_fault
+returns-in_err-reverse_fault c = kept_so _ _ c.reverse_fault.ensures c.in_err-reverse_fault.was c.from_residual.ensures.1
 
-pub returns-in-Accepted : goal.returns-in-Accepted
-returns-in-Accepted c =
-    put_so _ _ c.reverse_fault-j.ensures c.in-Accepted.is
+pub returns : goal.returns
+returns c =
+    put_so _ _ c.reverse_fault.ensures c.in_ok-reverse_fault.was
     (c.put_corners.ensures ∙ ap₂ (corners_put _) c.face_start-at.ensures.0 c.reversed_face-t.ensures.0)

@@ -12,12 +12,12 @@ slice_bounds-copy-end c =
     sym (length-take-le _ _ c.size-n.ensures.within)
 
 pub copy-requires : goal.copy-requires
-copy-requires c = save_room _ _ (sym c.save_fault-j.ensures ∙ c.in-Accepted.is)
+copy-requires c = save_room _ _ (sym c.save_fault-j.ensures ∙ c.in-Ok.is)
 
-pub returns-in-Refused : goal.returns-in-Refused
-returns-in-Refused c =
-    saved_not _ _ (rw c.size-n.ensures.same at c.save_fault-j.ensures) refl c.in-Refused.is
+pub returns-in-Err : goal.returns-in-Err
+returns-in-Err c =
+    saved_not _ _ (rw c.size-n.ensures.same at c.save_fault-j.ensures) refl c.in-Err.is
 
-pub returns-in-Accepted : goal.returns-in-Accepted
-returns-in-Accepted c =
-    saved_so _ _ (rw c.size-n.ensures.same at c.save_fault-j.ensures) refl c.in-Accepted.is (rw c.size-n.ensures.same at c.copy.ensures)
+pub returns-in-Ok : goal.returns-in-Ok
+returns-in-Ok c =
+    saved_so _ _ (rw c.size-n.ensures.same at c.save_fault-j.ensures) refl c.in-Ok.is (rw c.size-n.ensures.same at c.copy.ensures)

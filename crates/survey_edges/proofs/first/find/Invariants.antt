@@ -1,12 +1,8 @@
 -- Nothing is found so far.
-use Prim.Native.Nat.{◌-◌, ◌≤◌}
 use mathlib.Core.Path.{◌≡◌}
 use mathlib.Core.List.{[]}
 use Rattle.survey_edges.specs.Table.{table_hits}
 use Rattle.survey_edges.proofs.first.find.Given as goal
 
 abbrev pub invariant-loop-j : goal.invariant-loop-j
-invariant-loop-j l = (l.j ≤ l.n) × ([] ≡ table_hits l.first l.ends l.masks l.j)
-
-abbrev pub decreases-loop-j : goal.decreases-loop-j
-decreases-loop-j l = l.n - l.j
+invariant-loop-j l = [] ≡ table_hits l.first l.ends l.masks l.j

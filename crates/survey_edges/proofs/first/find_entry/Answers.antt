@@ -7,4 +7,4 @@ use Rattle.survey_edges.proofs.first.find_entry.Goals as goal
 pub returns : goal.returns
 returns c =
     c.first_of_mask.ensures ∙ (λ i. first_of (entry_hits c.args.first
-    (record { low = c.wide-u.ensures i; high = c.wide-v.ensures i; mask = c.mask_at.ensures.value i })))
+    (record { low = c.from-u.ensures i; high = c.from-v.ensures i; mask = c.mask_at.ensures.value i })))

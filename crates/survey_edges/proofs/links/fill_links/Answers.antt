@@ -1,24 +1,14 @@
 use native.Mathlib.Omega.{arith}
-use Rattle.scene.specs.Words.{in_word}
 use Rattle.survey_edges.specs.Links.{linking_none, linking_more, linking_all}
 use Rattle.survey_edges.proofs.links.fill_links.Goals as goal
 
 pub loop-f-init : goal.loop-f-init
-loop-f-init c = (omega arith, omega arith, linking_none _ _ _ _ c.clear.ensures)
-
-pub link_face-requires : goal.link_face-requires
-link_face-requires c =
-    let ok = c.requires.solid.0 c.loop-f.f (omega arith) (omega arith) in
-    rw c.face_in.ensures
-    (omega (arith, c.loop-f.invariant.2.size, c.clear.ensures.size), in_word _ _ (omega arith) ok, omega arith)
+loop-f-init c = linking_none _ _ _ _ c.clear.ensures
 
 pub loop-f-preserved : goal.loop-f-preserved
-loop-f-preserved c = (
-  omega arith,
-  omega arith,
-  linking_more _ _ _ _ _ (omega arith) (omega arith) (c.requires.solid.0 c.loop-f.f (omega arith) (omega arith))
-      c.face_in.ensures c.loop-f.invariant.2 c.link_face.ensures,
-)
+loop-f-preserved c =
+    linking_more _ _ _ _ _ (omega arith) (omega arith) (c.requires.solid.0 c.loop-f.f (omega arith) (omega arith))
+    c.face_in.ensures c.loop-f.invariant c.link_face.ensures
 
 pub returns : goal.returns
-returns c = linking_all _ _ _ (omega arith) c.clear.ensures c.loop-f.invariant.2
+returns c = linking_all _ _ _ (omega arith) c.clear.ensures c.loop-f.invariant

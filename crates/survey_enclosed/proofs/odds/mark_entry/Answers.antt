@@ -13,6 +13,6 @@ returns-then-not-is_odd c =
 pub returns : goal.returns
 returns c =
     marks_both _ _ (entry_in c.args.ends.now c.args.masks.now c.args.j) _ c.requires.1 c.requires.2 c.requires.3 c.requires.4
-    (c.is_odd.ensures ∙ ap is_odd c.mask_at.ensures.value) c.if-not-is_odd.false c.wide-u.ensures
-    c.wide-v.ensures
+    (c.is_odd.ensures ∙ ap is_odd c.mask_at.ensures.value) c.if-not-is_odd.false c.from-u.ensures
+    c.from-v.ensures
     c.bit.ensures c.bit-2.ensures c.join.ensures c.join-2.ensures

@@ -1,5 +1,4 @@
 -- Nothing is found so far.
-use Prim.Native.Nat.{◌-◌, ◌≤◌}
 use mathlib.Core.Path.{◌≡◌}
 use mathlib.Core.List.{[]}
 use Rattle.questions.specs.Hits.{view_in}
@@ -7,7 +6,4 @@ use Rattle.survey_first.specs.First.{hits_to}
 use Rattle.survey_first.proofs.first.first_of.Given as goal
 
 abbrev pub invariant-loop-i : goal.invariant-loop-i
-invariant-loop-i l = (l.i ≤ l.verts) × ([] ≡ hits_to (view_in l.n l.rows l.corners) l.k l.i)
-
-abbrev pub decreases-loop-i : goal.decreases-loop-i
-decreases-loop-i l = l.verts - l.i
+invariant-loop-i l = [] ≡ hits_to (view_in l.n l.rows l.corners) l.k l.i

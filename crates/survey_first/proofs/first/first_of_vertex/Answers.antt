@@ -29,8 +29,8 @@ first_of_edge-found-requires c =
     let t = left_own v c.args.k c.args.u c.loop-left.left c.requires.solid.0 c.requires.solid.1 c.requires.solid.2 c.loop-left.invariant.1 (omega arith) in
     record { solid = c.requires.solid.0; edge = (c.requires.solid.1, t, omega arith); sides = c.requires.sides }
 
-pub returns-in-Pair : goal.returns-in-Pair
-returns-in-Pair c =
+pub returns-in-Some : goal.returns-in-Some
+returns-in-Some c =
     let v = view_in c.args.n c.args.rows.now c.args.corners.now in
     search
     (left_found v c.args.k c.args.u c.loop-left.left (omega arith) c.loop-left.invariant.0 refl c.first_of_edge-found.ensures

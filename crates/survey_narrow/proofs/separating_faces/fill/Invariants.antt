@@ -1,6 +1,6 @@
 -- Each turn stores the words of one more face and adds them to the union, which is stored last.
 use mathlib.Core.Path.{◌≡◌}
-use Prim.Native.Nat.{◌+◌, ◌-◌, ◌≤◌}
+use Prim.Native.Nat.{◌+◌}
 use Rattle.scene.specs.Arrays.{face_in}
 use Rattle.survey_sides.specs.Tables.{masks_from}
 use Rattle.survey_narrow.specs.Cover.{cut_in}
@@ -9,8 +9,5 @@ use Rattle.survey_narrow.proofs.separating_faces.fill.Given as goal
 
 abbrev pub invariant-loop-i : goal.invariant-loop-i
 invariant-loop-i l =
-    (l.i ≤ l.count) × (l.separating ≡ masks_from (λ j. cut_in l.words (face_in l.corners (l.first + j))) 0 l.i l.initial.separating)
+    (l.separating ≡ masks_from (λ j. cut_in l.words (face_in l.corners (l.first + j))) 0 l.i l.initial.separating)
     × (l.any ≡ union_of (λ j. cut_in l.words (face_in l.corners (l.first + j))) l.i)
-
-abbrev pub decreases-loop-i : goal.decreases-loop-i
-decreases-loop-i l = l.count - l.i

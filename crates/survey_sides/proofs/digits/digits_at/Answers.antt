@@ -1,13 +1,11 @@
-use borrow.Author.Rules.{rules}
-use mathlib.Core.Path.{◌≡◌, refl, ap, subst, ◌∙◌}
-use Prim.Native.Nat.{ℕ, ◌+◌, ◌-◌}
+use mathlib.Core.Path.{refl, ap, ◌∙◌}
 use native.Mathlib.Omega.{arith}
 use lib.IntN.{ℤ, pos}
 use lib.Signed.{lt_z}
 use Rattle.laws.specs.Mask.{digit}
 use Rattle.laws.specs.Size.{called}
 use Rattle.scene.specs.Arrays.{row_in, face_in}
-use Rattle.survey_sides.specs.Sides.{plane_in, Ready, mask_begun, mask_under, mask_done}
+use Rattle.survey_sides.specs.Sides.{mask_begun, mask_under}
 use Rattle.survey_sides.specs.Slopes.{is_zero, zero_read}
 use Rattle.survey_sides.specs.Ties.{leads, flat}
 use Rattle.survey_sides.proofs.digits.digits_at.Goals as goal
@@ -15,38 +13,16 @@ use Rattle.survey_sides.proofs.digits.digits_at.Goals as goal
 pub loop-k-init : goal.loop-k-init
 loop-k-init c =
     let face = face_in c.args.corners.now in (
-      search rules,
       mask_begun (leads (row_in c.args.rows.now) c.args.t) face c.args.first c.args.count,
       mask_begun (flat (row_in c.args.rows.now) c.args.t) face c.args.first c.args.count,
     )
 
-pub side-d-requires : goal.side-d-requires
-side-d-requires c =
-    let e : c.args.first + 1 + (c.loop-k.k - 1) ≡ c.args.first + c.loop-k.k = omega arith in
-    let here : Ready (row_in c.args.rows.now) (face_in c.args.corners.now) (plane_in c.args.planes.now c.args.base) c.args.t (c.args.first + c.loop-k.k) =
-    subst (λ (i : ℕ). Ready (row_in c.args.rows.now) (face_in c.args.corners.now) (plane_in c.args.planes.now c.args.base) c.args.t i) e
-    (c.requires.ready (c.loop-k.k - 1) (omega arith)) in
-    record {
-      rows = c.requires.rows;
-      numbers = (search rules, search rules, c.requires.point.0, c.requires.point.1);
-      ready = here;
-    }
-
 pub loop-k-preserved : goal.loop-k-preserved
 loop-k-preserved c =
     let face = face_in c.args.corners.now in (
-      omega arith,
       mask_under (leads (row_in c.args.rows.now) c.args.t) face c.args.first c.args.count c.loop-k.k (omega arith) (omega arith) (omega arith)
-          c.loop-k.invariant.1 (c.bit.ensures ∙ ap (λ (z : ℤ). digit (lt_z z (pos 0))) (called c.side-d.type_inv c.side-d.ensures)),
+          c.loop-k.invariant.0 (c.bit.ensures ∙ ap (λ (z : ℤ). digit (lt_z z (pos 0))) (called c.side-d.type_inv c.side-d.ensures)),
       mask_under (flat (row_in c.args.rows.now) c.args.t) face c.args.first c.args.count c.loop-k.k (omega arith) (omega arith) (omega arith)
-          c.loop-k.invariant.2 (c.bit-in-loop-k.ensures
+          c.loop-k.invariant.1 (c.bit-in-loop-k.ensures
           ∙ ap digit (zero_read {n = c.side-d.result} (called {z = c.side-d.result} c.side-d.type_inv refl) ∙ ap is_zero c.side-d.ensures)),
     )
-
-pub returns : goal.returns
-returns c =
-    let face = face_in c.args.corners.now in
-    record {
-      above = mask_done (leads (row_in c.args.rows.now) c.args.t) face c.args.first c.args.count (omega arith) c.loop-k.invariant.1;
-      tied = mask_done (flat (row_in c.args.rows.now) c.args.t) face c.args.first c.args.count (omega arith) c.loop-k.invariant.2;
-    }

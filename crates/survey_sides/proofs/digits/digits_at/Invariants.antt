@@ -1,6 +1,6 @@
--- The loop's invariant: the words are the masks of the faces behind the first k. The measure is k.
+-- The loop's invariant: the words are the masks of the faces behind the first k.
 use mathlib.Core.Path.{◌≡◌}
-use Prim.Native.Nat.{◌+◌, ◌-◌, ◌≤◌}
+use Prim.Native.Nat.{◌+◌, ◌-◌}
 use Rattle.scene.specs.Arrays.{row_in, face_in}
 use Rattle.pierce_masks.specs.Faces.{mask_by}
 use Rattle.survey_sides.specs.Ties.{leads, flat}
@@ -8,8 +8,5 @@ use Rattle.survey_sides.proofs.digits.digits_at.Given as goal
 
 abbrev pub invariant-loop-k : goal.invariant-loop-k
 invariant-loop-k l =
-    (l.k ≤ l.count) × (l.above ≡ mask_by (leads (row_in l.rows) l.t) (face_in l.corners) (l.first + l.k) (l.count - l.k))
+    (l.above ≡ mask_by (leads (row_in l.rows) l.t) (face_in l.corners) (l.first + l.k) (l.count - l.k))
     × (l.tied ≡ mask_by (flat (row_in l.rows) l.t) (face_in l.corners) (l.first + l.k) (l.count - l.k))
-
-abbrev pub decreases-loop-k : goal.decreases-loop-k
-decreases-loop-k l = l.k

@@ -1,6 +1,5 @@
 -- Each turn stores the words of one more point; a slope that is in the table stays right.
 use mathlib.Core.Path.{◌≡◌}
-use Prim.Native.Nat.{◌-◌, ◌≤◌}
 use Rattle.scene.specs.Arrays.{row_in, face_in}
 use Rattle.survey_sides.specs.Tables.{masks_from}
 use Rattle.survey_sides.specs.Sides.{sides_of}
@@ -9,8 +8,5 @@ use Rattle.survey_sides.proofs.point_masks.fill_points.Given as goal
 
 abbrev pub invariant-loop-i : goal.invariant-loop-i
 invariant-loop-i l =
-    (l.i ≤ l.n) × (l.words ≡ masks_from (sides_of (row_in l.rows) (face_in l.corners) l.first l.count) l.low l.i l.initial.words)
+    (l.words ≡ masks_from (sides_of (row_in l.rows) (face_in l.corners) l.first l.count) l.low l.i l.initial.words)
     × Sloped (row_in l.rows) (face_in l.corners) l.slopes
-
-abbrev pub decreases-loop-i : goal.decreases-loop-i
-decreases-loop-i l = l.n - l.i

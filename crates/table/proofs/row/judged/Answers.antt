@@ -2,8 +2,8 @@
 use Rattle.print_why.specs.Said.{one, and}
 use Rattle.table.proofs.row.judged.Goals as goal
 
-pub returns-in-Refused : goal.returns-in-Refused
-returns-in-Refused c = search (one, and)
+pub returns-in-Err : goal.returns-in-Err
+returns-in-Err c = search (one, and)
 
-pub returns-in-Facts : goal.returns-in-Facts
-returns-in-Facts c = search (one, and)
+pub returns-in-Ok : goal.returns-in-Ok
+returns-in-Ok c = search (one, and)

@@ -1,5 +1,5 @@
 -- What the judge of document 01 accepted is accepted with the limits of that time: each of its tests asked for more. Assumes nothing.
-use Rattle.std.specs.Prelude.{◌≡◌, Bool, List, ltb, nat_abs}
+use Rattle.std.specs.Prelude.{◌≡◌, Bool, List, ltb, nat_abs, Ok}
 use Rattle.std.proofs.Math.Path.{refl, ap}
 use Rattle.std.proofs.Common.{subst, arith, lt-ltb}
 use Rattle.std.proofs.Math.Bool.{true, false, not, cond}
@@ -14,8 +14,7 @@ use Rattle.scene.specs.Records.{faces_in_a, verts, faces, last_record, point_sta
 use Rattle.judge.specs.Judge.{weight_ok, nowhere, somewhere_ok, point_fault, face_fault, end_fault, record_fault, records_fault}
 use Rattle.judge.specs.Judge.{is_edge, edge_ok, sides_ok, closed_at, edge_fault, edges_fault, judged_at}
 use Rattle.judge.specs.Tests.{within_iff, rule_iff, then_iff, first_iff}
-use Rattle.judge.specs.declared.Judged.{Judged}
-use Rattle.judge.specs.declared.Judged.TheVariants.{Accepted}
+use Rattle.judge.specs.Judge.{Judged}
 use Rattle.theorem_demands.specs.Kept.Before.{point_fault_before, record_fault_before, in_two, sides_in_two, edge_fault_before, judged_before}
 
 pub least_one : (j : ℕ) → least_weight j ≤ 1
@@ -36,7 +35,7 @@ module _ (s : List ℕ) where
       let d = (and_iff _ _).0 c.1 in
       (and_iff _ _).1 (edge_closed a e _ _ c.0, (and_iff _ _).1 (edge_closed a e _ _ d.0, edge_closed a e _ _ d.1))
 
-  face_closed : (i : ℕ) → edge_fault_before s i ≡ Accepted → edge_fault s i ≡ Accepted
+  face_closed : (i : ℕ) → edge_fault_before s i ≡ Ok tt → edge_fault s i ≡ Ok tt
   unfolding edge_fault closed_at
   face_closed i p = (rule_iff _ _ _).1 (go (ltb i (faces_in_a s)) ((rule_iff _ _ _).0 p).0, refl)
     where
@@ -59,7 +58,7 @@ module _ (s : List ℕ) where
       go true e = let c = simp decides at e in absurd (omega (arith, c.1.1.1))
   somewhere (suc j) h = refl
 
-  point_ok : (j : ℕ) → point_fault_before s j ≡ Accepted → (point_fault limits_before s j ≡ Accepted) × Weighs j
+  point_ok : (j : ℕ) → point_fault_before s j ≡ Ok tt → (point_fault limits_before s j ≡ Ok tt) × Weighs j
   unfolding point_fault weight_ok
   point_ok j p =
       let c1 = (rule_iff _ _ _).0 p in
@@ -71,22 +70,22 @@ module _ (s : List ℕ) where
       let last = (rule_iff _ _ _).1 (ok, (rule_iff _ _ _).1 (somewhere j w.0, refl)) in
       ((rule_iff _ _ _).1 (c1.0, (rule_iff _ _ _).1 (c2.0, (rule_iff _ _ _).1 (c3.0, (rule_iff _ _ _).1 (c4.0, last)))), w.0)
 
-  record_ok : (k : ℕ) → record_fault_before s k ≡ Accepted → record_fault limits_before s k ≡ Accepted
+  record_ok : (k : ℕ) → record_fault_before s k ≡ Ok tt → record_fault limits_before s k ≡ Ok tt
   unfolding record_fault
   record_ok k p = go (ltb k (2 + verts s)) (cond (ltb k (last_record s)) (face_fault s (k - (2 + verts s))) (end_fault s)) p
     where
-      go : (b : Bool) (r : Judged) → cond b (point_fault_before s (k - 1)) (cond b (point_fault limits_before s (k - 1)) r) ≡ Accepted →
-          cond b (point_fault limits_before s (k - 1)) r ≡ Accepted
+      go : (b : Bool) (r : Judged) → cond b (point_fault_before s (k - 1)) (cond b (point_fault limits_before s (k - 1)) r) ≡ Ok tt →
+          cond b (point_fault limits_before s (k - 1)) r ≡ Ok tt
       go true r q = (point_ok (k - 1) q).0
       go false r q = q
 
   -- ---- all of it
 
-  module _ (e : judged_before s ≡ Accepted) where
-    records : (k : ℕ) → 1 ≤ k → k < last_record s + 1 → record_fault_before s k ≡ Accepted
+  module _ (e : judged_before s ≡ Ok tt) where
+    records : (k : ℕ) → 1 ≤ k → k < last_record s + 1 → record_fault_before s k ≡ Ok tt
     records = (first_iff (record_fault_before s) 1 (last_record s + 1)).0 ((then_iff _ _).0 ((then_iff _ _).0 e).1).0
 
-    pub before_accepted : judged_at limits_before s ≡ Accepted
+    pub before_accepted : judged_at limits_before s ≡ Ok tt
     unfolding judged_at records_fault edges_fault
     before_accepted =
         let c = (then_iff _ _).0 e in
@@ -107,6 +106,6 @@ module _ (s : List ℕ) where
         subst Weighs (omega arith)
         (point_ok (suc j - 1) (go _ (lt-ltb (suc j) (2 + verts s) (omega arith)) _ _ (records (suc j) (omega arith) (omega arith)))).1
       where
-        go : (b : Bool) → b ≡ true → (p r : Judged) → cond b p r ≡ Accepted → p ≡ Accepted
+        go : (b : Bool) → b ≡ true → (p r : Judged) → cond b p r ≡ Ok tt → p ≡ Ok tt
         go true e p r q = q
         go false e p r q = absurd (false≢true e)

@@ -1,9 +1,0 @@
--- Word after word.
-use Prim.Native.Nat.{◌-◌, ◌≤◌}
-use Rattle.bench.proofs.wrong_move.Given as goal
-
-abbrev pub invariant-loop-i : goal.invariant-loop-i
-invariant-loop-i l = l.i ≤ l.count
-
-abbrev pub decreases-loop-i : goal.decreases-loop-i
-decreases-loop-i l = l.count - l.i

@@ -1,9 +1,0 @@
--- So many bytes are left to be looked at.
-use Prim.Native.Nat.{◌≤◌, ◌-◌}
-use Rattle.print_why.proofs.inputs.is_off.Given as goal
-
-abbrev pub invariant-loop-i : goal.invariant-loop-i
-invariant-loop-i l = l.i ≤ 32
-
-abbrev pub decreases-loop-i : goal.decreases-loop-i
-decreases-loop-i l = 32 - l.i

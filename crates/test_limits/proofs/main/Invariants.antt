@@ -1,9 +1,0 @@
--- It ends after as many entries as a number can count.
-use Rattle.std.proofs.Common.{◌≤◌, ◌-◌}
-use Rattle.test_limits.proofs.main.Given as goal
-
-abbrev pub invariant-loop-n : goal.invariant-loop-n
-invariant-loop-n l = l.n ≤ 18446744073709551615
-
-abbrev pub decreases-loop-n : goal.decreases-loop-n
-decreases-loop-n l = 18446744073709551615 - l.n
