@@ -87,7 +87,7 @@ def main():
                 counters = re.findall(r"(\w+) (?:\+|-)= 1;", m[2])
                 if any(re.search(r"\b%s\b" % c, m[1]) for c in counters):
                     found["3. loops that count an index"].append(place)
-            parameters = re.split(r"\n *(?:requires|ensures)", head)[0]
+            parameters = re.sub(r"^( *(?:pub )?fn \w+)<[^(]*>\(", r"\1(", re.split(r"\n *(?:requires|ensures)", head)[0])
             if len(re.findall(r"\w+: ", parameters)) >= 8:
                 found["5. functions of eight parameters and more"].append(place)
             if re.search(r"\b(engine: Engine|\w+: bool)\b", parameters):

@@ -5,16 +5,17 @@ ghost use Rattle.std.specs.Prelude.{◌≤◌, ◌<◌, length};
 
 use crate::words::{Question, asked_at, count_at};
 use cli::is_option;
-use pierce_engine::Engine;
+use pierce_engine::{Formula, Plain};
 use print_answers::lent::{PLACES, TEXT};
 use print_answers::{lent, reports};
 use scene::Scene;
+use survey_sides::Surveyor;
 
 mod said;
 mod words;
 
 // The listing into so many lent places.
-fn lent_listing(engine: Engine, s: &[u8], places: usize, out: &mut [u8]) -> usize
+fn lent_listing<E: Surveyor>(engine: E, s: &[u8], places: usize, out: &mut [u8]) -> usize
     ensures { result ≤ length out.new }
 {
     let mut list = [0u16; PLACES];
@@ -23,7 +24,7 @@ fn lent_listing(engine: Engine, s: &[u8], places: usize, out: &mut [u8]) -> usiz
 }
 
 // What is answered, but for the rows of a listing.
-fn answer(engine: Engine, q: Question, s: &[u8], out: &mut [u8]) -> usize
+fn answer<E: Surveyor>(engine: E, q: Question, s: &[u8], out: &mut [u8]) -> usize
     ensures { result ≤ length out.new }
 {
     match q {
@@ -43,7 +44,7 @@ fn answer(engine: Engine, q: Question, s: &[u8], out: &mut [u8]) -> usize
 }
 
 // Whether they were written.
-fn write_rows(rt: &HostRuntime, engine: Engine, s: &[u8]) -> bool {
+fn write_rows<E: Surveyor>(rt: &HostRuntime, engine: E, s: &[u8]) -> bool {
     let mut list = [0u16; PLACES];
     let mut out = [0u8; TEXT];
     let r = reports::part(engine, s, 0, &mut list, &mut out);
@@ -64,7 +65,7 @@ fn explain(rt: &HostRuntime, q: Question, s: &[u8], answer: &[u8]) {
 }
 
 // A write that fails is the last.
-fn write_answer(rt: &HostRuntime, engine: Engine, q: Question, s: &[u8]) {
+fn write_answer<E: Surveyor>(rt: &HostRuntime, engine: E, q: Question, s: &[u8]) {
     let mut out = [0u8; TEXT];
     let end = answer(engine, q, s, &mut out);
     if !cli::write(rt, b"ask", &out[..end]) {
@@ -80,7 +81,7 @@ fn write_answer(rt: &HostRuntime, engine: Engine, q: Question, s: &[u8]) {
     }
 }
 
-fn reply(rt: &HostRuntime, engine: Engine, q: Question, file: usize) {
+fn reply<E: Surveyor>(rt: &HostRuntime, engine: E, q: Question, file: usize) {
     // One byte more than the longest scene tells that the input is too long.
     let mut s = [0u8; Scene::LONGEST + 1];
     let r = cli::read_at(rt, b"ask", file, &mut s);
@@ -91,7 +92,7 @@ fn reply(rt: &HostRuntime, engine: Engine, q: Question, file: usize) {
 }
 
 // The word at `file` names it, where it is the last.
-fn reply_of(rt: &HostRuntime, engine: Engine, q: Question, file: usize)
+fn reply_of<E: Surveyor>(rt: &HostRuntime, engine: E, q: Question, file: usize)
     requires { file < 20 }
 {
     if is_option(rt, file) {
@@ -106,7 +107,7 @@ fn reply_of(rt: &HostRuntime, engine: Engine, q: Question, file: usize)
 }
 
 // The name of the question is word i.
-fn ask(rt: &HostRuntime, engine: Engine, i: usize)
+fn ask<E: Surveyor>(rt: &HostRuntime, engine: E, i: usize)
     requires { i < 9 }
 {
     match asked_at(rt, i) {
@@ -120,8 +121,8 @@ fn main(rt: HostRuntime) {
         return;
     }
     if cli::is_word(&rt, 1, b"--formula") {
-        ask(&rt, Engine::Formula, 2);
+        ask(&rt, Formula, 2);
     } else {
-        ask(&rt, Engine::Plain, 1);
+        ask(&rt, Plain, 1);
     }
 }

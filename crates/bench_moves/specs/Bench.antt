@@ -1,6 +1,6 @@
 -- A bench: what opening it and each move at it answer, and the bench that is handed back. Each move is a session's move in one scene or in
 -- both. Assumes nothing.
-use Rattle.std.specs.Prelude.{Bool, true, false, not, cond, ◌&&◌, List, ℕ, ◌+◌, ◌*◌, leb, eqb, Result, Ok, Err}
+use Rattle.std.specs.Prelude.{Bool, true, false, not, cond, ◌&&◌, List, ℕ, ◌+◌, ◌*◌, leb, eqb, Result, Ok, Err, Option, Some, None}
 use Rattle.laws.specs.Range.{any_of}
 use Rattle.scene.specs.Bytes.{byte_at}
 use Rattle.scene.specs.Limits.{within}
@@ -9,7 +9,7 @@ use Rattle.scene.specs.Refusal.{number_of, place_of}
 use Rattle.scene.specs.declared.Row.{Row}
 use Rattle.scene.specs.declared.Refusal.{Refusal}
 use Rattle.scene.specs.declared.Refusal.TheVariants.{Opening, NoSuchNumber, Coordinate, Weight, FarAllZero}
-use Rattle.judge.specs.Judge.{judged, refuse_unless}
+use Rattle.judge.specs.Judge.{judged}
 use Rattle.judge.specs.Judge.{Judged}
 use Rattle.session.specs.Session.{scene, empty, is_whole, opened, moved_of, far_moved_of}
 use Rattle.session.specs.declared.Session.{Session}
@@ -100,15 +100,18 @@ abbrev pub with_session : Bench → Group → Session → Bench
 with_session b One s = record { one = s; two = b.two }
 with_session b Two s = record { one = b.one; two = s }
 
--- whether there is a scene, and the vertices of its two solids
-unfoldable pub solids_of : List ℕ → Solids
-solids_of s = cond (is_whole s) (record { held = true; own = verts_a s; fixture = verts_b s }) (record { held = false; own = 0; fixture = 0 })
+-- the vertices of the scene's two solids, where there is a scene
+abbrev pub counted : List ℕ → Solids
+counted s = record { own = verts_a s; fixture = verts_b s }
+
+unfoldable pub solids_of : List ℕ → Option Solids
+solids_of s = cond (is_whole s) (Some (counted s)) None
 
 -- 1 where there is no scene; 11 for a number that the scene lacks; then 19 for a fixture vertex and for the far point
-unfoldable pub own_fault : Solids → ℕ → Answer
-own_fault k p =
-    unless k.held (Scene Opening)
-    (unless (within 1 (k.own + k.fixture + 1) p) (Scene NoSuchNumber) (unless (within 1 k.own p) (Shared p) (Ok tt)))
+unfoldable pub own_fault : Option Solids → ℕ → Answer
+own_fault None p = Err (Scene Opening)
+own_fault (Some k) p =
+    unless (within 1 (k.own + k.fixture + 1) p) (Scene NoSuchNumber) (unless (within 1 k.own p) (Shared p) (Ok tt))
 
 -- then the session's move of the vertex, with its 5 and 6
 abbrev pub own_moved_by : Answer → Session → ℕ → Row → Moved
@@ -124,8 +127,10 @@ group_moved_of b g p v =
 
 -- ---- the lecturer's move: the fixture's vertices are numbered from 1, and the far point behind them
 
-unfoldable pub number_fault : Solids → ℕ → Judged
-number_fault k n = refuse_unless k.held Opening (refuse_unless (within 1 (k.fixture + 1) n) NoSuchNumber (Ok tt))
+-- 1 where there is no scene, 11 for a number that the fixture lacks; else the solids, in which it is
+unfoldable pub number_fault : Option Solids → ℕ → Result Solids Refusal
+number_fault None n = Err Opening
+number_fault (Some k) n = cond (within 1 (k.fixture + 1) n) (Ok k) (Err NoSuchNumber)
 
 -- the session's move of that point
 unfoldable pub scene_moved : Session → Solids → ℕ → Row → Changed
@@ -133,16 +138,17 @@ scene_moved s k n v = cond (leb n k.fixture) (moved_of s (k.own + n) v) (far_mov
 
 -- a refusal of a row (5, 6, 14) tells the lecturer's number
 unfoldable pub placed : ℕ → Refusal → Refusal
-placed n r =
-    cond (eqb (number_of r) 5) (Coordinate n) (cond (eqb (number_of r) 6) (Weight n) (cond (eqb (number_of r) 14) (FarAllZero n) r))
+placed n (Coordinate p) = Coordinate n
+placed n (Weight p) = Weight n
+placed n (FarAllZero p) = FarAllZero n
+placed n r = r
 
 unfoldable pub placed_in : ℕ → Judged → Judged
 placed_in n (Ok _) = Ok tt
 placed_in n (Err r) = Err (placed n r)
 
-abbrev pub fixture_moved_by : Judged → Session → ℕ → Row → Changed
-fixture_moved_by (Ok _) s n v =
-    record { answer = placed_in n (scene_moved s (solids_of (scene s)) n v).answer; session = (scene_moved s (solids_of (scene s)) n v).session }
+abbrev pub fixture_moved_by : Result Solids Refusal → Session → ℕ → Row → Changed
+fixture_moved_by (Ok k) s n v = record { answer = placed_in n (scene_moved s k n v).answer; session = (scene_moved s k n v).session }
 fixture_moved_by (Err r) s n v = record { answer = Err r; session = s }
 
 unfoldable pub fixture_moved_of : Session → ℕ → Row → Changed

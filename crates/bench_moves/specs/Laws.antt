@@ -1,5 +1,5 @@
 -- What the definitions of a bench give, in the form in which the calls' answers and the branches arrive. Assumes nothing.
-use Rattle.std.specs.Prelude.{◌≡◌, refl, Bool, true, false, ◌&&◌, List, [], ◌++◌, ℕ, ◌+◌, ◌*◌, ◌≤◌, ◌<◌, leb, length, drop, Ok, Err}
+use Rattle.std.specs.Prelude.{◌≡◌, refl, Bool, true, false, ◌&&◌, List, [], ◌++◌, ℕ, ◌+◌, ◌*◌, ◌≤◌, ◌<◌, leb, length, drop, Result, Ok, Err, Option, Some, None}
 use Rattle.std.proofs.Math.Path.{sym, ap, ap₂}
 use Rattle.std.proofs.Common.{◌∙◌, arith, length-take}
 use Rattle.std.proofs.Math.Bool.{not, cond}
@@ -7,11 +7,11 @@ use Rattle.std.proofs.Math.Dec.{eqb}
 use Rattle.std.proofs.Math.ListN.{get_or-append}
 use borrow.Author.Tests.{not-true, not-false, eq-eqb, ne_eqb, le-leb, lt-leb}
 use Rattle.scene.specs.Bytes.{byte_at}
+use Rattle.scene.specs.Limits.{within}
 use Rattle.scene.specs.Records.{verts_a, verts_b, faces_in_a, faces_in_b, length_of, point_start, face_start}
-use Rattle.scene.specs.Refusal.{number_of}
 use Rattle.scene.specs.declared.Row.{Row}
 use Rattle.scene.specs.declared.Refusal.{Refusal}
-use Rattle.scene.specs.declared.Refusal.TheVariants.{Opening, Coordinate, Weight, FarAllZero, BufferTooShort}
+use Rattle.scene.specs.declared.Refusal.TheVariants.{Opening, NoSuchNumber, Coordinate, Weight, FarAllZero, BufferTooShort}
 use Rattle.judge.specs.Judge.{judged_at, header_fault, opens, refuse_unless, and_then}
 use Rattle.judge.specs.Tests.{accepts, never}
 use Rattle.judge.specs.Judge.{Judged}
@@ -21,7 +21,7 @@ use Rattle.session.specs.declared.Session.{Session}
 use Rattle.session.specs.declared.Changed.{Changed}
 use Rattle.bench_moves.specs.Bench.{unless, then_scene, said, same_bytes, same_counts, same_vertices, same_faces, open_fault}
 use Rattle.bench_moves.specs.Bench.{opened_by, opened_of}
-use Rattle.bench_moves.specs.Bench.{session_of, with_session, solids_of, own_fault, own_moved_by, own_moved_of, group_moved_of}
+use Rattle.bench_moves.specs.Bench.{session_of, with_session, counted, solids_of, own_fault, own_moved_by, own_moved_of, group_moved_of}
 use Rattle.bench_moves.specs.Bench.{number_fault, scene_moved, placed, placed_in, fixture_moved_by}
 use Rattle.bench_moves.specs.Bench.{fixture_moved_of, lecturer_moved_by, lecturer_moved_of}
 use Rattle.bench_moves.specs.declared.Bench.{Bench}
@@ -30,7 +30,7 @@ use Rattle.bench_moves.specs.declared.Group.{Group}
 use Rattle.bench_moves.specs.declared.moves.Solids.{Solids}
 use Rattle.bench_moves.specs.declared.moves.Moved.{Moved}
 use Rattle.bench_moves.specs.declared.Fault.{Fault}
-use Rattle.bench_moves.specs.declared.Fault.TheVariants.{Scene}
+use Rattle.bench_moves.specs.declared.Fault.TheVariants.{Scene, Shared}
 use Rattle.bench_moves.specs.Bench.{Answer}
 
 -- ---- a test that came out as b, a judgement that came out as x: it refuses, or what comes after decides
@@ -81,21 +81,20 @@ pub scene_fits : (s : Session) (n : ℕ) → length s.bytes ≡ n → length (sc
 scene_fits s n e = simp length-take (omega arith)
 
 pub solids_none : (s : List ℕ) (room : ℕ) {j : Judged} {r : Refusal} → j ≡ save_fault s room → j ≡ Err r → length s ≤ room →
-    ◌≡◌ {A = Solids} (record { held = false; own = 0; fixture = 0 }) (solids_of s)
+    None ≡ solids_of s
 unfolding save_fault solids_of refuse_unless
 solids_none s room {r = r} e q l = go (is_whole s) (sym e ∙ q)
   where
     go : (b : Bool) → refuse_unless b Opening (refuse_unless (leb (length s) room) (BufferTooShort (length s)) (Ok tt)) ≡ Err
         r →
-        ◌≡◌ {A = Solids} (record { held = false; own = 0; fixture = 0 })
-        (cond b (record { held = true; own = verts_a s; fixture = verts_b s }) (record { held = false; own = 0; fixture = 0 }))
+        None ≡ cond b (Some (counted s)) None
     go true h = absurd (never
         (ap (λ (b : Bool). refuse_unless b (BufferTooShort (length s)) (Ok tt)) (sym (le-leb (length s) room l)) ∙ h))
     go false h = refl
 
 pub solids_held : (s out out' : List ℕ) {j : Judged} {a b : ℕ} → IsSaved s out out' j → j ≡ Ok tt → a ≡ byte_at out' 2 →
     b ≡ byte_at out' 4 →
-    ◌≡◌ {A = Solids} (record { held = true; own = a; fixture = b }) (solids_of s)
+    ◌≡◌ {A = Option Solids} (Some (record { own = a; fixture = b })) (solids_of s)
 unfolding save_fault solids_of is_whole
 solids_held s out out' h q x y =
     let e = sym h.answer ∙ q in
@@ -103,8 +102,8 @@ solids_held s out out' h q x y =
     let f : out' ≡ s ++ drop (length s) out = h.held ∙ ap (λ (j : Judged). saved_by j s out) e in
     let u = x ∙ ap (λ (l : List ℕ). byte_at l 2) f ∙ get_or-append s (drop (length s) out) 0 2 (omega (arith, c.0)) in
     let v = y ∙ ap (λ (l : List ℕ). byte_at l 4) f ∙ get_or-append s (drop (length s) out) 0 4 (omega (arith, c.0)) in
-    (λ i. record { held = true; own = u i; fixture = v i })
-    ∙ ap (λ (b : Bool). cond b (record { held = true; own = verts_a s; fixture = verts_b s }) (record { held = false; own = 0; fixture = 0 }))
+    (λ i. Some (record { own = u i; fixture = v i }))
+    ∙ ap (λ (b : Bool). cond b (Some (counted s)) None)
     (sym (eq-eqb (length s) (length_of s) c.0))
 
 pub nothing_opened : {c : Changed} → c ≡ opened [] → c.session ≡ empty
@@ -122,27 +121,39 @@ module _ (s : Session) (k : Solids) (n : ℕ) (v : Row) {r : Changed} where
   unfolding scene_moved
   scene_far h e = e ∙ ap (λ (b : Bool). cond b (moved_of s (k.own + n) v) (far_moved_of s v)) (sym (lt-leb n k.fixture h))
 
-module _ (n : ℕ) (r : Refusal) {k : ℕ} (e : k ≡ number_of r) where
-  pub placed_5 : k ≡ 5 → Coordinate n ≡ placed n r
-  unfolding placed
-  placed_5 q = rw (sym e ∙ q)
+pub placed_not : (n : ℕ) (r : Refusal) → ((p : ℕ) → r ≡ Coordinate p → ⊥) → ((p : ℕ) → r ≡ Weight p → ⊥) →
+    ((p : ℕ) → r ≡ FarAllZero p → ⊥) → r ≡ placed n r
+unfolding placed
+placed_not n (Coordinate p) a b c = absurd (a p refl)
+placed_not n (Weight p) a b c = absurd (b p refl)
+placed_not n (FarAllZero p) a b c = absurd (c p refl)
+placed_not n r a b c = refl
 
-  pub placed_6 : k ≡ 6 → Weight n ≡ placed n r
-  unfolding placed
-  placed_6 q = rw (sym e ∙ q)
+-- where there are solids, a number by their counts
+module _ (n : ℕ) {k : Option Solids} {m : Solids} {j : ℕ} (e : k ≡ Some m) (g : j ≡ m.fixture) where
+  pub own_by : {i : ℕ} {w : Answer} → i ≡ m.own →
+      w ≡ unless (within 1 (i + j + 1) n) (Scene NoSuchNumber) (unless (within 1 i n) (Shared n) (Ok tt)) → w ≡ own_fault k n
+  unfolding own_fault
+  own_by f h =
+      h ∙ ap₂ (λ (i j : ℕ). unless (within 1 (i + j + 1) n) (Scene NoSuchNumber) (unless (within 1 i n) (Shared n) (Ok tt))) f g
+      ∙ sym (ap (λ (k : Option Solids). own_fault k n) e)
 
-  pub placed_14 : k ≡ 14 → FarAllZero n ≡ placed n r
-  unfolding placed
-  placed_14 q = rw (sym e ∙ q)
+  module _ {b : Bool} (t : b ≡ within 1 (j + 1) n) where
+    number_by : cond b (Ok m) (Err NoSuchNumber) ≡ number_fault k n
+    unfolding number_fault
+    number_by =
+        ap (λ (b : Bool). cond b (Ok m) (Err NoSuchNumber)) (t ∙ ap (λ (j : ℕ). within 1 (j + 1) n) g)
+        ∙ sym (ap (λ (k : Option Solids). number_fault k n) e)
 
-  pub placed_not : (k ≡ 5 → ⊥) → (k ≡ 6 → ⊥) → (k ≡ 14 → ⊥) → r ≡ placed n r
-  unfolding placed
-  placed_not a b c =
-      rw (ne_eqb (number_of r) 5 (λ q. a (e ∙ q)), ne_eqb (number_of r) 6 (λ q. b (e ∙ q)), ne_eqb (number_of r) 14 (λ q. c (e ∙ q)))
+    pub number_lacking : b ≡ false → ◌≡◌ {A = Result Solids Refusal} (Err NoSuchNumber) (number_fault k n)
+    number_lacking h = ap (λ (b : Bool). cond b (Ok m) (Err NoSuchNumber)) (sym h) ∙ number_by
 
-module _ (s : Session) (p : ℕ) (v : Row) {k : Solids} {o : Answer} (e : k ≡ solids_of (scene s)) (f : o ≡ own_fault k p) where
+    pub number_found : b ≡ true → ◌≡◌ {A = Result Solids Refusal} (Ok m) (number_fault k n)
+    number_found h = ap (λ (b : Bool). cond b (Ok m) (Err NoSuchNumber)) (sym h) ∙ number_by
+
+module _ (s : Session) (p : ℕ) (v : Row) {k : Option Solids} {o : Answer} (e : k ≡ solids_of (scene s)) (f : o ≡ own_fault k p) where
   abbrev fault : o ≡ own_fault (solids_of (scene s)) p
-  fault = f ∙ ap (λ (k : Solids). own_fault k p) e
+  fault = f ∙ ap (λ (k : Option Solids). own_fault k p) e
 
   pub own_refused : {g : Fault} → o ≡ Err g → ◌≡◌ {A = Moved} (record { answer = Err g; session = s }) (own_moved_of s p v)
   unfolding own_moved_of
@@ -155,22 +166,21 @@ module _ (s : Session) (p : ℕ) (v : Row) {k : Solids} {o : Answer} (e : k ≡ 
       (λ i. record { answer = (h ∙ ap (λ (c : Changed). said c.answer) m) i; session = (m i).session })
       ∙ ap (λ (o : Answer). own_moved_by o s p v) (sym q ∙ fault)
 
-module _ (s : Session) (n : ℕ) (v : Row) {k : Solids} {o : Judged} (e : k ≡ solids_of (scene s)) (f : o ≡ number_fault k n) where
+module _ (s : Session) (n : ℕ) (v : Row) {k : Option Solids} {o : Result Solids Refusal} (e : k ≡ solids_of (scene s)) (f : o ≡ number_fault k n) where
   abbrev lacking : o ≡ number_fault (solids_of (scene s)) n
-  lacking = f ∙ ap (λ (k : Solids). number_fault k n) e
+  lacking = f ∙ ap (λ (k : Option Solids). number_fault k n) e
 
   pub fixture_refused : {r : Refusal} → o ≡ Err r →
       ◌≡◌ {A = Changed} (record { answer = Err r; session = s }) (fixture_moved_of s n v)
   unfolding fixture_moved_of
-  fixture_refused q = ap (λ (o : Judged). fixture_moved_by o s n v) (sym q ∙ lacking)
+  fixture_refused q = ap (λ (o : Result Solids Refusal). fixture_moved_by o s n v) (sym q ∙ lacking)
 
-  pub fixture_moved : {c : Changed} {j : Judged} → o ≡ Ok tt → c ≡ scene_moved s k n v → j ≡ placed_in n c.answer →
+  pub fixture_moved : {m : Solids} {c : Changed} {j : Judged} → o ≡ Ok m → c ≡ scene_moved s m n v → j ≡ placed_in n c.answer →
       ◌≡◌ {A = Changed} (record { answer = j; session = c.session }) (fixture_moved_of s n v)
   unfolding fixture_moved_of
-  fixture_moved q m h =
-      let w = m ∙ ap (λ (k : Solids). scene_moved s k n v) e in
+  fixture_moved q w h =
       (λ i. record { answer = (h ∙ ap (λ (c : Changed). placed_in n c.answer) w) i; session = (w i).session })
-      ∙ ap (λ (o : Judged). fixture_moved_by o s n v) (sym q ∙ lacking)
+      ∙ ap (λ (o : Result Solids Refusal). fixture_moved_by o s n v) (sym q ∙ lacking)
 
 -- ---- the bench
 

@@ -1,21 +1,19 @@
 // The moves in one scene: a group's of its own solid, and the lecturer's of the fixture.
-ghost use Rattle.std.specs.Prelude.{◌≡◌, ◌<◌};
+ghost use Rattle.std.specs.Prelude.{◌≡◌};
 ghost use Rattle.session.specs.Session.{scene};
 ghost use Rattle.bench_moves.specs.Bench.{solids_of, own_fault, said, own_moved_of, number_fault, scene_moved};
 ghost use Rattle.bench_moves.specs.Bench.{placed, placed_in, fixture_moved_of};
 
 use crate::Fault;
-use scene::read::byte;
-use scene::{Numbered, Refusal, Row, Scene, is_within};
+use scene::{Refusal, Row, Scene, is_within};
 use session::save::save;
 use session::{Changed, Session};
 
-// Whether a session holds a scene, and the vertices of its two solids.
-#[derive(Clone, Copy)]
+// The vertices of a scene's two solids.
+#[derive(Clone, Copy, Debug, PartialEq, Eq)]
 pub struct Solids {
-    pub held: bool,
-    pub own: usize,
-    pub fixture: usize,
+    pub own: u8,
+    pub fixture: u8,
 }
 
 // A group's answer, and its session after it.
@@ -25,37 +23,33 @@ pub struct Moved {
     pub session: Session,
 }
 
-fn solids_of(s: Session) -> Solids
-    ensures { (result ≡ solids_of (scene s)) × (result.own < 256) × (result.fixture < 256) }
+// None where a session holds no scene.
+fn solids_of(s: Session) -> Option<Solids>
+    ensures { result ≡ solids_of (scene s) }
 {
     let mut b = [0u8; Scene::LONGEST];
     let j = save(s, &mut b);
     match j {
-        Err(_) => Solids {
-            held: false,
-            own: 0,
-            fixture: 0,
-        },
-        Ok(()) => Solids {
-            held: true,
-            own: byte(&b, 2),
-            fixture: byte(&b, 4),
-        },
+        Err(_) => None,
+        Ok(()) => Some(Solids {
+            own: b[2],
+            fixture: b[4],
+        }),
     }
 }
 
 // Refusals 1, 11 and 19 of a group's move.
-fn own_fault(k: Solids, p: usize) -> Result<(), Fault>
-    requires { (k.own < 256) × (k.fixture < 256) }
+fn own_fault(k: Option<Solids>, p: usize) -> Result<(), Fault>
     ensures { result ≡ own_fault k p }
 {
-    if !k.held {
+    let Some(k) = k else {
         return Err(Fault::Scene(Refusal::Opening));
-    }
-    if !is_within(1, k.own + k.fixture + 1, p) {
+    };
+    let own = usize::from(k.own);
+    if !is_within(1, own + usize::from(k.fixture) + 1, p) {
         return Err(Fault::Scene(Refusal::NoSuchNumber));
     }
-    if !is_within(1, k.own, p) {
+    if !is_within(1, own, p) {
         return Err(Fault::Shared(p));
     }
     Ok(())
@@ -86,27 +80,26 @@ pub fn own_move(s: Session, p: usize, v: Row) -> Moved
     }
 }
 
-// Refusals 1 and 11 of the lecturer's move.
-fn number_fault(k: Solids, n: usize) -> Result<(), Refusal>
-    requires { k.fixture < 256 }
+// Refusals 1 and 11 of the lecturer's move; else the solids that the number is one of.
+fn number_fault(k: Option<Solids>, n: usize) -> Result<Solids, Refusal>
     ensures { result ≡ number_fault k n }
 {
-    if !k.held {
+    let Some(k) = k else {
         return Err(Refusal::Opening);
-    }
-    if !is_within(1, k.fixture + 1, n) {
+    };
+    if !is_within(1, usize::from(k.fixture) + 1, n) {
         return Err(Refusal::NoSuchNumber);
     }
-    Ok(())
+    Ok(k)
 }
 
 // The scene's own move of the lecturer's point n.
 fn scene_move(s: Session, k: Solids, n: usize, v: Row) -> Changed
-    requires { (k.own < 256) × (k.fixture < 256) }
     ensures { result ≡ scene_moved s k n v }
 {
-    if n <= k.fixture {
-        return s.move_vertex(k.own + n, v);
+    let own = usize::from(k.own);
+    if n <= usize::from(k.fixture) {
+        return s.move_vertex(own + n, v);
     }
     s.move_far(v)
 }
@@ -115,17 +108,12 @@ fn scene_move(s: Session, k: Solids, n: usize, v: Row) -> Changed
 fn placed(n: usize, r: Refusal) -> Refusal
     ensures { result ≡ placed n r }
 {
-    let k = r.number();
-    if k == 5 {
-        return Refusal::Coordinate(n);
+    match r {
+        Refusal::Coordinate(_) => Refusal::Coordinate(n),
+        Refusal::Weight(_) => Refusal::Weight(n),
+        Refusal::FarAllZero(_) => Refusal::FarAllZero(n),
+        _ => r,
     }
-    if k == 6 {
-        return Refusal::Weight(n);
-    }
-    if k == 14 {
-        return Refusal::FarAllZero(n);
-    }
-    r
 }
 
 fn placed_in(n: usize, j: Result<(), Refusal>) -> Result<(), Refusal>
@@ -141,18 +129,19 @@ fn placed_in(n: usize, j: Result<(), Refusal>) -> Result<(), Refusal>
 pub fn fixture_move(s: Session, n: usize, v: Row) -> Changed
     ensures { result ≡ fixture_moved_of s n v }
 {
-    let k = solids_of(s);
-    if let Err(r) = number_fault(k, n) {
-        return Changed {
+    match number_fault(solids_of(s), n) {
+        Err(r) => Changed {
             answer: Err(r),
             session: s,
-        };
-    }
-    let c = scene_move(s, k, n, v);
-    let j = c.answer;
-    let t = c.session;
-    Changed {
-        answer: placed_in(n, j),
-        session: t,
+        },
+        Ok(k) => {
+            let c = scene_move(s, k, n, v);
+            let j = c.answer;
+            let t = c.session;
+            Changed {
+                answer: placed_in(n, j),
+                session: t,
+            }
+        }
     }
 }

@@ -4,7 +4,7 @@ ghost use Rattle.bodhranhaze.specs.Facts.{room_for, known, nothing_known, told, 
 
 use crate::{number_of, place_of, verdict_number};
 use kernel::facts::survey;
-use pierce_engine::Engine;
+use pierce_engine::Plain;
 use questions::{Counts, Facts};
 use scene::Refusal;
 
@@ -89,7 +89,7 @@ pub fn bodhranhaze_survey(s: &[u8], list: &mut [u16], facts: &mut [u64]) -> usiz
     if facts.len() < 8 {
         return 13;
     }
-    match survey(Engine::Plain, s, list) {
+    match survey(Plain, s, list) {
         Err(r) => say(facts, Err(r), nothing_known(r)),
         Ok(f) => say(facts, room_for(f.counts.pairs, list.len()), known(f)),
     }

@@ -7,7 +7,7 @@ ghost use Rattle.judge.specs.Judge.{judged};
 ghost use Rattle.questions.specs.Answers.{verdict_number, verdict_of};
 ghost use Rattle.bodhranhaze.specs.Calls.{refusal_number, refusal_place, pairs_of, inside_of, IsListing};
 
-use pierce_engine::Engine;
+use pierce_engine::Plain;
 use questions::Verdict;
 use scene::{Numbered, Refusal};
 
@@ -65,7 +65,7 @@ pub fn bodhranhaze_place(s: &[u8]) -> usize
 pub fn bodhranhaze_verdict(s: &[u8]) -> usize
     ensures { result ≡ verdict_number (verdict_of s.now) }
 {
-    verdict_number(kernel::verdict::verdict_of(Engine::Plain, s))
+    verdict_number(kernel::verdict::verdict_of(Plain, s))
 }
 
 // How many pierced pairs there are.
@@ -73,7 +73,7 @@ pub fn bodhranhaze_pairs(s: &[u8]) -> usize
     ensures { result ≡ pairs_of s.now }
 {
     let mut none = [0u16; 1];
-    let l = kernel::lists::listing_part(Engine::Plain, s, 0, &mut none);
+    let l = kernel::lists::listing_part(Plain, s, 0, &mut none);
     match l {
         Ok(n) => n,
         Err(_) => 0,
@@ -84,7 +84,7 @@ pub fn bodhranhaze_pairs(s: &[u8]) -> usize
 pub fn bodhranhaze_inside(s: &[u8], solid: usize) -> usize
     ensures { result ≡ inside_of s.now solid }
 {
-    let e = kernel::inside::inside(Engine::Plain, s, solid);
+    let e = kernel::inside::inside(Plain, s, solid);
     match e {
         Ok(n) => n,
         Err(_) => 0,
@@ -95,7 +95,7 @@ pub fn bodhranhaze_inside(s: &[u8], solid: usize) -> usize
 pub fn bodhranhaze_listing(s: &[u8], list: &mut [u16]) -> usize
     ensures { IsListing s.now list.old list.new result }
 {
-    if let Ok(n) = kernel::lists::listing(Engine::Plain, s, list) {
+    if let Ok(n) = kernel::lists::listing(Plain, s, list) {
         return n;
     }
     bodhranhaze_pairs(s)

@@ -2,14 +2,14 @@
 ghost use Rattle.std.specs.Prelude.{◌≡◌};
 ghost use Rattle.bodhranhaze.specs.Refusals.{inside_refusal, listing_refusal};
 
-use pierce_engine::Engine;
+use pierce_engine::Plain;
 use scene::Numbered;
 
 // The scene's own refusal, or 11 for a solid that is neither 1 nor 2.
 pub fn bodhranhaze_inside_refusal(s: &[u8], solid: usize) -> usize
     ensures { result ≡ inside_refusal s.now solid }
 {
-    let e = kernel::inside::inside(Engine::Plain, s, solid);
+    let e = kernel::inside::inside(Plain, s, solid);
     match e {
         Ok(_) => 0,
         Err(r) => r.number(),

@@ -9,7 +9,7 @@ use crate::files::sum;
 use crate::{Mark, Tally};
 use class_block::read_scene;
 use kernel::facts::survey;
-use pierce_engine::Engine;
+use pierce_engine::Plain;
 use questions::{Facts, Verdict};
 use scene::Numbered;
 
@@ -49,7 +49,7 @@ pub fn mark_of(s: &[u8]) -> Mark
     ensures { result ≡ mark_of s.now }
 {
     let mut none = [0u16; 1];
-    let a = survey(Engine::Plain, s, &mut none);
+    let a = survey(Plain, s, &mut none);
     match a {
         Err(r) => Mark {
             line: refused_line(r.number()),

@@ -4,15 +4,15 @@ ghost use Rattle.scene.specs.View.{view_of};
 ghost use Rattle.judge.specs.Judge.{judged};
 ghost use Rattle.questions.specs.Answers.{counts_in, counted_of};
 
-use pierce_engine::Engine;
 use questions::Counts;
 use scene::Refusal;
 use survey::answers::{count_inside, count_pairs};
 use survey_edges::{ENDS, Ends, Masks};
 use survey_scene::survey_of;
+use survey_sides::Surveyor;
 
 // Of an accepted scene.
-fn counts_of(engine: Engine, s: &[u8]) -> Counts
+fn counts_of<E: Surveyor>(engine: E, s: &[u8]) -> Counts
     requires { judged s.now ≡ Ok tt }
     ensures { result ≡ counts_in (view_of s.now) }
 {
@@ -28,7 +28,7 @@ fn counts_of(engine: Engine, s: &[u8]) -> Counts
     }
 }
 
-pub fn count(engine: Engine, s: &[u8]) -> Result<Counts, Refusal>
+pub fn count<E: Surveyor>(engine: E, s: &[u8]) -> Result<Counts, Refusal>
     ensures { result ≡ counted_of s.now }
 {
     judge::judge(s)?;

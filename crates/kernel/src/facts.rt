@@ -5,15 +5,15 @@ ghost use Rattle.judge.specs.Judge.{judged};
 ghost use Rattle.scene.specs.View.{view_of};
 ghost use Rattle.survey_scene.specs.Facts.{IsSurvey, Gathered};
 
-use pierce_engine::Engine;
 use questions::{Counts, Facts};
 use scene::Refusal;
 use survey::answers::count_inside;
 use survey_edges::{ENDS, Ends, Masks};
 use survey_scene::{survey_of, verdict_read, write_read};
+use survey_sides::Surveyor;
 
 // Of an accepted scene.
-fn gather(engine: Engine, s: &[u8], out: &mut [u16]) -> Facts
+fn gather<E: Surveyor>(engine: E, s: &[u8], out: &mut [u16]) -> Facts
     requires { judged s.now ≡ Ok tt }
     ensures { Gathered (view_of s.now) out.old out.new result }
 {
@@ -37,7 +37,7 @@ fn gather(engine: Engine, s: &[u8], out: &mut [u16]) -> Facts
 }
 
 // A list that has not three places for each pair keeps its contents; the facts then say how many pairs there are.
-pub fn survey(engine: Engine, s: &[u8], out: &mut [u16]) -> Result<Facts, Refusal>
+pub fn survey<E: Surveyor>(engine: E, s: &[u8], out: &mut [u16]) -> Result<Facts, Refusal>
     ensures { IsSurvey s.now out.old out.new result }
 {
     judge::judge(s)?;

@@ -4,13 +4,13 @@ ghost use Rattle.scene.specs.View.{view_of};
 ghost use Rattle.judge.specs.Judge.{judged};
 ghost use Rattle.questions.specs.Answers.{inside_fault, inside_in, inside_of};
 
-use pierce_engine::Engine;
 use scene::offsets::points;
 use scene::read::solid;
 use scene::{Corners, Refusal, Rows, Scene, decode, is_within};
 use survey::answers::count_inside;
 use survey::survey_solid;
 use survey_edges::{ENDS, Ends, Masks};
+use survey_sides::Surveyor;
 
 fn inside_fault(k: usize) -> Result<(), Refusal>
     ensures { result ≡ inside_fault k }
@@ -22,7 +22,7 @@ fn inside_fault(k: usize) -> Result<(), Refusal>
 }
 
 // Of an accepted scene.
-fn inside_of(engine: Engine, s: &[u8], k: usize) -> usize
+fn inside_of<E: Surveyor>(engine: E, s: &[u8], k: usize) -> usize
     requires { judged s.now ≡ Ok tt }
     ensures { result ≡ inside_in (view_of s.now) k }
 {
@@ -39,7 +39,7 @@ fn inside_of(engine: Engine, s: &[u8], k: usize) -> usize
 }
 
 // Of solid k, 1 for A and 2 for B.
-pub fn inside(engine: Engine, s: &[u8], k: usize) -> Result<usize, Refusal>
+pub fn inside<E: Surveyor>(engine: E, s: &[u8], k: usize) -> Result<usize, Refusal>
     ensures { result ≡ inside_of s.now k }
 {
     judge::judge(s)?;

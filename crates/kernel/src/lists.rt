@@ -5,13 +5,13 @@ ghost use Rattle.scene.specs.View.{view_of};
 ghost use Rattle.questions.specs.Answers.{listing_in, IsListed, IsPart};
 ghost use Rattle.questions.specs.Listings.{PouredIf};
 
-use pierce_engine::Engine;
 use scene::Refusal;
 use survey_edges::{ENDS, Ends, Masks};
 use survey_scene::{survey_of, write_read};
+use survey_sides::Surveyor;
 
 // Of an accepted scene.
-fn write_pairs(engine: Engine, s: &[u8], from: usize, all: bool, out: &mut [u16]) -> usize
+fn write_pairs<E: Surveyor>(engine: E, s: &[u8], from: usize, all: bool, out: &mut [u16]) -> usize
     requires { judged s.now ≡ Ok tt }
     ensures { PouredIf (listing_in (view_of s.now)) from all out.old out.new result }
 {
@@ -24,7 +24,7 @@ fn write_pairs(engine: Engine, s: &[u8], from: usize, all: bool, out: &mut [u16]
 }
 
 // The whole listing, or refusal 10 with the count.
-pub fn listing(engine: Engine, s: &[u8], out: &mut [u16]) -> Result<usize, Refusal>
+pub fn listing<E: Surveyor>(engine: E, s: &[u8], out: &mut [u16]) -> Result<usize, Refusal>
     ensures { IsListed s.now out.old out.new result }
 {
     judge::judge(s)?;
@@ -37,8 +37,8 @@ pub fn listing(engine: Engine, s: &[u8], out: &mut [u16]) -> Result<usize, Refus
 
 // The part of the listing from the pair numbered `from` on (from 0) for which the lent list has room; the answer counts the whole. A
 // program prints a listing longer than its buffer part by part.
-pub fn listing_part(
-    engine: Engine,
+pub fn listing_part<E: Surveyor>(
+    engine: E,
     s: &[u8],
     from: usize,
     out: &mut [u16],

@@ -59,7 +59,7 @@ fn mask_fault(s: &[u8], u: usize, v: usize, k: usize) -> Result<(), Refusal>
 }
 
 // The mask of u, v against the solid k of an accepted scene.
-fn mask_of(engine: Engine, s: &[u8], u: usize, v: usize, k: usize) -> Mask
+fn mask_of<E: Engine>(engine: E, s: &[u8], u: usize, v: usize, k: usize) -> Mask
     requires { (judged s.now ≡ Ok tt) × Outside (view_of s.now) u v k }
     ensures { value_of result ≡ mask_in (view_of s.now) u v k }
 {
@@ -72,8 +72,8 @@ fn mask_of(engine: Engine, s: &[u8], u: usize, v: usize, k: usize) -> Mask
 }
 
 // The mask of u, v against solid k, with the number of its ones.
-pub fn mask(
-    engine: Engine,
+pub fn mask<E: Engine>(
+    engine: E,
     s: &[u8],
     u: usize,
     v: usize,
@@ -108,7 +108,7 @@ fn other_solid(s: &[u8], i: usize) -> usize
 }
 
 // Whether the vertex with point number i is enclosed by the other solid.
-pub fn enclosed(engine: Engine, s: &[u8], i: usize) -> Result<bool, Refusal>
+pub fn enclosed<E: Engine>(engine: E, s: &[u8], i: usize) -> Result<bool, Refusal>
     ensures { result ≡ enclosed_of s.now i }
 {
     judge::judge(s)?;

@@ -120,12 +120,18 @@ fn pierces_fault(s: &[u8], u: usize, v: usize, f: usize) -> Result<(), Refusal>
 }
 
 // Whether the edge from u to v pierces face f.
-pub fn pierces(engine: Engine, s: &[u8], u: usize, v: usize, f: usize) -> Result<bool, Refusal>
+pub fn pierces<E: Engine>(
+    engine: E,
+    s: &[u8],
+    u: usize,
+    v: usize,
+    f: usize,
+) -> Result<bool, Refusal>
     ensures { result ≡ pierces_of s.now u v f }
 {
     judge::judge(s)?;
     pierces_fault(s, u, v, f)?;
     let mut rows: Rows = [0; Scene::ROWS];
     decode::rows(s, &mut rows);
-    Ok(pierce_engine::pierces(engine, &rows, points(s), u, v, corners(s, f)))
+    Ok(engine.pierces(&rows, points(s), u, v, corners(s, f)))
 }

@@ -2,12 +2,12 @@
 ghost use Rattle.std.specs.Prelude.{◌≡◌};
 ghost use Rattle.questions.specs.Answers.{verdict_of};
 
-use pierce_engine::Engine;
 use questions::Verdict;
 use scene::Refusal;
 use survey_scene::{first_or_enclosed, verdict_by};
+use survey_sides::Surveyor;
 
-pub fn verdict_of(engine: Engine, s: &[u8]) -> Result<Verdict, Refusal>
+pub fn verdict_of<E: Surveyor>(engine: E, s: &[u8]) -> Result<Verdict, Refusal>
     ensures { result ≡ verdict_of s.now }
 {
     judge::judge(s)?;

@@ -1,11 +1,11 @@
 // The fit light: the colour of a scene's verdict, and sixteen lent bytes in which the colours are counted.
 #![tactic(auto)]
 
-ghost use Rattle.std.specs.Prelude.{◌≡◌, ◌+◌, ◌%◌, ◌<◌, ◌≤◌, length};
+ghost use Rattle.std.specs.Prelude.{◌≡◌, ◌+◌, ◌<◌, ◌≤◌, length};
 ghost use Rattle.questions.specs.Answers.{verdict_of};
 ghost use Rattle.light.specs.Light.{light_number, colour_of, word, put, total, is_full, more, IsLight};
 
-use pierce_engine::Engine;
+use pierce_engine::Plain;
 use questions::Verdict;
 
 // The counts hold this many answers.
@@ -53,7 +53,7 @@ pub fn light_of(s: &[u8], counts: &mut [u8]) -> Result<Light, LightError>
 fn colour(s: &[u8]) -> Light
     ensures { result ≡ colour_of (verdict_of s.now) }
 {
-    let v = kernel::verdict::verdict_of(Engine::Plain, s);
+    let v = kernel::verdict::verdict_of(Plain, s);
     match v {
         Ok(Verdict::Cross(_, _, _)) => Light::Red,
         Ok(Verdict::AInB(_)) => Light::Amber,
@@ -95,27 +95,16 @@ fn read_word(b: &[u8], i: usize) -> u64
     requires { i + 4 ≤ length b.now }
     ensures { (result ≡ word b.now i) × (result < 4294967296) }
 {
-    wide(b[i]) + 256 * wide(b[i + 1]) + 65536 * wide(b[i + 2]) + 16777216 * wide(b[i + 3])
+    u64::from(u32::from_le_bytes([b[i], b[i + 1], b[i + 2], b[i + 3]]))
 }
 
 fn write_word(b: &mut [u8], i: usize, n: u64)
     requires { i + 4 ≤ length b.old }
     ensures { b.new ≡ put b.old i n }
 {
-    b[i] = low(n);
-    b[i + 1] = low(n / 256);
-    b[i + 2] = low(n / 65536);
-    b[i + 3] = low(n / 16777216);
-}
-
-fn wide(x: u8) -> u64
-    ensures { (result ≡ x) × (result < 256) }
-{
-    x as u64
-}
-
-fn low(n: u64) -> u8
-    ensures { result ≡ n % 256 }
-{
-    (n % 256) as u8
+    let w = n.to_le_bytes();
+    b[i] = w[0];
+    b[i + 1] = w[1];
+    b[i + 2] = w[2];
+    b[i + 3] = w[3];
 }

@@ -15,16 +15,39 @@ use pierce_masks::{Mask, WORD};
 use scene::decode::face_in;
 use scene::{Corners, Face, Rows};
 
-// By formula (13) with the lowest helper, or by five signs. No contract below depends on which.
+// A way to tell whether an edge pierces a face. No contract below depends on which.
+pub trait Engine: Copy {
+    // The edge from u to v pierces the face, in a scene of n points.
+    fn pierces(self, rows: &Rows, n: usize, u: usize, v: usize, f: Face) -> bool
+        requires points { AllWithin limits (row_in rows.now) × (6 ≤ n) × (n ≤ most_points limits)
+            × (u ≤ most_points limits) × (v ≤ most_points limits) × FaceWithin limits f }
+        requires edge { Weighted n (row_in rows.now) × Beside n u v f }
+        ensures { result ≡ pierced n (row_in rows.now) u v f };
+}
+
+// By formula (13) with the lowest helper.
 #[derive(Clone, Copy)]
-pub enum Engine {
-    Formula,
-    Plain,
+pub struct Formula;
+
+// By five signs.
+#[derive(Clone, Copy)]
+pub struct Plain;
+
+impl Engine for Formula {
+    fn pierces(self, rows: &Rows, n: usize, u: usize, v: usize, f: Face) -> bool {
+        pierce::pierces(rows, n, u, v, f)
+    }
+}
+
+impl Engine for Plain {
+    fn pierces(self, rows: &Rows, n: usize, u: usize, v: usize, f: Face) -> bool {
+        pierce_plain::pierces(rows, n, u, v, f)
+    }
 }
 
 // The mask of u, v against the `count` faces of a solid, numbered from first + 1 on, in a scene of n points.
-pub fn mask(
-    engine: Engine,
+pub fn mask<E: Engine>(
+    engine: E,
     rows: &Rows,
     corners: &Corners,
     n: usize,
@@ -52,8 +75,8 @@ pub fn mask(
 }
 
 // The same for so few faces that one word holds it.
-fn word(
-    engine: Engine,
+fn word<E: Engine>(
+    engine: E,
     rows: &Rows,
     corners: &Corners,
     n: usize,
@@ -71,23 +94,9 @@ fn word(
     let mut word: u64 = 0;
     for k in 0..count {
         let f = face_in(corners, first + 1 + k);
-        word = word | bit(pierces(engine, rows, n, u, v, f)) << k;
+        word = word | bit(engine.pierces(rows, n, u, v, f)) << k;
     }
     word
-}
-
-// The edge from u to v pierces the face, in a scene of n points.
-pub fn pierces(engine: Engine, rows: &Rows, n: usize, u: usize, v: usize, f: Face) -> bool
-    requires points { AllWithin limits (row_in rows.now) × (6 ≤ n) × (n ≤ most_points limits) × (u ≤ most_points limits)
-        × (v ≤ most_points limits)
-        × FaceWithin limits f }
-    requires edge { Weighted n (row_in rows.now) × Beside n u v f }
-    ensures { result ≡ pierced n (row_in rows.now) u v f }
-{
-    match engine {
-        Engine::Formula => pierce::pierces(rows, n, u, v, f),
-        Engine::Plain => pierce_plain::pierces(rows, n, u, v, f),
-    }
 }
 
 // The digit of a test.

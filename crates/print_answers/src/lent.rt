@@ -6,11 +6,11 @@ ghost use Rattle.print_answers.specs.Said.{listed_line};
 ghost use Rattle.print_answers.specs.Lent.{pattern, filled, is_touched, are_touched, IsLent, rows_of, lent_text};
 
 use kernel::lists::listing;
-use pierce_engine::Engine;
 use print_lines::rows::{ROW, kept, least, rows};
 use print_lines::{pairs, refused};
 use questions::MOST_PAIRS;
 use scene::Refusal;
+use survey_sides::Surveyor;
 
 // Room for the longest listing, and for its rows with the lines beside them.
 pub const PLACES: usize = 3 * MOST_PAIRS;
@@ -52,7 +52,12 @@ fn are_touched(l: &[u16], from: usize) -> bool
 }
 
 // The listing into so many of the lent places, or into all of them, which are filled before.
-pub fn lend(engine: Engine, s: &[u8], places: usize, l: &mut [u16]) -> Result<usize, Refusal>
+pub fn lend<E: Surveyor>(
+    engine: E,
+    s: &[u8],
+    places: usize,
+    l: &mut [u16],
+) -> Result<usize, Refusal>
     ensures { IsLent s.now places l.old l.new result }
 {
     fill(l);

@@ -16,6 +16,7 @@ use kernel::{counts, masks, points, verdict};
 use pierce_engine::Engine;
 use pierce_masks::Mask;
 use print_lines::{refused, rows};
+use survey_sides::Surveyor;
 
 mod found;
 pub mod lent;
@@ -36,8 +37,8 @@ pub fn sign(s: &[u8], a: usize, b: usize, c: usize, d: usize, out: &mut [u8], at
     said::sign(out, at, x)
 }
 
-pub fn pierces(
-    engine: Engine,
+pub fn pierces<E: Engine>(
+    engine: E,
     s: &[u8],
     u: usize,
     v: usize,
@@ -58,8 +59,8 @@ fn faces(m: Mask, ones: usize, out: &mut [u8], at: usize) -> usize
     said::mask(out, at, Ok((m, ones)))
 }
 
-pub fn mask(
-    engine: Engine,
+pub fn mask<E: Engine>(
+    engine: E,
     s: &[u8],
     u: usize,
     v: usize,
@@ -76,7 +77,7 @@ pub fn mask(
     }
 }
 
-pub fn enclosed(engine: Engine, s: &[u8], i: usize, out: &mut [u8], at: usize) -> usize
+pub fn enclosed<E: Engine>(engine: E, s: &[u8], i: usize, out: &mut [u8], at: usize) -> usize
     ensures { Put out.old at (line (answer_line (ascii "enclosed") (enclosed_of s.now i)))
         out.new result }
 {
@@ -84,14 +85,14 @@ pub fn enclosed(engine: Engine, s: &[u8], i: usize, out: &mut [u8], at: usize) -
     said::enclosed(out, at, x)
 }
 
-pub fn verdict(engine: Engine, s: &[u8], out: &mut [u8], at: usize) -> usize
+pub fn verdict<E: Surveyor>(engine: E, s: &[u8], out: &mut [u8], at: usize) -> usize
     ensures { Put out.old at (line (found_line (verdict_of s.now))) out.new result }
 {
     let v = verdict::verdict_of(engine, s);
     found::verdict(out, at, v)
 }
 
-pub fn count(engine: Engine, s: &[u8], out: &mut [u8], at: usize) -> usize
+pub fn count<E: Surveyor>(engine: E, s: &[u8], out: &mut [u8], at: usize) -> usize
     ensures { Put out.old at (line (counts_line (counted_of s.now))) out.new result }
 {
     let x = counts::count(engine, s);
@@ -111,7 +112,7 @@ pub fn shown(s: &[u8], k: usize, out: &mut [u8], at: usize) -> usize
 }
 
 // How many pairs there are. The listing's rows follow it (`reports::part`).
-pub fn listing(engine: Engine, s: &[u8], out: &mut [u8], at: usize) -> usize
+pub fn listing<E: Surveyor>(engine: E, s: &[u8], out: &mut [u8], at: usize) -> usize
     ensures { Put out.old at (line (listing_line (counted_of s.now))) out.new result }
 {
     let x = counts::count(engine, s);

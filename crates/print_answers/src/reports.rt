@@ -5,16 +5,16 @@ ghost use Rattle.print_lines.specs.Rows.{IsRows};
 ghost use Rattle.print_lines.specs.Report.{part_rows, IsLent, IsHead};
 
 use kernel::lists;
-use pierce_engine::Engine;
 use print_lines::head::Top;
 use print_lines::rows::{RowsPut, left};
 use print_lines::{refused, rows};
 use print_report::head_read;
 use survey_edges::{ENDS, Ends, Masks};
 use survey_scene::survey_of;
+use survey_sides::Surveyor;
 
 // Of an accepted scene.
-fn survey_head(engine: Engine, s: &[u8], out: &mut [u8]) -> Top
+fn survey_head<E: Surveyor>(engine: E, s: &[u8], out: &mut [u8]) -> Top
     requires { judged s.now ≡ Ok tt }
     ensures { IsHead s.now out.old out.new result }
 {
@@ -27,7 +27,7 @@ fn survey_head(engine: Engine, s: &[u8], out: &mut [u8]) -> Top
 }
 
 // All but the listing.
-pub fn head(engine: Engine, s: &[u8], out: &mut [u8]) -> Top
+pub fn head<E: Surveyor>(engine: E, s: &[u8], out: &mut [u8]) -> Top
     ensures { IsHead s.now out.old out.new result }
 {
     if let Err(r) = judge::judge(s) {
@@ -40,7 +40,13 @@ pub fn head(engine: Engine, s: &[u8], out: &mut [u8]) -> Top
 }
 
 // The rows of the listing from the one numbered `from` on, as many as the lent list and the buffer have room for.
-pub fn part(engine: Engine, s: &[u8], from: usize, list: &mut [u16], out: &mut [u8]) -> RowsPut
+pub fn part<E: Surveyor>(
+    engine: E,
+    s: &[u8],
+    from: usize,
+    list: &mut [u16],
+    out: &mut [u8],
+) -> RowsPut
     ensures rows { IsRows (part_rows s.now from (length list.old / 3)) out.old 0 out.new result }
     ensures lent { IsLent s.now from list.old list.new }
 {

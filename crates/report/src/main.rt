@@ -7,7 +7,7 @@ ghost use Rattle.judge.specs.Judge.{judged};
 ghost use Rattle.survey_scene.specs.Surveys.{SurveyIs};
 
 use cli::is_option;
-use pierce_engine::Engine;
+use pierce_engine::Plain;
 use print_lines::refused;
 use print_lines::rows::least;
 use print_report::{head_read, part_read};
@@ -100,14 +100,7 @@ fn write_accepted(rt: &HostRuntime, s: &[u8], out: &mut [u8])
     let mut amasks: Masks = [0; ENDS];
     let mut bends: Ends = [0; ENDS];
     let mut bmasks: Masks = [0; ENDS];
-    let t = survey_of(
-        Engine::Plain,
-        s,
-        &mut aends,
-        &mut amasks,
-        &mut bends,
-        &mut bmasks,
-    );
+    let t = survey_of(Plain, s, &mut aends, &mut amasks, &mut bends, &mut bmasks);
     write_read(rt, t, s, &aends, &amasks, &bends, &bmasks, out);
 }
 

@@ -11,7 +11,7 @@ ghost use Rattle.session.specs.Session.{counts_by, empty, fresh, reversed_face, 
 ghost use Rattle.session.specs.Laws.{Whole};
 
 use kernel::counts::count;
-use pierce_engine::Engine;
+use pierce_engine::Plain;
 use questions::Counts;
 use scene::read::face_at;
 use scene::write::copy;
@@ -51,7 +51,7 @@ fn size(s: Session) -> usize
 fn counts_of(s: &[u8]) -> Counts
     ensures { result ≡ counts_by (counted_of s.now) }
 {
-    let c = count(Engine::Plain, s);
+    let c = count(Plain, s);
     match c {
         Ok(n) => n,
         Err(_) => Counts {

@@ -7,7 +7,6 @@ ghost use Rattle.questions.specs.Hits.{view_in};
 ghost use Rattle.survey_enclosed.specs.Ready.{Ready};
 ghost use Rattle.survey.specs.Survey.{Surveyed, Sized, Wide};
 
-use pierce_engine::Engine;
 use scene::{Corners, Rows, Scene, Solid};
 use survey_edges::links::{VertexSets, WORDS, fill_links};
 use survey_edges::{Ends, Masks};
@@ -16,6 +15,7 @@ use survey_enclosed::odds::fill_odds;
 use survey_masks::fill_solid;
 use survey_narrow::separating_faces::SeparatingFaces;
 use survey_narrow::setup::{fill_narrowing, fill_sides, make_planes};
+use survey_sides::Surveyor;
 use survey_sides::planes::Planes;
 
 pub mod answers;
@@ -35,8 +35,8 @@ pub struct Survey {
 }
 
 // The edges of the solid go into the lent table.
-pub fn survey_solid(
-    engine: Engine,
+pub fn survey_solid<E: Surveyor>(
+    engine: E,
     rows: &Rows,
     corners: &Corners,
     n: usize,
@@ -72,8 +72,8 @@ pub fn survey_solid(
 }
 
 // The same by the tables of its masks. Links and odds are lent for its own words alone: what they held does not matter.
-fn survey_part(
-    engine: Engine,
+fn survey_part<E: Surveyor>(
+    engine: E,
     rows: &Rows,
     corners: &Corners,
     n: usize,
@@ -106,8 +106,8 @@ fn survey_part(
 
 // Of both solids, each into its own table. Planes, and what narrows the questions, are made for A, then for B in the
 // same tables.
-pub fn survey_scene(
-    engine: Engine,
+pub fn survey_scene<E: Surveyor>(
+    engine: E,
     rows: &Rows,
     corners: &Corners,
     n: usize,

@@ -13,11 +13,10 @@ ghost use Rattle.survey_enclosed.specs.Ready.{Ready};
 ghost use Rattle.survey_enclosed.specs.Odds.{AreOdds};
 ghost use Rattle.survey_enclosed.specs.Walk.{inside_word, Reached, Started, passed, flipped, step_of};
 
-use pierce_engine::Engine;
 use pierce_masks::is_odd;
 use scene::{Corners, Rows, Solid};
 use survey_edges::links::VertexSets;
-use survey_sides::mask;
+use survey_sides::{Surveyor, mask};
 
 pub mod odds;
 
@@ -44,8 +43,8 @@ fn has(w: u64, i: usize) -> bool
 }
 
 // By its mask toward the far point.
-fn is_enclosed(
-    engine: Engine,
+fn is_enclosed<E: Surveyor>(
+    engine: E,
     rows: &Rows,
     corners: &Corners,
     n: usize,
@@ -61,8 +60,8 @@ fn is_enclosed(
 }
 
 // Where no vertex that is known is left, the lowest that is left is asked of the far point.
-fn start(
-    engine: Engine,
+fn start<E: Surveyor>(
+    engine: E,
     rows: &Rows,
     corners: &Corners,
     n: usize,
@@ -126,8 +125,8 @@ fn step(links: &VertexSets, odds: &VertexSets, low: usize, t: Spread) -> Spread
 }
 
 // The word of the enclosed vertices.
-pub fn enclosed_word(
-    engine: Engine,
+pub fn enclosed_word<E: Surveyor>(
+    engine: E,
     rows: &Rows,
     corners: &Corners,
     n: usize,

@@ -8,17 +8,17 @@ ghost use Rattle.questions.specs.Hits.{view_in, solid_hits, Sound};
 ghost use Rattle.scene.specs.Faces.{Vertex};
 ghost use Rattle.survey_edges.specs.Table.{entry_hits, each};
 
-use pierce_engine::Engine;
 use questions::Pair;
 use scene::{Corners, Rows, Solid};
 use survey_edges::first::first_of_mask;
 use survey_edges::links::VertexSets;
 use survey_masks::edge_mask;
 use survey_narrow::separating_faces::SeparatingFaces;
+use survey_sides::Surveyor;
 
 // Of the edge u, v.
-fn first_of_edge(
-    engine: Engine,
+fn first_of_edge<E: Surveyor>(
+    engine: E,
     rows: &Rows,
     corners: &Corners,
     n: usize,
@@ -40,8 +40,8 @@ fn first_of_edge(
 }
 
 // Of the edges from u to its higher neighbours.
-fn first_of_vertex(
-    engine: Engine,
+fn first_of_vertex<E: Surveyor>(
+    engine: E,
     rows: &Rows,
     corners: &Corners,
     n: usize,
@@ -71,8 +71,8 @@ fn first_of_vertex(
 }
 
 // Of all edges of the solid.
-pub fn first_of(
-    engine: Engine,
+pub fn first_of<E: Surveyor>(
+    engine: E,
     rows: &Rows,
     corners: &Corners,
     n: usize,

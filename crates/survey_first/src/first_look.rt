@@ -13,23 +13,22 @@ ghost use Rattle.survey_edges.specs.Edges.{AreLinks, Higher, entry, vertex_edges
 ghost use Rattle.survey_edges.specs.Table.{entry_hits};
 ghost use Rattle.survey_narrow.specs.Sides.{Made};
 
-use pierce_engine::Engine;
 use pierce_masks::Mask;
 use questions::Pair;
 use scene::{Corners, Rows, Solid};
 use survey_edges::first::first_of_mask;
 use survey_edges::links::VertexSets;
-use survey_sides::mask_from_sides;
 use survey_sides::planes::Planes;
 use survey_sides::slopes::Slopes;
 use survey_sides::ties::sides;
+use survey_sides::{Surveyor, mask_from_sides};
 
 // How many edges are looked at: they are asked in vain where solids are apart or nested.
 const LOOKED: usize = 6;
 
 // The first pair of the edge u, v, by the sides m of u; those of v are told on the spot.
-fn first_look_at(
-    engine: Engine,
+fn first_look_at<E: Surveyor>(
+    engine: E,
     rows: &Rows,
     corners: &Corners,
     n: usize,
@@ -53,8 +52,8 @@ fn first_look_at(
 }
 
 // Of the edges from u to its lowest higher neighbours.
-fn first_look_from(
-    engine: Engine,
+fn first_look_from<E: Surveyor>(
+    engine: E,
     rows: &Rows,
     corners: &Corners,
     n: usize,
@@ -89,8 +88,8 @@ fn first_look_from(
 }
 
 // Of the edges from the solid's first vertex. A pair that is found is the first of all; nothing found says nothing.
-pub fn first_look(
-    engine: Engine,
+pub fn first_look<E: Surveyor>(
+    engine: E,
     rows: &Rows,
     corners: &Corners,
     n: usize,

@@ -15,13 +15,13 @@ ghost use Rattle.survey_narrow.specs.Sides.{Begun};
 
 use crate::first::first_of;
 use crate::first_look::first_look;
-use pierce_engine::Engine;
 use questions::Pair;
 use scene::{Corners, Rows, Scene, Solid};
 use survey_edges::links::{VertexSets, WORDS, fill_links};
 use survey_enclosed::enclosed_word;
 use survey_narrow::separating_faces::SeparatingFaces;
 use survey_narrow::setup::{fill_narrowing, fill_sides_lent, make_planes};
+use survey_sides::Surveyor;
 use survey_sides::planes::Planes;
 use survey_sides::slopes::Slopes;
 
@@ -47,8 +47,8 @@ fn crossed(u: usize, v: usize, f: usize) -> FirstOrEnclosed
 }
 
 // The word of the enclosed vertices of a solid none of whose edges pierces: no edge is odd.
-fn inside_still(
-    engine: Engine,
+fn inside_still<E: Surveyor>(
+    engine: E,
     rows: &Rows,
     corners: &Corners,
     n: usize,
@@ -66,8 +66,8 @@ fn inside_still(
 }
 
 // By A's links and words: all edges. The table of planes takes those that B's vertices are asked by.
-fn find_first_by_sides(
-    engine: Engine,
+fn find_first_by_sides<E: Surveyor>(
+    engine: E,
     rows: &Rows,
     corners: &Corners,
     n: usize,
@@ -117,8 +117,8 @@ fn find_first_by_sides(
 }
 
 // The first pair of both solids; where there is none, what is enclosed. A few edges are looked at before anything is told of the vertices.
-pub fn find_first(
-    engine: Engine,
+pub fn find_first<E: Surveyor>(
+    engine: E,
     rows: &Rows,
     corners: &Corners,
     n: usize,

@@ -11,17 +11,17 @@ ghost use Rattle.survey_sides.specs.Lent.{SidesFilled};
 ghost use Rattle.survey_narrow.specs.Lent.{Separated};
 ghost use Rattle.survey_masks.specs.Store.{pair_set};
 
-use pierce_engine::Engine;
 use pierce_masks::Mask;
 use scene::{Corners, Rows, Solid};
 use survey_edges::links::VertexSets;
 use survey_edges::{Ends, Masks};
 use survey_narrow::mask;
 use survey_narrow::separating_faces::SeparatingFaces;
+use survey_sides::Surveyor;
 
 // The mask of the edge u, v of the solid against the other one, in a scene of n points.
-pub fn edge_mask(
-    engine: Engine,
+pub fn edge_mask<E: Surveyor>(
+    engine: E,
     rows: &Rows,
     corners: &Corners,
     n: usize,
@@ -66,8 +66,8 @@ fn put_edge(ends: &mut Ends, masks: &mut Masks, j: usize, u: u16, v: u16, m: Mas
 }
 
 // The edges from the solid's i-th vertex, from 0, to its higher neighbours, behind the first `at` of the table; how many there are then.
-fn fill_vertex(
-    engine: Engine,
+fn fill_vertex<E: Surveyor>(
+    engine: E,
     rows: &Rows,
     corners: &Corners,
     n: usize,
@@ -104,8 +104,8 @@ fn fill_vertex(
 }
 
 // The edges of the solid; how many there are.
-pub fn fill_solid(
-    engine: Engine,
+pub fn fill_solid<E: Surveyor>(
+    engine: E,
     rows: &Rows,
     corners: &Corners,
     n: usize,

@@ -16,12 +16,11 @@ ghost use Rattle.survey_narrow.specs.Narrow.{Numbered, narrowed_of, EndsTold, Ar
 
 use crate::separating_faces::{SeparatingFaces, separating_at};
 use orient::minors::join;
-use pierce_engine::Engine;
 use pierce_masks::{Mask, WORD};
 use scene::decode::row_in;
 use scene::{Corners, Rows};
-use survey_sides::crossed;
 use survey_sides::point_masks::{PointMasks, bit, mask_at};
+use survey_sides::{Surveyor, crossed};
 
 pub mod faces_at_point;
 pub mod separating_faces;
@@ -29,8 +28,8 @@ pub mod setup;
 
 // The mask of u, v against the `count` faces of a solid, numbered from first + 1 on, in a scene of n points: as `survey_sides::mask`, with
 // the table of the faces at each point and that of the faces that part each face. Where a face at the edge parts none, nothing is asked.
-pub fn mask(
-    engine: Engine,
+pub fn mask<E: Surveyor>(
+    engine: E,
     rows: &Rows,
     corners: &Corners,
     words: &PointMasks,
@@ -60,8 +59,8 @@ pub fn mask(
 }
 
 // Where all of `at` part each face that is pierced.
-fn mask_separated(
-    engine: Engine,
+fn mask_separated<E: Surveyor>(
+    engine: E,
     rows: &Rows,
     corners: &Corners,
     words: &PointMasks,

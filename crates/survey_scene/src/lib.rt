@@ -9,7 +9,6 @@ ghost use Rattle.questions.specs.Answers.{verdict_in, listing_in};
 ghost use Rattle.questions.specs.Listings.{lacks_room, PouredIf};
 ghost use Rattle.survey_scene.specs.Surveys.{SurveyIs, FirstOrEnclosedIs, EnoughForVerdict};
 
-use pierce_engine::Engine;
 use questions::{Pair, Verdict};
 use scene::offsets::points;
 use scene::read::solid;
@@ -18,10 +17,11 @@ use survey::answers::{count_pairs, first_pair, lowest_inside, write_all_pairs};
 use survey::{Survey, survey_scene};
 use survey_edges::{Ends, Masks};
 use survey_first::{FirstOrEnclosed, find_first};
+use survey_sides::Surveyor;
 
 // The survey of an accepted scene, each solid's edges into its own table.
-pub fn survey_of(
-    engine: Engine,
+pub fn survey_of<E: Surveyor>(
+    engine: E,
     s: &[u8],
     aends: &mut Ends,
     amasks: &mut Masks,
@@ -46,7 +46,7 @@ pub fn survey_of(
 }
 
 // What a verdict asks of it: nothing is asked behind the first pair.
-pub fn first_or_enclosed(engine: Engine, s: &[u8]) -> FirstOrEnclosed
+pub fn first_or_enclosed<E: Surveyor>(engine: E, s: &[u8]) -> FirstOrEnclosed
     requires { judged s.now ≡ Ok tt }
     ensures { FirstOrEnclosedIs (view_of s.now) result }
 {

@@ -18,7 +18,7 @@ ghost use Rattle.survey_sides.specs.Crossing.{crossed_of, Candidates};
 
 use crate::point_masks::{PointMasks, bit, mask_at};
 use orient::minors::{Line, join};
-use pierce_engine::Engine;
+use pierce_engine::{Engine, Formula, Plain};
 use pierce_masks::{Mask, WORD};
 use scene::decode::{face_in, row_in};
 use scene::{Corners, Face, Rows};
@@ -31,10 +31,34 @@ pub mod slopes;
 pub mod ties;
 mod units;
 
+// An engine as a survey asks it, where the sides of the ends and the line of the edge are known. No contract below depends on which.
+pub trait Surveyor: Engine {
+    // The edge from u to v, which lie on two sides of the face's plane and on the line l, pierces the face, in a scene of n points.
+    fn crosses(self, rows: &Rows, n: usize, u: usize, v: usize, l: Line, f: Face) -> bool
+        requires points { AllWithin limits (row_in rows.now) × (6 ≤ n) × (n ≤ most_points limits)
+            × (u ≤ most_points limits) × (v ≤ most_points limits) × FaceWithin limits f }
+        requires edge { Weighted n (row_in rows.now) × Beside n u v f × (l ≡ join_of (row_in rows.now u) (row_in rows.now v)) }
+        requires ends { above (row_in rows.now) u f ⊕ above (row_in rows.now) v f ≡ true }
+        ensures { result ≡ pierced n (row_in rows.now) u v f };
+}
+
+impl Surveyor for Formula {
+    fn crosses(self, rows: &Rows, n: usize, u: usize, v: usize, _l: Line, f: Face) -> bool {
+        self.pierces(rows, n, u, v, f)
+    }
+}
+
+// The three signs that are still open.
+impl Surveyor for Plain {
+    fn crosses(self, rows: &Rows, _n: usize, u: usize, v: usize, l: Line, f: Face) -> bool {
+        crossing::crosses(rows, l, u, v, f)
+    }
+}
+
 // The mask of u, v against the `count` faces of a solid, numbered from first + 1 on, in a scene of n points, where the table of words holds
 // the sides of u and v.
-pub fn mask(
-    engine: Engine,
+pub fn mask<E: Surveyor>(
+    engine: E,
     rows: &Rows,
     corners: &Corners,
     words: &PointMasks,
@@ -67,8 +91,8 @@ pub fn mask(
 }
 
 // The same by the sides of u and v themselves.
-pub fn mask_from_sides(
-    engine: Engine,
+pub fn mask_from_sides<E: Surveyor>(
+    engine: E,
     rows: &Rows,
     corners: &Corners,
     n: usize,
@@ -107,8 +131,8 @@ pub fn mask_from_sides(
 }
 
 // Of the candidates, one word of the faces from first + 1 on, those that the edge crosses.
-pub fn crossed(
-    engine: Engine,
+pub fn crossed<E: Surveyor>(
+    engine: E,
     rows: &Rows,
     corners: &Corners,
     n: usize,
@@ -130,22 +154,8 @@ pub fn crossed(
     while left != 0 {
         let k = u64::trailing_zeros(left) as usize;
         let f = face_in(corners, first + 1 + k);
-        word = word + (bit(crosses(engine, rows, n, u, v, l, f)) << k);
+        word = word + (bit(engine.crosses(rows, n, u, v, l, f)) << k);
         left = left & (left - 1);
     }
     word
-}
-
-// What the engine asks of a candidate.
-fn crosses(engine: Engine, rows: &Rows, n: usize, u: usize, v: usize, l: Line, f: Face) -> bool
-    requires points { AllWithin limits (row_in rows.now) × (6 ≤ n) × (n ≤ most_points limits) × (u ≤ most_points limits)
-        × (v ≤ most_points limits) × FaceWithin limits f }
-    requires edge { Weighted n (row_in rows.now) × Beside n u v f × (l ≡ join_of (row_in rows.now u) (row_in rows.now v)) }
-    requires ends { above (row_in rows.now) u f ⊕ above (row_in rows.now) v f ≡ true }
-    ensures { result ≡ pierced n (row_in rows.now) u v f }
-{
-    match engine {
-        Engine::Formula => pierce::pierces(rows, n, u, v, f),
-        Engine::Plain => crossing::crosses(rows, l, u, v, f),
-    }
 }

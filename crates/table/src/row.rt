@@ -6,7 +6,7 @@ ghost use Rattle.print_why.specs.Said.{Said};
 ghost use Rattle.table.specs.Row.{shown_byte, shown, numbers, accepted_fields, refused_fields};
 
 use kernel::facts::survey;
-use pierce_engine::Engine;
+use pierce_engine::Plain;
 use print::{byte, newline, next_number, number, word};
 use print_lines::verdicts::verdict_word;
 use questions::Facts;
@@ -92,7 +92,7 @@ fn judged(out: &mut [u8], at: usize, s: &[u8]) -> usize
     ensures { Said out.old at out.new result }
 {
     let mut none = [0u16; 1];
-    let a = survey(Engine::Plain, s, &mut none);
+    let a = survey(Plain, s, &mut none);
     match a {
         Err(r) => explained(out, at, s, r),
         Ok(f) => accepted(out, at, f),

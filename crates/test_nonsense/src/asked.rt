@@ -3,7 +3,7 @@ ghost use Rattle.std.specs.Prelude.{◌≤◌};
 
 use crate::chance::{next, pick};
 use kernel::{counts, lists, masks, points, verdict};
-use pierce_engine::Engine;
+use pierce_engine::Plain;
 use scene::{Numbered, Refusal};
 
 // Eleven rows of fifteen numbers.
@@ -32,12 +32,12 @@ fn listing(s: &[u8], n: usize) -> usize
     requires { n ≤ 16 }
 {
     let mut out = [0u16; 16];
-    said(lists::listing(Engine::Plain, s, &mut out[..n]))
+    said(lists::listing(Plain, s, &mut out[..n]))
 }
 
 fn part(s: &[u8], from: usize) -> usize {
     let mut out = [0u16; 16];
-    said(lists::listing_part(Engine::Plain, s, from, &mut out))
+    said(lists::listing_part(Plain, s, from, &mut out))
 }
 
 // The questions with numbers of points and faces, which some scenes lack; the next random number.
@@ -51,9 +51,9 @@ pub fn ask_points(s: &[u8], x: u64, tally: &mut [u64; ROWS]) -> u64 {
     let r = pick(c, 12);
     note(tally, 0, said(judge::judge(s)));
     note(tally, 1, said(points::sign(s, p, q, r, pick(d, 12))));
-    note(tally, 2, said(points::pierces(Engine::Plain, s, p, q, r)));
-    note(tally, 3, said(masks::mask(Engine::Plain, s, p, q, r % 4)));
-    note(tally, 4, said(masks::enclosed(Engine::Plain, s, p)));
+    note(tally, 2, said(points::pierces(Plain, s, p, q, r)));
+    note(tally, 3, said(masks::mask(Plain, s, p, q, r % 4)));
+    note(tally, 4, said(masks::enclosed(Plain, s, p)));
     d
 }
 
@@ -63,8 +63,8 @@ pub fn ask_rest(s: &[u8], x: u64, tally: &mut [u64; ROWS]) -> u64 {
     let b = next(a);
     let c = next(b);
     let k = pick(c, 24);
-    note(tally, 5, said(verdict::verdict_of(Engine::Plain, s)));
-    note(tally, 6, said(counts::count(Engine::Plain, s)));
+    note(tally, 5, said(verdict::verdict_of(Plain, s)));
+    note(tally, 6, said(counts::count(Plain, s)));
     note(tally, 7, listing(s, pick(a, 16) % 16));
     note(tally, 8, part(s, pick(b, 16)));
     note(tally, 9, said(record::record_refusal(s, k)));

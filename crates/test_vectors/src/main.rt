@@ -4,11 +4,12 @@
 
 ghost use Rattle.std.specs.Prelude.{◌≤◌, length};
 
-use pierce_engine::Engine;
+use pierce_engine::{Engine, Formula, Plain};
 use print_answers::lent::{PLACES, TEXT};
 use print_answers::{lent, reports};
 use scene::{offsets, read};
 use std::io::Print;
+use survey_sides::Surveyor;
 
 // The remainder of n by m; 0 where m is 0, as no count of an accepted scene is.
 fn rest(n: usize, m: usize) -> usize
@@ -29,7 +30,7 @@ fn signs(s: &[u8], n: usize, out: &mut [u8], at: usize) -> usize
     print_answers::sign(s, 1 + k, 1 + rest(n / 2, points), c, d, out, p)
 }
 
-fn edges(engine: Engine, s: &[u8], n: usize, out: &mut [u8], at: usize) -> usize
+fn edges<E: Engine>(engine: E, s: &[u8], n: usize, out: &mut [u8], at: usize) -> usize
     ensures { result ≤ length out.new }
 {
     let points = offsets::points(s);
@@ -49,7 +50,7 @@ fn edges(engine: Engine, s: &[u8], n: usize, out: &mut [u8], at: usize) -> usize
     )
 }
 
-fn masks(engine: Engine, s: &[u8], n: usize, out: &mut [u8], at: usize) -> usize
+fn masks<E: Engine>(engine: E, s: &[u8], n: usize, out: &mut [u8], at: usize) -> usize
     ensures { result ≤ length out.new }
 {
     let points = offsets::points(s);
@@ -59,7 +60,7 @@ fn masks(engine: Engine, s: &[u8], n: usize, out: &mut [u8], at: usize) -> usize
     print_answers::mask(engine, s, 1 + rest(n, points), points, 1 + n % 3, out, p)
 }
 
-fn others(engine: Engine, s: &[u8], n: usize, out: &mut [u8], at: usize) -> usize
+fn others<E: Surveyor>(engine: E, s: &[u8], n: usize, out: &mut [u8], at: usize) -> usize
     ensures { result ≤ length out.new }
 {
     let i = 1 + rest(n, offsets::points(s) + 1);
@@ -70,7 +71,13 @@ fn others(engine: Engine, s: &[u8], n: usize, out: &mut [u8], at: usize) -> usiz
 }
 
 // All but the last, the listing into up to 99 lent places. Whether it was written, as each of those below.
-fn write_answers(rt: &HostRuntime, engine: Engine, s: &[u8], n: usize, out: &mut [u8]) -> bool {
+fn write_answers<E: Surveyor>(
+    rt: &HostRuntime,
+    engine: E,
+    s: &[u8],
+    n: usize,
+    out: &mut [u8],
+) -> bool {
     let p = signs(s, n, out, 0);
     let q = edges(engine, s, n, out, p);
     let r = masks(engine, s, n, out, q);
@@ -78,9 +85,9 @@ fn write_answers(rt: &HostRuntime, engine: Engine, s: &[u8], n: usize, out: &mut
     rt.stdout().write_all(&out[..end]).is_ok()
 }
 
-fn write_lent(
+fn write_lent<E: Surveyor>(
     rt: &HostRuntime,
-    engine: Engine,
+    engine: E,
     s: &[u8],
     n: usize,
     list: &mut [u16],
@@ -91,9 +98,9 @@ fn write_lent(
     rt.stdout().write_all(&out[..end]).is_ok()
 }
 
-fn write_report(
+fn write_report<E: Surveyor>(
     rt: &HostRuntime,
-    engine: Engine,
+    engine: E,
     s: &[u8],
     list: &mut [u16],
     out: &mut [u8],
@@ -108,7 +115,7 @@ fn write_report(
     rt.stdout().write_all(&out[..all]).is_ok()
 }
 
-fn write_scene(rt: &HostRuntime, engine: Engine, s: &[u8], n: usize) -> bool {
+fn write_scene<E: Surveyor>(rt: &HostRuntime, engine: E, s: &[u8], n: usize) -> bool {
     let mut list = [0u16; PLACES];
     let mut out = [0u8; TEXT];
     if !write_report(rt, engine, s, &mut list, &mut out) {
@@ -126,7 +133,7 @@ fn write_next(rt: &HostRuntime, n: usize) -> bool {
     let Some(len) = test_entries::next(rt, &mut s) else {
         return false;
     };
-    write_scene(rt, Engine::Plain, &s[..len], n) && write_scene(rt, Engine::Formula, &s[..len], n)
+    write_scene(rt, Plain, &s[..len], n) && write_scene(rt, Formula, &s[..len], n)
 }
 
 fn main(rt: HostRuntime) {

@@ -1,6 +1,6 @@
 -- What a move does to one session: a group's leaves the fixture, the lecturer's changes it as the number and the row say; a refused one
 -- does nothing. What the lecturer is answered is told by the fixture's vertex count, the number and the row. Assumes nothing.
-use Rattle.std.specs.Prelude.{◌≡◌, ◌⊎◌, Bool, true, false, cond, List, length, Ok, Err}
+use Rattle.std.specs.Prelude.{◌≡◌, ◌⊎◌, Bool, true, false, cond, List, length, Option, Ok, Err, Some, None}
 use Rattle.std.proofs.Math.Path.{refl, ap}
 use Rattle.std.proofs.Common.{sym, ◌∙◌, inl, inr, arith, eq-eqb, ne_eqb, le-leb}
 use Prim.Native.Nat.{ℕ, ◌+◌, ◌≤◌}
@@ -10,7 +10,8 @@ use Rattle.scene.specs.Limits.{limits, within}
 use Rattle.scene.specs.Records.{verts_a, verts_b, verts, length_of}
 use Rattle.scene.specs.declared.Row.{Row}
 use Rattle.scene.specs.declared.Refusal.{Refusal}
-use Rattle.judge.specs.Tests.{within_iff, rule_iff, never}
+use Rattle.scene.specs.declared.Refusal.TheVariants.{Opening, NoSuchNumber}
+use Rattle.judge.specs.Tests.{within_iff, never}
 use Rattle.judge.specs.Judge.{Judged}
 use Rattle.rules.proofs.Accepted.{accepted}
 use Rattle.session.specs.Session.{scene, is_whole, vertex_fault, far_fault, changed_by, moved_of, far_moved_of}
@@ -18,7 +19,7 @@ use Rattle.session.specs.Kept.{Empty, Full, Holds, moved_holds, far_holds}
 use Rattle.session.specs.Changes.{RowChanged, vertex_changed, far_changed, vertex_refused, far_refused}
 use Rattle.session.specs.declared.Session.{Session}
 use Rattle.session.specs.declared.Changed.{Changed}
-use Rattle.bench_moves.specs.Bench.{unless, then_scene, said, solids_of, own_fault, own_moved_by, own_moved_of}
+use Rattle.bench_moves.specs.Bench.{unless, then_scene, said, counted, solids_of, own_fault, own_moved_by, own_moved_of}
 use Rattle.bench_moves.specs.Bench.{number_fault, scene_moved, placed_in, fixture_moved_by, fixture_moved_of}
 use Rattle.bench_moves.specs.declared.moves.Solids.{Solids}
 use Rattle.bench_moves.specs.declared.moves.Moved.{Moved}
@@ -31,11 +32,11 @@ use Rattle.theorem_bench.specs.Fixture.{fixture_of, moved_fixture, verts_b_law, 
 pub full_whole : (s : Session) → Full s → length (scene s) ≡ length_of (scene s)
 full_whole s f = ((accepted limits (scene s)).0 f.accepted).header.long
 
-pub full_solids : (s : Session) → Full s → solids_of (scene s) ≡ record { held = true; own = verts_a (scene s); fixture = verts_b (scene s) }
+pub full_solids : (s : Session) → Full s → solids_of (scene s) ≡ Some (counted (scene s))
 unfolding solids_of is_whole
 full_solids s f = rw (eq-eqb (length (scene s)) (length_of (scene s)) (full_whole s f))
 
-pub empty_solids : (s : Session) → Holds s → Empty s → solids_of (scene s) ≡ record { held = false; own = 0; fixture = 0 }
+pub empty_solids : (s : Session) → Holds s → Empty s → solids_of (scene s) ≡ None
 unfolding solids_of is_whole
 empty_solids s h e = rw (ne_eqb (length (scene s)) (length_of (scene s)) (λ q. omega (arith, q, h.sized, e.none)))
 
@@ -111,24 +112,19 @@ unless_done true f k e = (refl, e)
 unless_done false f k e = absurd (done_never (sym e))
 
 -- where there is a scene, its counts
-abbrev solids_by : Bool → List ℕ → Solids
-solids_by b s = cond b (record { held = true; own = verts_a s; fixture = verts_b s }) (record { held = false; own = 0; fixture = 0 })
-
-held_solids : (s : List ℕ) → (solids_of s).held ≡ true → solids_of s ≡ record { held = true; own = verts_a s; fixture = verts_b s }
-unfolding solids_of
-held_solids s e = go (is_whole s) e
-  where
-    go : (b : Bool) → (solids_by b s).held ≡ true → solids_by b s ≡ record { held = true; own = verts_a s; fixture = verts_b s }
-    go true e = refl
-    go false e = cc
+abbrev solids_by : Bool → List ℕ → Option Solids
+solids_by b s = cond b (Some (counted s)) None
 
 own_free : (s : List ℕ) (p : ℕ) → own_fault (solids_of s) p ≡ Ok tt → (1 ≤ p) × (p ≤ verts_a s)
-unfolding own_fault
-own_free s p e =
-    let a = unless_done _ _ _ e in
-    let b = unless_done _ _ _ a.1 in
-    let c = unless_done _ _ _ b.1 in
-    (within_iff 1 (verts_a s) p).0 (ap (λ (k : Solids). within 1 k.own p) (sym (held_solids s a.0)) ∙ c.0)
+unfolding own_fault solids_of
+own_free s p e = go (is_whole s) e
+  where
+    go : (b : Bool) → own_fault (solids_by b s) p ≡ Ok tt → (1 ≤ p) × (p ≤ verts_a s)
+    go true e =
+        let b = unless_done _ _ _ e in
+        let c = unless_done _ _ _ b.1 in
+        (within_iff 1 (verts_a s) p).0 c.0
+    go false e = absurd (done_never (sym e))
 
 pub record OwnEffect (s : Session) (m : Moved) : Type 0 where
   pub follows : Follows s m.session
@@ -173,18 +169,7 @@ module _ (s : Session) (n : ℕ) (v : Row) (h : Holds s) where
   by_moves j c (changes a d k) b f =
       record { follows = row_follows d k b; refused = λ q. absurd (never (sym (ap (placed_in n) a) ∙ q)); moved = λ q. f d }
 
-  number_free : number_fault (solids_of (scene s)) n ≡ Ok tt →
-      ((solids_of (scene s)).held ≡ true) × ((1 ≤ n) × (n ≤ verts_b (scene s) + 1))
-  unfolding number_fault
-  number_free e =
-      let a = (rule_iff _ _ _).0 e in
-      let b = (rule_iff _ _ _).0 a.1 in (
-        a.0,
-        (within_iff 1 (verts_b (scene s) + 1) n).0
-            (ap (λ (k : Solids). within 1 (k.fixture + 1) n) (sym (held_solids (scene s) a.0)) ∙ b.0),
-      )
-
-  scene_effect : 1 ≤ n → Dec (n ≤ verts_b (scene s)) → FixtureEffect s n v (told n (scene_moved s (solids_by true (scene s)) n v))
+  scene_effect : 1 ≤ n → Dec (n ≤ verts_b (scene s)) → FixtureEffect s n v (told n (scene_moved s (counted (scene s)) n v))
   unfolding scene_moved
   scene_effect a (yes l) =
       let j : ℕ = verts_a (scene s) + n in
@@ -195,11 +180,17 @@ module _ (s : Session) (n : ℕ) (v : Row) (h : Holds s) where
       (by_moves 0 (far_moved_of s v) (far_moves s v h) (omega arith) (λ c. far_fixture (scene s) _ 0 v c (omega arith) n (omega arith) refl))
 
   pub fixture_effect : FixtureEffect s n v (fixture_moved_of s n v)
-  unfolding fixture_moved_of
-  fixture_effect = go (number_fault (solids_of (scene s)) n) refl
+  unfolding fixture_moved_of solids_of number_fault
+  fixture_effect = go (is_whole (scene s))
     where
-      go : (j : Judged) → number_fault (solids_of (scene s)) n ≡ j → FixtureEffect s n v (fixture_moved_by j s n v)
-      go (Err r) q = record { follows = follows_same h refl; refused = λ q. refl; moved = λ q. absurd (never (sym q)) }
-      go (Ok _) q =
-          let f = number_free q in
-          rw (held_solids (scene s) f.0) (scene_effect f.1.0 (dec_le n (verts_b (scene s))))
+      refused : (r : Refusal) → FixtureEffect s n v (fixture_moved_by (Err r) s n v)
+      refused r = record { follows = follows_same h refl; refused = λ q. refl; moved = λ q. absurd (never (sym q)) }
+
+      numbered : (b : Bool) → within 1 (verts_b (scene s) + 1) n ≡ b →
+          FixtureEffect s n v (fixture_moved_by (cond b (Ok (counted (scene s))) (Err NoSuchNumber)) s n v)
+      numbered true q = scene_effect ((within_iff 1 (verts_b (scene s) + 1) n).0 q).0 (dec_le n (verts_b (scene s)))
+      numbered false q = refused NoSuchNumber
+
+      go : (b : Bool) → FixtureEffect s n v (fixture_moved_by (number_fault (solids_by b (scene s)) n) s n v)
+      go true = numbered (within 1 (verts_b (scene s) + 1) n) refl
+      go false = refused Opening

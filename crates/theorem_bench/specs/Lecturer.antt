@@ -17,7 +17,7 @@ use Rattle.session.specs.Session.{scene, is_whole, sizes_of, row_fault, is_nowhe
 use Rattle.session.specs.Kept.{Full}
 use Rattle.session.specs.declared.faults.Sizes.{Sizes}
 use Rattle.session.specs.declared.Session.{Session}
-use Rattle.bench_moves.specs.Bench.{number_fault, scene_moved, placed, placed_in, fixture_moved_by, fixture_moved_of}
+use Rattle.bench_moves.specs.Bench.{counted, number_fault, scene_moved, placed, placed_in, fixture_moved_by, fixture_moved_of}
 use Rattle.theorem_bench.specs.Effect.{full_whole, full_solids, vertex_answer, far_answer}
 
 -- 11, then 5 and 6, and for the far point 14, in the lecturer's numbers, where the fixture has b vertices
@@ -86,7 +86,7 @@ module _ (s : Session) (n : ℕ) (v : Row) (f : Full s) where
   far_said = ap (placed_in n) (far_answer s v ∙ rw whole) ∙ placed_far (verts (scene s) + 1) n (sizes_of v)
 
   scene_said : 1 ≤ n → Dec (n ≤ verts_b (scene s)) →
-      placed_in n (scene_moved s (record { held = true; own = verts_a (scene s); fixture = verts_b (scene s) }) n v).answer
+      placed_in n (scene_moved s (counted (scene s)) n v).answer
       ≡ cond (leb n (verts_b (scene s))) (row_fault 1 n (sizes_of v)) (far_row_fault n (sizes_of v))
   unfolding scene_moved
   scene_said l (yes h) = rw (le-leb n b h) (vertex_said l h)
@@ -97,7 +97,7 @@ module _ (s : Session) (n : ℕ) (v : Row) (f : Full s) where
   lecturer_told = rw (full_solids s f) (go (within 1 (b + 1) n) refl)
     where
       go : (t : Bool) → within 1 (b + 1) n ≡ t →
-          (fixture_moved_by (refuse_unless t NoSuchNumber (Ok tt)) s n v).answer
+          (fixture_moved_by (cond t (Ok (counted (scene s))) (Err NoSuchNumber)) s n v).answer
           ≡ refuse_unless t NoSuchNumber (cond (leb n b) (row_fault 1 n (sizes_of v)) (far_row_fault n (sizes_of v)))
-      go true e = rw (full_solids s f) (scene_said ((within_iff 1 (b + 1) n).0 e).0 (dec_le n b))
+      go true e = scene_said ((within_iff 1 (b + 1) n).0 e).0 (dec_le n b)
       go false e = refl

@@ -44,19 +44,21 @@ AnyHelper =
     (s : List ℕ) → judged s ≡ Ok tt → (u v h : ℕ) (f : Face) → Six (Upto (verts s + 1)) u v h f.p f.q f.r →
     formula_in s u v h f ≡ formula_in s u v (helper (verts s + 1) u v f) f
 
--- two calls with the same bytes: g and h are the engines, r and q the answers; of the listing also the lent lists, which held the same
-pub record OneAnswer : Type 0 where
-  pub pierces : (κs λs g h s t u v f r q e d : _) → now s ≡ now t →
-      pierces.Post κs (g ▸ s ▸ u ▸ v ▸ f ▸ tt) r e → pierces.Post λs (h ▸ t ▸ u ▸ v ▸ f ▸ tt) q d → r ≡ q
-  pub mask : (κs λs g h s t u v k r q e d : _) → now s ≡ now t →
-      mask.Post κs (g ▸ s ▸ u ▸ v ▸ k ▸ tt) r e → mask.Post λs (h ▸ t ▸ u ▸ v ▸ k ▸ tt) q d → said_mask r ≡ said_mask q
-  pub enclosed : (κs λs g h s t i r q e d : _) → now s ≡ now t →
-      enclosed.Post κs (g ▸ s ▸ i ▸ tt) r e → enclosed.Post λs (h ▸ t ▸ i ▸ tt) q d → r ≡ q
-  pub counts : (κs λs g h s t r q e d : _) → now s ≡ now t → count.Post κs (g ▸ s ▸ tt) r e → count.Post λs (h ▸ t ▸ tt) q d → r ≡ q
-  pub inside : (κs λs g h s t k r q e d : _) → now s ≡ now t →
-      inside.Post κs (g ▸ s ▸ k ▸ tt) r e → inside.Post λs (h ▸ t ▸ k ▸ tt) q d → r ≡ q
-  pub verdict : (κs λs g h s t r q e d : _) → now s ≡ now t →
-      verdict.Post κs (g ▸ s ▸ tt) r e → verdict.Post λs (h ▸ t ▸ tt) q d → r ≡ q
-  pub listing : (κs λs g h s t out list r q g' h' s' t' out' list' : _) → now s ≡ now t → lent.now out ≡ lent.now list →
-      listing.Post κs (g ▸ s ▸ out ▸ tt) r (g' ▸ s' ▸ out' ▸ tt) → listing.Post λs (h ▸ t ▸ list ▸ tt) q (h' ▸ t' ▸ list' ▸ tt) →
+-- two calls with the same bytes: g and h are the engines, of any types E and E' that are engines, r and q the answers; of the listing also
+-- the lent lists, which held the same. What is known of E as a type is L and C, and of its bounds: a and A of a surveyor, b and B of an
+-- engine, c and D of a clone.
+pub record OneAnswer : Type 2 where
+  pub pierces : (E L C b B c D E' L' C' b' B' c' D' κs λs g h s t u v f r q e d : _) → now s ≡ now t →
+      pierces.Post E L C b B c D κs (g ▸ s ▸ u ▸ v ▸ f ▸ tt) r e → pierces.Post E' L' C' b' B' c' D' λs (h ▸ t ▸ u ▸ v ▸ f ▸ tt) q d → r ≡ q
+  pub mask : (E L C b B c D E' L' C' b' B' c' D' κs λs g h s t u v k r q e d : _) → now s ≡ now t →
+      mask.Post E L C b B c D κs (g ▸ s ▸ u ▸ v ▸ k ▸ tt) r e → mask.Post E' L' C' b' B' c' D' λs (h ▸ t ▸ u ▸ v ▸ k ▸ tt) q d → said_mask r ≡ said_mask q
+  pub enclosed : (E L C b B c D E' L' C' b' B' c' D' κs λs g h s t i r q e d : _) → now s ≡ now t →
+      enclosed.Post E L C b B c D κs (g ▸ s ▸ i ▸ tt) r e → enclosed.Post E' L' C' b' B' c' D' λs (h ▸ t ▸ i ▸ tt) q d → r ≡ q
+  pub counts : (E L C a A b B c D E' L' C' a' A' b' B' c' D' κs λs g h s t r q e d : _) → now s ≡ now t → count.Post E L C a A b B c D κs (g ▸ s ▸ tt) r e → count.Post E' L' C' a' A' b' B' c' D' λs (h ▸ t ▸ tt) q d → r ≡ q
+  pub inside : (E L C a A b B c D E' L' C' a' A' b' B' c' D' κs λs g h s t k r q e d : _) → now s ≡ now t →
+      inside.Post E L C a A b B c D κs (g ▸ s ▸ k ▸ tt) r e → inside.Post E' L' C' a' A' b' B' c' D' λs (h ▸ t ▸ k ▸ tt) q d → r ≡ q
+  pub verdict : (E L C a A b B c D E' L' C' a' A' b' B' c' D' κs λs g h s t r q e d : _) → now s ≡ now t →
+      verdict.Post E L C a A b B c D κs (g ▸ s ▸ tt) r e → verdict.Post E' L' C' a' A' b' B' c' D' λs (h ▸ t ▸ tt) q d → r ≡ q
+  pub listing : (E L C a A b B c D E' L' C' a' A' b' B' c' D' κs λs g h s t out list r q g' h' s' t' out' list' : _) → now s ≡ now t → lent.now out ≡ lent.now list →
+      listing.Post E L C a A b B c D κs (g ▸ s ▸ out ▸ tt) r (g' ▸ s' ▸ out' ▸ tt) → listing.Post E' L' C' a' A' b' B' c' D' λs (h ▸ t ▸ list ▸ tt) q (h' ▸ t' ▸ list' ▸ tt) →
       (r ≡ q) × (out'.now ≡ list'.now)

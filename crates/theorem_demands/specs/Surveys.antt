@@ -63,12 +63,12 @@ pub record PartPoured (l : List Hit) (from : ℕ) (all : Bool) (d d' : List ℕ)
 
 -- ---- each function; the tables are lent to `survey_of`, and the list out to `pour_read`
 
-pub record Surveys : Type 0 where
-  pub survey_of_is : (κs engine s aends amasks bends bmasks r engine' s' aends' amasks' bends' bmasks' : _) →
-      survey_of.Post κs (engine ▸ s ▸ aends ▸ amasks ▸ bends ▸ bmasks ▸ tt) r
+pub record Surveys : Type 2 where
+  pub survey_of_is : (E L C a A b B c D κs engine s aends amasks bends bmasks r engine' s' aends' amasks' bends' bmasks' : _) →
+      survey_of.Post E L C a A b B c D κs (engine ▸ s ▸ aends ▸ amasks ▸ bends ▸ bmasks ▸ tt) r
       (engine' ▸ s' ▸ aends' ▸ amasks' ▸ bends' ▸ bmasks' ▸ tt) → judged s.now ≡ Ok tt →
       TablesAre s.now aends'.now amasks'.now bends'.now bmasks'.now r
-  pub first_or_enclosed_is : (κs engine s r e : _) → first_or_enclosed.Post κs (engine ▸ s ▸ tt) r e → FirstOrWords s.now r
+  pub first_or_enclosed_is : (E L C a A b B c D κs engine s r e : _) → first_or_enclosed.Post E L C a A b B c D κs (engine ▸ s ▸ tt) r e → FirstOrWords s.now r
   -- of an accepted scene, the question's verdict
   pub verdict_by_is : (κs s t r e : _) → verdict_by.Post κs (s ▸ t ▸ tt) r e → judged s.now ≡ Ok tt → Ok r ≡ verdict_of s.now
   pub verdict_read_is : (κs t s aends amasks bends bmasks r e : _) →

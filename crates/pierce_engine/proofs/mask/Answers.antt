@@ -8,14 +8,14 @@ use Rattle.pierce_masks.specs.Faces.{value_of, mask_words}
 use Rattle.pierce_engine.proofs.mask.Goals as goal
 
 pub word-low-requires : goal.word-low-requires
-word-low-requires c = record { rows = search rules; points = search rules; faces = search rules; edge = c.requires.edge }
+word-low-requires g c = record { rows = search rules; points = search rules; faces = search rules; edge = c.requires.edge }
 
 pub returns-then-count-le-WORD : goal.returns-then-count-le-WORD
 unfolding value_of
-returns-then-count-le-WORD c = omega (arith, c.word-low.ensures)
+returns-then-count-le-WORD g c = omega (arith, c.word-low.ensures)
 
 pub word-low-requires-2 : goal.word-low-requires-2
-word-low-requires-2 c =
+word-low-requires-2 g c =
     let e = c.requires.edge in
     record {
       rows = search rules;
@@ -25,7 +25,7 @@ word-low-requires-2 c =
     }
 
 pub word-high-requires : goal.word-high-requires
-word-high-requires c =
+word-high-requires g c =
     let e = c.requires.edge in
     record {
       rows = search rules;
@@ -36,7 +36,7 @@ word-high-requires c =
 
 pub returns : goal.returns
 unfolding value_of
-returns c =
+returns g c =
     mask_words (pierced c.args.n (row_in c.args.rows.now) c.args.u c.args.v) (face_in c.args.corners.now)
     c.args.first _
     c.if-count-le-WORD.false c.word-low-2.ensures c.word-high.ensures

@@ -10,10 +10,10 @@ use Rattle.pierce_engine.proofs.word.Goals as goal
 
 pub loop-k-init : goal.loop-k-init
 unfolding mask_of
-loop-k-init c = search rules
+loop-k-init g c = search rules
 
 pub pierces-requires : goal.pierces-requires
-pierces-requires c =
+pierces-requires g c =
     let w : FaceWithin limits c.face_in-f.result = rw c.face_in-f.ensures (c.requires.rows.1 _) in
     record {
       points = search rules;
@@ -21,9 +21,9 @@ pierces-requires c =
     }
 
 pub loop-k-preserved : goal.loop-k-preserved
-loop-k-preserved c =
+loop-k-preserved g c =
     let e = c.pierces.ensures ∙ ap (pierced _ _ _ _) c.face_in-f.ensures in
     mask_more _ _ (omega arith) c.loop-k.invariant (c.bit.ensures ∙ ap digit e)
 
 pub returns : goal.returns
-returns c = c.loop-k.invariant ∙ ap (mask_of _) (omega arith)
+returns g c = c.loop-k.invariant ∙ ap (mask_of _) (omega arith)

@@ -5,4 +5,4 @@ use Rattle.print_lines.specs.Lines.{counts_line}
 use Rattle.print_answers.proofs.count.Goals as goal
 
 pub returns : goal.returns
-returns c = by_case counts_line (sym c.count-x.ensures) c.counts.ensures
+returns g c = by_case counts_line (sym c.count-x.ensures) c.counts.ensures

@@ -6,5 +6,5 @@ use Rattle.print.specs.Text.{ascii}
 use Rattle.print_answers.proofs.enclosed.Goals as goal
 
 pub returns : goal.returns
-returns c =
+returns g c =
     by_case (answer_line (ascii "enclosed")) (sym c.enclosed-x.ensures) c.enclosed.ensures

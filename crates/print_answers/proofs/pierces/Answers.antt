@@ -6,5 +6,5 @@ use Rattle.print.specs.Text.{ascii}
 use Rattle.print_answers.proofs.pierces.Goals as goal
 
 pub returns : goal.returns
-returns c =
+returns g c =
     by_case (answer_line (ascii "pierces")) (sym c.pierces-x.ensures) c.pierces.ensures

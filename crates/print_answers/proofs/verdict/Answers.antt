@@ -5,4 +5,4 @@ use Rattle.print_lines.specs.Lines.{found_line}
 use Rattle.print_answers.proofs.verdict.Goals as goal
 
 pub returns : goal.returns
-returns c = by_case found_line (sym c.verdict_of-v.ensures) c.verdict.ensures
+returns g c = by_case found_line (sym c.verdict_of-v.ensures) c.verdict.ensures

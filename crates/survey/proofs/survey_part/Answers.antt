@@ -9,7 +9,7 @@ use borrow.Author.Rules.{rules}
 use Rattle.survey.proofs.survey_part.Goals as goal
 
 pub fill_odds-requires : goal.fill_odds-requires
-fill_odds-requires c =
+fill_odds-requires g c =
     let v = view_in c.args.n c.args.rows.now c.args.corners.now in
     record {
       room = (
@@ -22,13 +22,13 @@ fill_odds-requires c =
     }
 
 pub enclosed_word-inside-requires : goal.enclosed_word-inside-requires
-enclosed_word-inside-requires c =
+enclosed_word-inside-requires g c =
     let v = view_in c.args.n c.args.rows.now c.args.corners.now in
     let m = marked_edges _ _ (filled_edges c.fill_solid-edges.ensures) c.fill_odds.ensures in
     record { solid = (c.requires.solid.0, c.fill_links.ensures.own, odds_are v c.args.k c.requires.solid.0 m); sides = c.requires.tables.0 }
 
 pub returns : goal.returns
-returns c =
+returns g c =
     let v = view_in c.args.n c.args.rows.now c.args.corners.now in record {
       told = record {
         edges = filled_edges c.fill_solid-edges.ensures;

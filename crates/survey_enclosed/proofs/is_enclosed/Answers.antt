@@ -6,7 +6,7 @@ use borrow.Author.Rules.{rules}
 use Rattle.survey_enclosed.proofs.is_enclosed.Goals as goal
 
 pub mask-requires : goal.mask-requires
-mask-requires c =
+mask-requires g c =
     record {
       rows = search rules;
       points = search rules;
@@ -17,4 +17,4 @@ mask-requires c =
 
 pub returns : goal.returns
 unfolding enclosed_vertex
-returns c = c.is_odd.ensures ∙ ap is_odd c.mask.ensures
+returns g c = c.is_odd.ensures ∙ ap is_odd c.mask.ensures

@@ -5,7 +5,7 @@ use borrow.Author.Rules.{rules}
 use Rattle.survey_masks.proofs.edge_mask.Goals as goal
 
 pub mask-requires : goal.mask-requires
-mask-requires c =
+mask-requires g c =
     let r = around _ _ c.requires.sides.1 _ _ c.requires.solid.1 c.requires.solid.2 in record {
       rows = search rules;
       points = search rules;
@@ -16,4 +16,4 @@ mask-requires c =
 
 pub returns : goal.returns
 unfolding edge_mask
-returns c = c.mask.ensures
+returns g c = c.mask.ensures

@@ -13,19 +13,19 @@ use Rattle.survey_masks.specs.Store.{filling_start, filling_room, filling_turn, 
 use Rattle.survey_masks.proofs.fill_vertex.Goals as goal
 
 pub overflow_add-u-2 : goal.overflow_add-u-2
-overflow_add-u-2 c = omega (arith, c.requires.solid.0.vertices.1)
+overflow_add-u-2 g c = omega (arith, c.requires.solid.0.vertices.1)
 
 pub offset_bounds-links-u : goal.offset_bounds-links-u
-offset_bounds-links-u c = omega (arith, c.requires.solid.0.vertices.1)
+offset_bounds-links-u g c = omega (arith, c.requires.solid.0.vertices.1)
 
 pub bounds-links-u : goal.bounds-links-u
-bounds-links-u c = omega (arith, c.requires.solid.0.vertices.1)
+bounds-links-u g c = omega (arith, c.requires.solid.0.vertices.1)
 
 pub overflow_shr-left : goal.overflow_shr-left
-overflow_shr-left c = omega (arith, c.requires.solid.0.vertices.0)
+overflow_shr-left g c = omega (arith, c.requires.solid.0.vertices.0)
 
 pub loop-left-init : goal.loop-left-init
-loop-left-init c =
+loop-left-init g c =
     let v = view_in c.args.n c.args.rows.now c.args.corners.now in
     let u = c.args.k.vert0 + 1 + c.args.i in
     let h = higher v c.args.k c.requires.solid.0 c.args.i c.requires.solid.2 (c.requires.solid.1 u (omega arith, omega arith)) in
@@ -33,39 +33,39 @@ loop-left-init c =
     (lt_of_lt_of_le h.small few, h.small, filling_start v c.args.k u _ c.args.at _ _ h.edges)
 
 pub overflow_cast-v : goal.overflow_cast-v
-overflow_cast-v c = omega (arith, trailing_le 64 c.loop-left.left)
+overflow_cast-v g c = omega (arith, trailing_le 64 c.loop-left.left)
 
 pub overflow_add-v-in-loop-left : goal.overflow_add-v-in-loop-left
-overflow_add-v-in-loop-left c = omega (arith, trailing_le 64 c.loop-left.left, c.requires.solid.0.vertices.1)
+overflow_add-v-in-loop-left g c = omega (arith, trailing_le 64 c.loop-left.left, c.requires.solid.0.vertices.1)
 
 pub edge_mask-m-requires : goal.edge_mask-m-requires
-edge_mask-m-requires c =
+edge_mask-m-requires g c =
     let left = c.args.k.vert0 + c.args.k.verts - (c.args.k.vert0 + 1 + c.args.i) in
     let t = (word_first 64 left (omega (arith, c.requires.solid.0.vertices.0)) c.loop-left.invariant.1 (omega arith)).below in
     record { solid = (c.requires.solid.0, (omega arith, omega arith), (omega arith, omega (arith, t)), omega arith); sides = c.requires.sides }
 
 pub narrow-requires : goal.narrow-requires
-narrow-requires c =
+narrow-requires g c =
     omega (arith, c.requires.solid.0.vertices.1)
 
 pub narrow-requires-in-loop-left : goal.narrow-requires-in-loop-left
-narrow-requires-in-loop-left c =
+narrow-requires-in-loop-left g c =
     omega (arith, trailing_le 64 c.loop-left.left, c.requires.solid.0.vertices.1)
 
 pub put_edge-requires : goal.put_edge-requires
-put_edge-requires c =
+put_edge-requires g c =
     omega (arith, filling_room _ _ _ c.loop-left.left (omega arith) c.loop-left.invariant.0 c.loop-left.invariant.2)
 
 pub overflow_add-c : goal.overflow_add-c
-overflow_add-c c =
+overflow_add-c g c =
     omega (arith, filling_room _ _ _ c.loop-left.left (omega arith) c.loop-left.invariant.0 c.loop-left.invariant.2)
 
 pub loop-left-smaller : goal.loop-left-smaller
-loop-left-smaller c =
+loop-left-smaller g c =
     walk_less c.loop-left.left (omega arith)
 
 pub loop-left-preserved : goal.loop-left-preserved
-loop-left-preserved c =
+loop-left-preserved g c =
     let r = filling_room _ _ _ c.loop-left.left (omega arith) c.loop-left.invariant.0 c.loop-left.invariant.2 in
     let v = view_in c.args.n c.args.rows.now c.args.corners.now in
     let u = c.args.k.vert0 + 1 + c.args.i in (
@@ -77,4 +77,4 @@ loop-left-preserved c =
     )
 
 pub returns : goal.returns
-returns c = filling_end _ _ _ (omega arith) c.loop-left.invariant.2
+returns g c = filling_end _ _ _ (omega arith) c.loop-left.invariant.2

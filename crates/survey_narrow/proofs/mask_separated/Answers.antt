@@ -9,7 +9,7 @@ use Rattle.survey_narrow.specs.Narrow.{numbered_low, numbered_high, narrow_low, 
 use Rattle.survey_narrow.proofs.mask_separated.Goals as goal
 
 pub narrowed-near-requires : goal.narrowed-near-requires
-narrowed-near-requires c =
+narrowed-near-requires g c =
     record {
       faces = (
         numbered_low c.args.n (row_in c.args.rows.now) (face_in c.args.corners.now) (mask_in c.args.separating.now) c.args.at c.args.u c.args.v c.args.first c.args.count (c.mask_at-a.ensures ∙ c.requires.sides.0) (c.mask_at-b.ensures ∙ c.requires.sides.1) c.requires.points.4
@@ -19,7 +19,7 @@ narrowed-near-requires c =
     }
 
 pub narrowed-next-requires : goal.narrowed-next-requires
-narrowed-next-requires c =
+narrowed-next-requires g c =
     record {
       faces = (
         numbered_high c.args.n (row_in c.args.rows.now) (face_in c.args.corners.now) (mask_in c.args.separating.now) c.args.at c.args.u c.args.v c.args.first c.args.count (c.mask_at-a.ensures ∙ c.requires.sides.0) (c.mask_at-b.ensures ∙ c.requires.sides.1) c.requires.points.4
@@ -29,16 +29,16 @@ narrowed-next-requires c =
     }
 
 pub row_in-requires : goal.row_in-requires
-row_in-requires c = c.requires.points.2
+row_in-requires g c = c.requires.points.2
 
 pub row_in-requires-2 : goal.row_in-requires-2
-row_in-requires-2 c = c.requires.points.3
+row_in-requires-2 g c = c.requires.points.3
 
 pub join-l-requires : goal.join-l-requires
-join-l-requires c = rw (c.row_in.ensures, c.row_in-2.ensures) (join_formed (c.requires.rows.0 _) (c.requires.rows.0 _))
+join-l-requires g c = rw (c.row_in.ensures, c.row_in-2.ensures) (join_formed (c.requires.rows.0 _) (c.requires.rows.0 _))
 
 pub crossed-low-requires : goal.crossed-low-requires
-crossed-low-requires c =
+crossed-low-requires g c =
     record {
       rows = c.requires.rows;
       points = (c.requires.points.0, c.requires.points.1, c.requires.points.2, c.requires.points.3, omega (arith, c.requires.points));
@@ -49,10 +49,10 @@ crossed-low-requires c =
     }
 
 pub overflow_add-first : goal.overflow_add-first
-overflow_add-first c = omega (arith, c.requires.points)
+overflow_add-first g c = omega (arith, c.requires.points)
 
 pub crossed-high-requires : goal.crossed-high-requires
-crossed-high-requires c =
+crossed-high-requires g c =
     record {
       rows = c.requires.rows;
       points = (c.requires.points.0, c.requires.points.1, c.requires.points.2, c.requires.points.3, omega (arith, c.requires.points));
@@ -63,6 +63,6 @@ crossed-high-requires c =
     }
 
 pub returns : goal.returns
-returns c =
+returns g c =
     narrow_masks c.args.n (row_in c.args.rows.now) (face_in c.args.corners.now) (mask_in c.args.separating.now) c.args.at c.args.u c.args.v c.args.first c.args.count (c.mask_at-a.ensures ∙ c.requires.sides.0) (c.mask_at-b.ensures ∙ c.requires.sides.1) c.requires.points.4
     c.requires.points.5 c.requires.parted c.narrowed-near.ensures c.narrowed-next.ensures c.crossed-low.ensures c.crossed-high.ensures

@@ -5,13 +5,13 @@ use Rattle.survey_scene.specs.Surveys.{to_survey, sought_is}
 use Rattle.survey_scene.proofs.first_or_enclosed.Goals as goal
 
 pub find_first-requires : goal.find_first-requires
-find_first-requires c = (search (to_survey, decoded), search (to_survey, decoded))
+find_first-requires g c = (search (to_survey, decoded), search (to_survey, decoded))
 
 pub rows-requires : goal.rows-requires
-rows-requires c = search (rows_fit, rows_within)
+rows-requires g c = search (rows_fit, rows_within)
 
 pub faces-requires : goal.faces-requires
-faces-requires c = search (faces_fit_law, faces_within)
+faces-requires g c = search (faces_fit_law, faces_within)
 
 pub returns : goal.returns
-returns c = search (sought_is, decoded)
+returns g c = search (sought_is, decoded)

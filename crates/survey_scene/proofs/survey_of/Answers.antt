@@ -6,13 +6,13 @@ use borrow.Author.Rules.{rules}
 use Rattle.survey_scene.proofs.survey_of.Goals as goal
 
 pub survey_scene-requires : goal.survey_scene-requires
-survey_scene-requires c = record { ready = (search (to_survey, decoded), search (to_survey, decoded)); sized = search rules }
+survey_scene-requires g c = record { ready = (search (to_survey, decoded), search (to_survey, decoded)); sized = search rules }
 
 pub rows-requires : goal.rows-requires
-rows-requires c = search (rows_fit, rows_within)
+rows-requires g c = search (rows_fit, rows_within)
 
 pub faces-requires : goal.faces-requires
-faces-requires c = search (faces_fit_law, faces_within)
+faces-requires g c = search (faces_fit_law, faces_within)
 
 pub returns : goal.returns
-returns c = search (survey_is, decoded)
+returns g c = search (survey_is, decoded)

@@ -15,13 +15,13 @@ use Rattle.survey_sides.specs.Crossing.{Candidate, crossed_of, differs_same}
 use Rattle.survey_sides.proofs.crossed.Goals as goal
 
 pub loop-left-init : goal.loop-left-init
-loop-left-init c = (omega arith, c.requires.faces, omega arith)
+loop-left-init g c = (omega arith, c.requires.faces, omega arith)
 
 pub overflow_cast-k : goal.overflow_cast-k
-overflow_cast-k c = omega (arith, trailing_le 64 c.loop-left.left)
+overflow_cast-k g c = omega (arith, trailing_le 64 c.loop-left.left)
 
 pub crosses-requires : goal.crosses-requires
-crosses-requires c =
+crosses-requires g c =
     let here : Candidate c.args.n (row_in c.args.rows.now) (face_in c.args.corners.now) c.args.u c.args.v c.args.first (count_trailing_zeros 64 c.loop-left.left) = (each_turn c.loop-left.left (omega arith) (omega (arith, c.ranges.candidates)) _ c.loop-left.invariant.1).0 in
     let w : FaceWithin limits c.face_in-f.result = rw c.face_in-f.ensures (c.requires.rows.1 _) in
     record {
@@ -31,12 +31,12 @@ crosses-requires c =
     }
 
 pub overflow_shl-word : goal.overflow_shl-word
-overflow_shl-word c =
+overflow_shl-word g c =
     let here : Candidate c.args.n (row_in c.args.rows.now) (face_in c.args.corners.now) c.args.u c.args.v c.args.first (count_trailing_zeros 64 c.loop-left.left) = (each_turn c.loop-left.left (omega arith) (omega (arith, c.ranges.candidates)) _ c.loop-left.invariant.1).0 in
     here.small
 
 pub overflow_add-word : goal.overflow_add-word
-overflow_add-word c =
+overflow_add-word g c =
     let here : Candidate c.args.n (row_in c.args.rows.now) (face_in c.args.corners.now) c.args.u c.args.v c.args.first (count_trailing_zeros 64 c.loop-left.left) = (each_turn c.loop-left.left (omega arith) (omega (arith, c.ranges.candidates)) _ c.loop-left.invariant.1).0 in
     let rest : c.loop-left.word + c.bit.result * 2 ^ count_trailing_zeros 64 c.loop-left.left % 2 ^ 64
     + crossed_of c.args.n (row_in c.args.rows.now) (face_in c.args.corners.now) c.args.u c.args.v c.args.first (bit_and c.loop-left.left (c.loop-left.left - 1))
@@ -52,10 +52,10 @@ overflow_add-word c =
     )
 
 pub loop-left-smaller : goal.loop-left-smaller
-loop-left-smaller c = walk_less _ (omega arith)
+loop-left-smaller g c = walk_less _ (omega arith)
 
 pub loop-left-preserved : goal.loop-left-preserved
-loop-left-preserved c =
+loop-left-preserved g c =
     let here : Candidate c.args.n (row_in c.args.rows.now) (face_in c.args.corners.now) c.args.u c.args.v c.args.first (count_trailing_zeros 64 c.loop-left.left) = (each_turn c.loop-left.left (omega arith) (omega (arith, c.ranges.candidates)) _ c.loop-left.invariant.1).0 in
     let rest : c.loop-left.word + c.bit.result * 2 ^ count_trailing_zeros 64 c.loop-left.left % 2 ^ 64
     + crossed_of c.args.n (row_in c.args.rows.now) (face_in c.args.corners.now) c.args.u c.args.v c.args.first (bit_and c.loop-left.left (c.loop-left.left - 1))
@@ -68,17 +68,17 @@ loop-left-preserved c =
     )
 
 pub returns : goal.returns
-returns c =
+returns g c =
     let z : c.loop-left.left ≡ 0 = omega arith in
     let none = ap (crossed_of c.args.n (row_in c.args.rows.now) (face_in c.args.corners.now) c.args.u c.args.v c.args.first) z ∙ kept_none _ in
     omega (arith, none, c.loop-left.invariant.2)
 
 pub overflow_add-first-in-loop-left : goal.overflow_add-first-in-loop-left
-overflow_add-first-in-loop-left c =
+overflow_add-first-in-loop-left g c =
     let here : Candidate c.args.n (row_in c.args.rows.now) (face_in c.args.corners.now) c.args.u c.args.v c.args.first (count_trailing_zeros 64 c.loop-left.left) = (each_turn c.loop-left.left (omega arith) (omega (arith, c.ranges.candidates)) _ c.loop-left.invariant.1).0 in
     omega (arith, here)
 
 pub face_in-f-requires : goal.face_in-f-requires
-face_in-f-requires c =
+face_in-f-requires g c =
     let here : Candidate c.args.n (row_in c.args.rows.now) (face_in c.args.corners.now) c.args.u c.args.v c.args.first (count_trailing_zeros 64 c.loop-left.left) = (each_turn c.loop-left.left (omega arith) (omega (arith, c.ranges.candidates)) _ c.loop-left.invariant.1).0 in
     omega (arith, here)

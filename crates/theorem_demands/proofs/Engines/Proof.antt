@@ -36,13 +36,13 @@ any_helper_alike s ok u v h f d =
 pub one_answer : OneAnswer
 one_answer =
     record {
-      pierces = λ κs λs g h s t u v f r q e d p x y. x ∙ ap (λ (b : List ℕ). pierces_of b u v f) p ∙ sym y;
-      mask = λ κs λs g h s t u v k r q e d p x y. x ∙ ap (λ (b : List ℕ). masked_of b u v k) p ∙ sym y;
-      enclosed = λ κs λs g h s t i r q e d p x y. x ∙ ap (λ (b : List ℕ). enclosed_of b i) p ∙ sym y;
-      counts = λ κs λs g h s t r q e d p x y. x ∙ ap counted_of p ∙ sym y;
-      inside = λ κs λs g h s t k r q e d p x y. x ∙ ap (λ (b : List ℕ). inside_of b k) p ∙ sym y;
-      verdict = λ κs λs g h s t r q e d p x y. x ∙ ap verdict_of p ∙ sym y;
-      listing = λ κs λs g h s t out list r q g' h' s' t' out' list' p o x y. (
+      pierces = λ E L C b B c D E' L' C' b' B' c' D' κs λs g h s t u v f r q e d p x y. x ∙ ap (λ (z : List ℕ). pierces_of z u v f) p ∙ sym y;
+      mask = λ E L C b B c D E' L' C' b' B' c' D' κs λs g h s t u v k r q e d p x y. x ∙ ap (λ (z : List ℕ). masked_of z u v k) p ∙ sym y;
+      enclosed = λ E L C b B c D E' L' C' b' B' c' D' κs λs g h s t i r q e d p x y. x ∙ ap (λ (z : List ℕ). enclosed_of z i) p ∙ sym y;
+      counts = λ E L C a A b B c D E' L' C' a' A' b' B' c' D' κs λs g h s t r q e d p x y. x ∙ ap counted_of p ∙ sym y;
+      inside = λ E L C a A b B c D E' L' C' a' A' b' B' c' D' κs λs g h s t k r q e d p x y. x ∙ ap (λ (z : List ℕ). inside_of z k) p ∙ sym y;
+      verdict = λ E L C a A b B c D E' L' C' a' A' b' B' c' D' κs λs g h s t r q e d p x y. x ∙ ap verdict_of p ∙ sym y;
+      listing = λ E L C a A b B c D E' L' C' a' A' b' B' c' D' κs λs g h s t out list r q g' h' s' t' out' list' p o x y. (
         x.answer ∙ (λ i. or_refuse Err (judged (p i)) (listed_in (view_of (p i)) (o i))) ∙ sym y.answer,
         x.held ∙ (λ i. or_refuse (λ _. o i) (judged (p i)) (held_in (view_of (p i)) (o i))) ∙ sym y.held,
       );

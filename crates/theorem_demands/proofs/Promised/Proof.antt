@@ -50,16 +50,16 @@ contracts =
       record_is = λ κs s k r e x. x;
       is_point_is = λ κs s i r e x. rw x (within_iff 1 _ _);
       sign_is = λ κs s a b c d r e x. x;
-      pierces_is = λ κs engine s u v f r e x. x;
-      mask_is = λ κs engine s u v k r e x. x;
-      enclosed_is = λ κs engine s i r e x. x;
-      count_is = λ κs engine s r e x. x;
-      inside_is = λ κs engine s k r e x. x;
-      verdict_is = λ κs engine s r e x. x;
-      listing_is = λ κs engine s out r engine' s' out' x. x;
-      listing_part_is = λ κs engine s from out r engine' s' from' out' x. x;
-      survey_refused = λ κs engine s out r engine' s' out' x. refused s.now out.now out'.now x;
-      survey_told = λ κs engine s out r engine' s' out' x. told s.now out.now out'.now x;
+      pierces_is = λ E L C b B c D κs engine s u v f r e x. x;
+      mask_is = λ E L C b B c D κs engine s u v k r e x. x;
+      enclosed_is = λ E L C b B c D κs engine s i r e x. x;
+      count_is = λ E L C a A b B c D κs engine s r e x. x;
+      inside_is = λ E L C a A b B c D κs engine s k r e x. x;
+      verdict_is = λ E L C a A b B c D κs engine s r e x. x;
+      listing_is = λ E L C a A b B c D κs engine s out r engine' s' out' x. x;
+      listing_part_is = λ E L C a A b B c D κs engine s from out r engine' s' from' out' x. x;
+      survey_refused = λ E L C a A b B c D κs engine s out r engine' s' out' x. refused s.now out.now out'.now x;
+      survey_told = λ E L C a A b B c D κs engine s out r engine' s' out' x. told s.now out.now out'.now x;
     }
 
 pub says_same : SaysSame

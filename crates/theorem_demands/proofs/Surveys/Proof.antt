@@ -62,9 +62,9 @@ pub surveys : Surveys
 surveys =
     record {
       survey_of_is =
-          λ κs engine s aends amasks bends bmasks r engine' s' aends' amasks' bends' bmasks' x.
+          λ E L C a A b B c D κs engine s aends amasks bends bmasks r engine' s' aends' amasks' bends' bmasks' x.
           tables_are s.now aends'.now amasks'.now bends'.now bmasks'.now x;
-      first_or_enclosed_is = λ κs engine s r e x. first_or_words s.now x;
+      first_or_enclosed_is = λ E L C a A b B c D κs engine s r e x. first_or_words s.now x;
       verdict_by_is = λ κs s t r e x. asked s.now x;
       verdict_read_is = λ κs t s aends amasks bends bmasks r e x. asked s.now x;
       write_read_is =

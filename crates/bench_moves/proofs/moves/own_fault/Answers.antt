@@ -1,20 +1,20 @@
 -- Each test that fails decides.
+use mathlib.Core.Path.{sym, ap}
+use Rattle.std.specs.Prelude.{Option}
 use Rattle.bench_moves.specs.Bench.{own_fault}
-use Rattle.bench_moves.specs.Laws.{faults}
+use Rattle.bench_moves.specs.Laws.{own_by, faults}
+use Rattle.bench_moves.specs.declared.moves.Solids.{Solids}
 use Rattle.bench_moves.proofs.moves.own_fault.Goals as goal
 
-pub returns-then-not-k : goal.returns-then-not-k
+pub returns-in_default : goal.returns-in_default
 unfolding own_fault
-returns-then-not-k c = search faults depth 16
+returns-in_default c = sym (ap (λ (k : Option Solids). own_fault k c.args.p) c.in_default.is)
 
 pub returns-then-not-is_within : goal.returns-then-not-is_within
-unfolding own_fault
-returns-then-not-is_within c = search faults depth 16
+returns-then-not-is_within c = own_by _ c.in-Some.is c.from.ensures c.from-own.ensures (search faults depth 16)
 
 pub returns-then-not-is_within-2 : goal.returns-then-not-is_within-2
-unfolding own_fault
-returns-then-not-is_within-2 c = search faults depth 16
+returns-then-not-is_within-2 c = own_by _ c.in-Some.is c.from.ensures c.from-own.ensures (search faults depth 16)
 
 pub returns : goal.returns
-unfolding own_fault
-returns c = search faults depth 16
+returns c = own_by _ c.in-Some.is c.from.ensures c.from-own.ensures (search faults depth 16)

@@ -1,6 +1,5 @@
 -- The scene is saved and its header read.
-use mathlib.Core.Path.{◌≡◌}
-use native.Mathlib.Omega.{arith}
+use mathlib.Core.Path.{◌≡◌, refl}
 use lib.ListN.{length}
 use Rattle.scene.specs.Limits.{limits, longest}
 use Rattle.bench_moves.specs.Laws.{scene_fits, solids_none, solids_held}
@@ -9,12 +8,8 @@ use Rattle.bench_moves.proofs.moves.solids_of.Goals as goal
 
 pub returns-in-Err : goal.returns-in-Err
 returns-in-Err c =
-    let h : length c.args.s.bytes ≡ longest limits = search rules in (
-      solids_none _ _ c.save-j.ensures.answer c.in-Err.is (scene_fits c.args.s (longest limits) h),
-      omega arith,
-      omega arith,
-    )
+    let h : length c.args.s.bytes ≡ longest limits = search rules in
+    solids_none _ _ c.save-j.ensures.answer c.in-Err.is (scene_fits c.args.s (longest limits) h)
 
 pub returns-in-Ok : goal.returns-in-Ok
-returns-in-Ok c =
-    (solids_held _ _ _ c.save-j.ensures c.in-Ok.is c.byte.ensures.0 c.byte-in-Ok.ensures.0, c.byte.ensures.1, c.byte-in-Ok.ensures.1)
+returns-in-Ok c = solids_held _ _ _ c.save-j.ensures c.in-Ok.is refl refl

@@ -3,4 +3,4 @@ use Rattle.survey_scene.specs.Readings.{counts_read}
 use Rattle.kernel.proofs.counts.counts_of.Goals as goal
 
 pub returns : goal.returns
-returns c = search counts_read
+returns g c = search counts_read

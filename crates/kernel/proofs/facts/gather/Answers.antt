@@ -4,6 +4,6 @@ use borrow.Author.Rules.{rules}
 use Rattle.kernel.proofs.facts.gather.Goals as goal
 
 pub returns : goal.returns
-returns c =
+returns g c =
     gathered c.args.s.now c.requires c.survey_of-t.ensures (search rules) (search rules) _ (search rules)
     (search rules)

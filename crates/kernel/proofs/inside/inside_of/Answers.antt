@@ -5,13 +5,13 @@ use Rattle.survey_scene.specs.Surveys.{to_survey, inside_is}
 use Rattle.kernel.proofs.inside.inside_of.Goals as goal
 
 pub rows-requires : goal.rows-requires
-rows-requires c = search (rows_fit, rows_within)
+rows-requires g c = search (rows_fit, rows_within)
 
 pub faces-requires : goal.faces-requires
-faces-requires c = search (faces_fit_law, faces_within)
+faces-requires g c = search (faces_fit_law, faces_within)
 
 pub survey_solid-t-requires : goal.survey_solid-t-requires
-survey_solid-t-requires c = search (to_survey, decoded)
+survey_solid-t-requires g c = search (to_survey, decoded)
 
 pub returns : goal.returns
-returns c = search (inside_is, decoded)
+returns g c = search (inside_is, decoded)

@@ -8,17 +8,17 @@ use Rattle.kernel.proofs.masks.enclosed.Goals as goal
 
 pub returns-in_err-judge : goal.returns-in_err-judge
 unfolding enclosed_of enclosed_in
-returns-in_err-judge c = exits c.from_residual.ensures.1 (err_so _ c.judge.ensures c.in_err-judge.was)
+returns-in_err-judge g c = exits c.from_residual.ensures.1 (err_so _ c.judge.ensures c.in_err-judge.was)
 
 pub returns-in_err-enclosed_fault : goal.returns-in_err-enclosed_fault
 unfolding enclosed_of enclosed_in
-returns-in_err-enclosed_fault c =
+returns-in_err-enclosed_fault g c =
     exits c.from_residual-in_err-enclosed_fault.ensures.1 (own_err _ c.judge.ensures c.in_ok-judge.was c.enclosed_fault.ensures c.in_err-enclosed_fault.was)
 
 pub mask_of-requires : goal.mask_of-requires
 unfolding enclosed_of enclosed_in
-mask_of-requires c = search (far_outside, enclosed_vertex_law, accepted_so, c.in_ok-judge.was, c.in_ok-enclosed_fault.was)
+mask_of-requires g c = search (far_outside, enclosed_vertex_law, accepted_so, c.in_ok-judge.was, c.in_ok-enclosed_fault.was)
 
 pub returns : goal.returns
 unfolding enclosed_of enclosed_in
-returns c = search (both_ok, accepted_so, said_so, enclosed_found, c.in_ok-judge.was, c.in_ok-enclosed_fault.was)
+returns g c = search (both_ok, accepted_so, said_so, enclosed_found, c.in_ok-judge.was, c.in_ok-enclosed_fault.was)

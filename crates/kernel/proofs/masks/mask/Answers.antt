@@ -10,19 +10,19 @@ use Rattle.kernel.proofs.masks.mask.Goals as goal
 
 pub returns-in_err-judge : goal.returns-in_err-judge
 unfolding masked_of masked_in
-returns-in_err-judge c =
+returns-in_err-judge g c =
     ap said_mask (exits c.from_residual.ensures.1 refl) ∙ refused_so refused _ c.judge.ensures c.in_err-judge.was
 
 pub returns-in_err-mask_fault : goal.returns-in_err-mask_fault
 unfolding masked_of masked_in
-returns-in_err-mask_fault c =
+returns-in_err-mask_fault g c =
     ap said_mask (exits c.from_residual-in_err-mask_fault.ensures.1 refl)
     ∙ own_refused refused _ c.judge.ensures c.in_ok-judge.was c.mask_fault.ensures c.in_err-mask_fault.was
 
 pub mask_of-m-requires : goal.mask_of-m-requires
 unfolding masked_of masked_in
-mask_of-m-requires c = search (mask_outside, accepted_so, c.in_ok-judge.was, c.in_ok-mask_fault.was)
+mask_of-m-requires g c = search (mask_outside, accepted_so, c.in_ok-judge.was, c.in_ok-mask_fault.was)
 
 pub returns : goal.returns
 unfolding masked_of masked_in
-returns c = search (both_accept refused, accepted_so, mask_said, c.in_ok-judge.was, c.in_ok-mask_fault.was)
+returns g c = search (both_accept refused, accepted_so, mask_said, c.in_ok-judge.was, c.in_ok-mask_fault.was)

@@ -4,4 +4,4 @@ use borrow.Author.Rules.{rules}
 use Rattle.print_answers.proofs.lent.lend.Goals as goal
 
 pub returns : goal.returns
-returns c = search (rules, lent_is)
+returns g c = search (rules, lent_is)

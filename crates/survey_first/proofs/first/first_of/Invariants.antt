@@ -6,4 +6,4 @@ use Rattle.survey_first.specs.First.{hits_to}
 use Rattle.survey_first.proofs.first.first_of.Given as goal
 
 abbrev pub invariant-loop-i : goal.invariant-loop-i
-invariant-loop-i l = [] ≡ hits_to (view_in l.n l.rows l.corners) l.k l.i
+invariant-loop-i g l = [] ≡ hits_to (view_in l.n l.rows l.corners) l.k l.i

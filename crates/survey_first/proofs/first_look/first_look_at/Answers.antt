@@ -10,13 +10,13 @@ use borrow.Author.Rules.{rules}
 use Rattle.survey_first.proofs.first_look.first_look_at.Goals as goal
 
 pub sides-w-requires : goal.sides-w-requires
-sides-w-requires c =
+sides-w-requires g c =
     let v = view_in c.args.n c.args.rows.now c.args.corners.now in
     let q = side_asked v c.args.k c.args.v c.requires.solid.0 c.requires.solid.1 c.requires.edge.1 in
     record { rows = q.0; faces = q.1.0; ready = q.1.1; sloped = c.requires.sides.1 }
 
 pub mask_from_sides-x-requires : goal.mask_from_sides-x-requires
-mask_from_sides-x-requires c =
+mask_from_sides-x-requires g c =
     record {
       rows = (c.requires.solid.0.rows, c.requires.solid.0.faces);
       points = search rules;
@@ -26,11 +26,11 @@ mask_from_sides-x-requires c =
     }
 
 pub first_of_mask-requires : goal.first_of_mask-requires
-first_of_mask-requires c = omega (arith, c.requires.solid.0.other.0)
+first_of_mask-requires g c = omega (arith, c.requires.solid.0.other.0)
 
 pub returns : goal.returns
 unfolding edge_mask
-returns c = (
+returns g c = (
   c.first_of_mask.ensures
       ∙ ap (λ (w : ℕ). first_of (entry_hits c.args.k.other0 (record { low = c.args.u; high = c.args.v; mask = w }))) c.mask_from_sides-x.ensures,
   c.sides-w.ensures.1,

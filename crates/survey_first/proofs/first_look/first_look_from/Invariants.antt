@@ -7,5 +7,5 @@ use Rattle.survey_first.specs.First.{Left}
 use Rattle.survey_first.proofs.first_look.first_look_from.Given as goal
 
 abbrev pub invariant-loop : goal.invariant-loop
-invariant-loop l =
+invariant-loop g l =
     (l.left < 2 ^ 64) × (l.left ≤ l.higher) × Left (view_in l.n l.rows l.corners) l.k l.u l.left × Sloped (row_in l.rows) (face_in l.corners) l.slopes
