@@ -4,7 +4,7 @@
 ghost use Rattle.std.specs.Prelude.{◌≤◌, ◌<◌, length};
 
 use crate::words::{Question, asked_at, count_at};
-use cli::is_option;
+use cli::Program;
 use pierce_engine::{Formula, Plain};
 use print_answers::lent::{PLACES, TEXT};
 use print_answers::{lent, reports};
@@ -44,12 +44,12 @@ fn answer<E: Surveyor>(engine: E, q: Question, s: &[u8], out: &mut [u8]) -> usiz
 }
 
 // Whether they were written.
-fn write_rows<E: Surveyor>(rt: &HostRuntime, engine: E, s: &[u8]) -> bool {
+fn write_rows<E: Surveyor>(program: &Program, engine: E, s: &[u8]) -> bool {
     let mut list = [0u16; PLACES];
     let mut out = [0u8; TEXT];
     let r = reports::part(engine, s, 0, &mut list, &mut out);
     let end = r.end;
-    cli::write(rt, b"ask", &out[..end])
+    program.write(&out[..end])
 }
 
 // Why there is no other answer. `why` has said it.
@@ -65,64 +65,64 @@ fn explain(rt: &HostRuntime, q: Question, s: &[u8], answer: &[u8]) {
 }
 
 // A write that fails is the last.
-fn write_answer<E: Surveyor>(rt: &HostRuntime, engine: E, q: Question, s: &[u8]) {
+fn write_answer<E: Surveyor>(program: &Program, engine: E, q: Question, s: &[u8]) {
     let mut out = [0u8; TEXT];
     let end = answer(engine, q, s, &mut out);
-    if !cli::write(rt, b"ask", &out[..end]) {
+    if !program.write(&out[..end]) {
         return;
     }
     if let Question::Listing = q {
-        if !write_rows(rt, engine, s) {
+        if !write_rows(program, engine, s) {
             return;
         }
     }
-    if cli::finish(rt, b"ask") {
-        explain(rt, q, s, &out[..end]);
+    if program.finish() {
+        explain(program.rt, q, s, &out[..end]);
     }
 }
 
-fn reply<E: Surveyor>(rt: &HostRuntime, engine: E, q: Question, file: usize) {
+fn reply<E: Surveyor>(program: &Program, engine: E, q: Question, file: usize) {
     // One byte more than the longest scene tells that the input is too long.
     let mut s = [0u8; Scene::LONGEST + 1];
-    let r = cli::read_at(rt, b"ask", file, &mut s);
+    let r = program.read_at(file, &mut s);
     let n = r.count;
     if r.whole {
-        write_answer(rt, engine, q, &s[..n]);
+        write_answer(program, engine, q, &s[..n]);
     }
 }
 
 // The word at `file` names it, where it is the last.
-fn reply_of<E: Surveyor>(rt: &HostRuntime, engine: E, q: Question, file: usize)
+fn reply_of<E: Surveyor>(program: &Program, engine: E, q: Question, file: usize)
     requires { file < 20 }
 {
-    if is_option(rt, file) {
-        said::no_option(rt, file);
-        return;
+    let misused = program.is_misused(
+        file,
+        b" behind the question",
+        b"nothing may stand behind the file: ",
+    );
+    if !misused {
+        reply(program, engine, q, file);
     }
-    if cli::has_word(rt, file + 1) {
-        said::too_many(rt, file + 1);
-        return;
-    }
-    reply(rt, engine, q, file);
 }
 
 // The name of the question is word i.
-fn ask<E: Surveyor>(rt: &HostRuntime, engine: E, i: usize)
+fn ask<E: Surveyor>(program: &Program, engine: E, i: usize)
     requires { i < 9 }
 {
-    match asked_at(rt, i) {
-        Ok(q) => reply_of(rt, engine, q, i + count_at(rt, i)),
-        Err(e) => said::unasked(rt, i, e),
+    match asked_at(program.rt, i) {
+        Ok(q) => reply_of(program, engine, q, i + count_at(program.rt, i)),
+        Err(e) => said::unasked(program, i, e),
     }
 }
 
 fn main(rt: HostRuntime) {
-    if said::help(&rt) {
+    let program = said::program(&rt);
+    if program.tells() {
         return;
     }
     if cli::is_word(&rt, 1, b"--formula") {
-        ask(&rt, Formula, 2);
+        ask(&program, Formula, 2);
     } else {
-        ask(&rt, Plain, 1);
+        ask(&program, Plain, 1);
     }
 }

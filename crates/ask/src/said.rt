@@ -1,16 +1,13 @@
 // What is said on standard error, and the help.
 use crate::words::{Unasked, number_in};
-use check::same;
-use cli::to_error;
-use print::{newline, word};
+use cli::{Program, has_word, to_error_by};
 use scene::Refusal;
 
-// Whether the first word asked for help or for the version.
-pub fn help(rt: &HostRuntime) -> bool {
-    cli::tells(
+pub fn program(rt: &HostRuntime) -> Program {
+    Program {
         rt,
-        b"ask",
-        b"ask [--formula] QUESTION [NUMBER...] [FILE]
+        name: b"ask",
+        help: b"ask [--formula] QUESTION [NUMBER...] [FILE]
 
 Answers one question about the scene in FILE; - or no FILE is standard input.
 
@@ -33,72 +30,41 @@ is answered `refused N P`; standard error then says why.
 -h, --help        this
 --version         the version
 ",
-    )
-}
-
-pub fn usage(rt: &HostRuntime) {
-    cli::say(
-        rt,
-        b"ask",
-        b"usage: ask [--formula] QUESTION [NUMBER...] [FILE]",
-    );
-    cli::say(
-        rt,
-        b"ask",
-        b"questions: judge, why, verdict, counts, listing [PLACES], enclosed V, pierces U V F, mask U V S, sign A B C D, record K, clean",
-    );
+        usage: b"ask: usage: ask [--formula] QUESTION [NUMBER...] [FILE]
+ask: questions: judge, why, verdict, counts, listing [PLACES], enclosed V, pierces U V F, mask U V S, sign A B C D, record K, clean
+",
+    }
 }
 
 // Nothing is asked by the words from word i on.
-pub fn unasked(rt: &HostRuntime, i: usize, e: Unasked) {
+pub fn unasked(program: &Program, i: usize, e: Unasked) {
     match e {
-        Unasked::Unknown => no_question(rt, i),
-        Unasked::NoNumber(k) => no_number(rt, i, k),
+        Unasked::Unknown => no_question(program, i),
+        Unasked::NoNumber(k) => no_number(program, i, k),
     }
 }
 
 // Word i is no question.
-fn no_question(rt: &HostRuntime, i: usize) {
-    if cli::has_word(rt, i) {
-        cli::say_word(rt, b"ask", b"there is no question ", i, b"");
+fn no_question(program: &Program, i: usize) {
+    if has_word(program.rt, i) {
+        program.refuse_word(b"there is no question ", i, b"");
+    } else {
+        cli::to_error(program.rt, program.usage);
     }
-    usage(rt);
 }
 
 // Word k is no number of the question that word i names.
-fn no_number(rt: &HostRuntime, i: usize, k: usize) {
-    if cli::has_word(rt, k) {
-        cli::say_word(rt, b"ask", b"", k, b" is no number");
+fn no_number(program: &Program, i: usize, k: usize) {
+    if has_word(program.rt, k) {
+        program.refuse_word(b"", k, b" is no number");
     } else {
-        cli::say_word(rt, b"ask", b"", i, b" asks for more numbers");
+        program.refuse_word(b"", i, b" asks for more numbers");
     }
-    usage(rt);
-}
-
-pub fn no_option(rt: &HostRuntime, i: usize) {
-    cli::say_word(
-        rt,
-        b"ask",
-        b"there is no option ",
-        i,
-        b" behind the question",
-    );
-    usage(rt);
-}
-
-// Word i stands behind the file.
-pub fn too_many(rt: &HostRuntime, i: usize) {
-    cli::say_word(rt, b"ask", b"nothing may stand behind the file: ", i, b"");
-    usage(rt);
 }
 
 // The refusal of a scene.
 pub fn scene(rt: &HostRuntime, s: &[u8], r: Refusal) {
-    let mut out = [0u8; 512];
-    let p = word(&mut out, 0, b"why: ");
-    let q = print_why::sentence(s, r, &mut out, p);
-    let n = newline(&mut out, q);
-    to_error(rt, &out[0..n]);
+    to_error_by(rt, |out| print_why::line(s, r, out, 0));
 }
 
 // The number of the refusal that is answered of an accepted scene: 10, 11 or 12.
@@ -106,17 +72,15 @@ fn refusal_in(answer: &[u8]) -> Option<usize> {
     if answer.len() < 10 {
         return None;
     }
-    if same(&answer[..8], b"refused ") {
-        return number_in(&answer[8..10]);
+    match &answer[..8] {
+        b"refused " => number_in(&answer[8..10]),
+        _ => None,
     }
-    None
 }
 
 // The refusal, if it is one.
 pub fn rule(rt: &HostRuntime, answer: &[u8]) {
     if let Some(n) = refusal_in(answer) {
-        let mut out = [0u8; 256];
-        let end = print_refusals::line(&mut out, 0, n);
-        to_error(rt, &out[0..end]);
+        to_error_by(rt, |out| print_refusals::line(out, 0, n));
     }
 }

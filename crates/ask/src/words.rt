@@ -1,7 +1,6 @@
 // The question on the command line: its name, its numbers, and behind them the file.
 ghost use Rattle.std.specs.Prelude.{◌<◌};
 
-use check::same;
 use cli::word_at;
 use std::rt::Env;
 
@@ -69,37 +68,25 @@ fn asked_number(rt: &HostRuntime, i: usize) -> Result<usize, Unasked> {
 }
 
 fn without_number(word: &[u8]) -> Result<Question, Unasked> {
-    if same(word, b"judge") {
-        return Ok(Question::Judge);
+    match word {
+        b"judge" => Ok(Question::Judge),
+        b"verdict" => Ok(Question::Verdict),
+        b"counts" => Ok(Question::Counts),
+        b"listing" => Ok(Question::Listing),
+        b"why" => Ok(Question::Why),
+        b"clean" => Ok(Question::Clean),
+        _ => Err(Unasked::Unknown),
     }
-    if same(word, b"verdict") {
-        return Ok(Question::Verdict);
-    }
-    if same(word, b"counts") {
-        return Ok(Question::Counts);
-    }
-    if same(word, b"listing") {
-        return Ok(Question::Listing);
-    }
-    if same(word, b"why") {
-        return Ok(Question::Why);
-    }
-    if same(word, b"clean") {
-        return Ok(Question::Clean);
-    }
-    Err(Unasked::Unknown)
 }
 
 // The number is word i.
 fn with_one(rt: &HostRuntime, word: &[u8], i: usize) -> Result<Question, Unasked> {
     let n = asked_number(rt, i)?;
-    if same(word, b"enclosed") {
-        return Ok(Question::Enclosed(n));
+    match word {
+        b"enclosed" => Ok(Question::Enclosed(n)),
+        b"record" => Ok(Question::Record(n)),
+        _ => Ok(Question::Lent(n)),
     }
-    if same(word, b"record") {
-        return Ok(Question::Record(n));
-    }
-    Ok(Question::Lent(n))
 }
 
 // The numbers are word i and those behind it.
@@ -109,10 +96,10 @@ fn with_three(rt: &HostRuntime, word: &[u8], i: usize) -> Result<Question, Unask
     let u = asked_number(rt, i)?;
     let v = asked_number(rt, i + 1)?;
     let k = asked_number(rt, i + 2)?;
-    if same(word, b"mask") {
-        return Ok(Question::Mask(u, v, k));
+    match word {
+        b"mask" => Ok(Question::Mask(u, v, k)),
+        _ => Ok(Question::Pierces(u, v, k)),
     }
-    Ok(Question::Pierces(u, v, k))
 }
 
 fn with_four(rt: &HostRuntime, i: usize) -> Result<Question, Unasked>
@@ -129,19 +116,13 @@ fn with_four(rt: &HostRuntime, i: usize) -> Result<Question, Unasked>
 fn numbers(rt: &HostRuntime, word: &[u8], i: usize) -> usize
     ensures { result < 5 }
 {
-    if same(word, b"enclosed") || same(word, b"record") {
-        return 1;
+    match word {
+        b"enclosed" | b"record" => 1,
+        b"pierces" | b"mask" => 3,
+        b"sign" => 4,
+        b"listing" if number_at(rt, i).is_some() => 1,
+        _ => 0,
     }
-    if same(word, b"pierces") || same(word, b"mask") {
-        return 3;
-    }
-    if same(word, b"sign") {
-        return 4;
-    }
-    if same(word, b"listing") && number_at(rt, i).is_some() {
-        return 1;
-    }
-    0
 }
 
 // How many words the question whose name is word i has, with its name.

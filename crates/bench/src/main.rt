@@ -5,7 +5,7 @@
 ghost use Rattle.std.specs.Prelude.{◌+◌, ◌<◌, ◌≤◌};
 
 use bench_moves::{Answered, Bench, Fault, Group};
-use cli::{is_option, is_word};
+use cli::{Program, is_option, is_word};
 use cli_words::number_at;
 use print_lines::rows::least;
 use scene::{Row, Scene};
@@ -29,16 +29,12 @@ fn who_at(rt: &HostRuntime, i: usize) -> Option<Who> {
     // A word that is longer than any name is read as none.
     let mut w = [0u8; 8];
     let n = cli::word_at(rt, i, &mut w);
-    if check::same(&w[..n], b"one") {
-        return Some(Who::Group(Group::One));
+    match &w[..n] {
+        b"one" => Some(Who::Group(Group::One)),
+        b"two" => Some(Who::Group(Group::Two)),
+        b"lecturer" => Some(Who::Lecturer),
+        _ => None,
     }
-    if check::same(&w[..n], b"two") {
-        return Some(Who::Group(Group::Two));
-    }
-    if check::same(&w[..n], b"lecturer") {
-        return Some(Who::Lecturer);
-    }
-    None
 }
 
 fn is_name(rt: &HostRuntime, i: usize) -> bool {
@@ -116,87 +112,86 @@ fn moved(rt: &HostRuntime, b: Bench, i: usize) -> Answered
 }
 
 // Whether it was written, as each of the two below.
-fn say_answer(rt: &HostRuntime, a: Result<(), Fault>) -> bool {
+fn say_answer(program: &Program, a: Result<(), Fault>) -> bool {
     // `refused` and two numbers, each of no more than 20 digits.
     let mut out = [0u8; 50];
     let n = said::answer(&mut out, a);
-    cli::write(rt, b"bench", &out[0..n])
+    program.write(&out[0..n])
 }
 
-fn say_counts(rt: &HostRuntime, b: Bench) -> bool {
+fn say_counts(program: &Program, b: Bench) -> bool {
     let s = b.session(Group::One);
     let t = b.session(Group::Two);
     let mut out = [0u8; 140];
     let n = said::counts(&mut out, s.counts, t.counts);
-    cli::write(rt, b"bench", &out[0..n])
+    program.write(&out[0..n])
 }
 
-fn say(rt: &HostRuntime, c: Answered) -> bool {
+fn say(program: &Program, c: Answered) -> bool {
     let a = c.answer;
     let b = c.bench;
-    say_answer(rt, a) && say_counts(rt, b)
+    say_answer(program, a) && say_counts(program, b)
 }
 
 // Nothing is played behind an answer that could not be written.
-fn play(rt: &HostRuntime, first: Bench, count: usize) -> bool
+fn play(program: &Program, first: Bench, count: usize) -> bool
     requires { count < 4194304 }
 {
     let mut b = first;
     for i in (FIRST..count).step_by(WORDS) {
-        let c = moved(rt, b, i);
-        if !say(rt, c) {
+        let c = moved(program.rt, b, i);
+        if !say(program, c) {
             return false;
         }
         let a = c.answer;
-        whys::moved(rt, a);
+        whys::moved(program.rt, a);
         b = c.bench;
     }
     true
 }
 
 fn say_usage(rt: &HostRuntime, k: usize) {
-    let mut out = [0u8; 160];
-    let n = said::usage(&mut out, k);
-    cli::to_error(rt, &out[0..n]);
+    cli::to_error_by(rt, |out| said::usage(out, k));
 }
 
 // The bench of two scenes, and the moves.
-fn use_bench(rt: &HostRuntime, s: &[u8], t: &[u8], count: usize)
+fn use_bench(program: &Program, s: &[u8], t: &[u8], count: usize)
     requires { count < 4194304 }
 {
     let c = bench_moves::open(s, t);
-    if !say(rt, c) {
+    if !say(program, c) {
         return;
     }
     let a = c.answer;
     let b = c.bench;
-    whys::opening(rt, a, s, t);
-    if play(rt, b, count) {
-        cli::finish(rt, b"bench");
+    whys::opening(program.rt, a, s, t);
+    if play(program, b, count) {
+        program.finish();
     }
 }
 
-fn run(rt: &HostRuntime, count: usize)
+fn run(program: &Program, count: usize)
     requires { count < 4194304 }
 {
     // One byte more than the longest scene tells that a file is too long.
     let mut s = [0u8; Scene::LONGEST + 1];
-    let first = cli::read_at(rt, b"bench", 1, &mut s);
+    let first = program.read_at(1, &mut s);
     if !first.whole {
         return;
     }
     let mut t = [0u8; Scene::LONGEST + 1];
-    let second = cli::read_at(rt, b"bench", 2, &mut t);
+    let second = program.read_at(2, &mut t);
     if !second.whole {
         return;
     }
     let m = first.count;
     let n = second.count;
-    use_bench(rt, &s[..m], &t[..n], count);
+    use_bench(program, &s[..m], &t[..n], count);
 }
 
 fn main(rt: HostRuntime) {
-    if whys::help(&rt) {
+    let program = whys::program(&rt);
+    if program.tells() {
         return;
     }
     // No system passes on so many words.
@@ -206,12 +201,8 @@ fn main(rt: HostRuntime) {
         return;
     }
     if is_word(&rt, 1, b"-") && is_word(&rt, 2, b"-") {
-        cli::say(
-            &rt,
-            b"bench",
-            b"one of the two scenes may be standard input, and not both",
-        );
+        program.say(b"one of the two scenes may be standard input, and not both");
         return;
     }
-    run(&rt, count);
+    run(&program, count);
 }

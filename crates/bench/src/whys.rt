@@ -1,15 +1,15 @@
 // What is said on standard error: the help, and why the bench or a move is refused.
 use bench_moves::Fault;
-use cli::to_error;
-use print::newline;
+use cli::{Program, to_error, to_error_by};
+use print::{newline, word};
 use scene::{Numbered, Refusal};
 
-// Whether the first word asked for help or for the version.
-pub fn help(rt: &HostRuntime) -> bool {
-    cli::tells(
+// Its usage is told with the word that is wrong.
+pub fn program(rt: &HostRuntime) -> Program {
+    Program {
         rt,
-        b"bench",
-        b"bench FIRST SECOND [one P X Y Z W | two P X Y Z W | lecturer N X Y Z W]...
+        name: b"bench",
+        help: b"bench FIRST SECOND [one P X Y Z W | two P X Y Z W | lecturer N X Y Z W]...
 
 Two groups at one fixture. FIRST and SECOND are the scenes of group one and of group two, which agree in solid B, the fixture, and in
 the far point; solid A is the group's own. One of the two may be -, standard input.
@@ -25,14 +25,13 @@ is refused is said on standard error. A refused move changes nothing.
 -h, --help            this
 --version             the version
 ",
-    )
+        usage: b"",
+    }
 }
 
 // The rule that was broken.
 fn rule(rt: &HostRuntime, number: usize) {
-    let mut out = [0u8; 256];
-    let n = print_refusals::line(&mut out, 0, number);
-    to_error(rt, &out[0..n]);
+    to_error_by(rt, |out| print_refusals::line(out, 0, number));
 }
 
 pub fn moved(rt: &HostRuntime, a: Result<(), Fault>) {
@@ -45,11 +44,11 @@ pub fn moved(rt: &HostRuntime, a: Result<(), Fault>) {
 fn scene_refused(rt: &HostRuntime, i: usize, s: &[u8], r: Refusal) {
     to_error(rt, b"why: ");
     cli::say_name(rt, i);
-    let mut out = [0u8; 512];
-    let p = print::word(&mut out, 0, b": ");
-    let q = print_why::sentence(s, r, &mut out, p);
-    let n = newline(&mut out, q);
-    to_error(rt, &out[0..n]);
+    to_error_by(rt, |out| {
+        let p = word(out, 0, b": ");
+        let q = print_why::sentence(s, r, out, p);
+        newline(out, q)
+    });
 }
 
 // The first scene's own refusal, then the second's, then that they differ.

@@ -5,6 +5,7 @@
 use class_print::ROOM;
 use class_tally::files;
 use class_tally::files::Files;
+use cli::Program;
 use cli_files::{MOST_FILES, Walk, progress};
 use scene::Scene;
 
@@ -19,8 +20,7 @@ struct Marking {
 
 // The next file, where there is one.
 fn marked(
-    rt: &HostRuntime,
-    program: &[u8],
+    program: &Program,
     m: Marking,
     piece: &mut [u8],
     name: &mut [u8],
@@ -29,7 +29,7 @@ fn marked(
     let w = m.walk;
     let f = m.files;
     let unread = m.unread;
-    let r = cli_files::step(rt, program, w, piece, name, s);
+    let r = cli_files::step(program, w, piece, name, s);
     let v = r.walk;
     let n = r.count;
     if r.whole {
@@ -51,8 +51,7 @@ fn marked(
 }
 
 fn all_marked(
-    rt: &HostRuntime,
-    program: &[u8],
+    program: &Program,
     first: Marking,
     piece: &mut [u8],
     name: &mut [u8],
@@ -60,7 +59,7 @@ fn all_marked(
 ) -> Marking {
     let mut m = first;
     for _ in 0..MOST_FILES {
-        m = marked(rt, program, m, piece, name, s);
+        m = marked(program, m, piece, name, s);
         if m.over {
             break;
         }
@@ -68,19 +67,18 @@ fn all_marked(
     m
 }
 
-fn report(rt: &HostRuntime, program: &[u8], f: Files) {
+fn report(program: &Program, f: Files) {
     let mut out = [0u8; ROOM];
     let p = class_print::sheet(&mut out, 0, Ok(files::tally(f)));
-    cli::answer(rt, program, &out[0..p]);
+    program.answer(&out[0..p]);
 }
 
-fn finish(rt: &HostRuntime, program: &[u8], m: Marking) {
+fn finish(program: &Program, m: Marking) {
     let mut w = m.walk;
     let f = m.files;
     progress::ended(&mut w);
     if m.unread > 0 {
         cli_files::say_some(
-            rt,
             program,
             m.unread,
             w.named,
@@ -89,11 +87,11 @@ fn finish(rt: &HostRuntime, program: &[u8], m: Marking) {
         return;
     }
     if !w.failed {
-        report(rt, program, f);
+        report(program, f);
     }
 }
 
-fn run(rt: &HostRuntime, program: &[u8], walk: Walk) {
+fn run(program: &Program, walk: Walk) {
     let mut piece = [0u8; 4096];
     let mut name = [0u8; 4096];
     // One byte more than the longest scene tells that a file is too long.
@@ -105,20 +103,24 @@ fn run(rt: &HostRuntime, program: &[u8], walk: Walk) {
         unread: 0,
         over: false,
     };
-    let m = all_marked(rt, program, first, &mut piece, &mut name, &mut s);
-    finish(rt, program, m);
+    let m = all_marked(program, first, &mut piece, &mut name, &mut s);
+    finish(program, m);
 }
 
-fn main(rt: HostRuntime) {
-    let w = cli_files::begin(
-        &rt,
-        b"class",
-        0,
-        b"usage: class [--progress] FILE...\n       class [--progress] --names LIST\n\
+// Its help is what a wrong use is told.
+const HELP: &[u8] = b"usage: class [--progress] FILE...\n       class [--progress] --names LIST\n\
           Each file is one scene. Prints how many there are of each verdict and refusal, and the mean of pierced pairs.\n\
-          LIST has a name a line; - is standard input. Where a file can't be read no report is printed.\n",
-    );
+          LIST has a name a line; - is standard input. Where a file can't be read no report is printed.\n";
+
+fn main(rt: HostRuntime) {
+    let program = Program {
+        rt: &rt,
+        name: b"class",
+        help: HELP,
+        usage: HELP,
+    };
+    let w = cli_files::begin(&program, 0);
     if !w.failed {
-        run(&rt, b"class", w);
+        run(&program, w);
     }
 }

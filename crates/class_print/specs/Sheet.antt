@@ -52,15 +52,12 @@ module _ {l : List ℕ} {at : ℕ} {m : List ℕ} {p : ℕ} where
   put_as : {t u : List ℕ} → t ≡ u → Put l at t m p → Put l at u m p
   put_as e x = subst (λ (t : List ℕ). Put l at t m p) e x
 
-  pub number_put : {n k : ℕ} → n ≡ k → Put l at (32 ∷ decimal n) m p → Put l at (32 ∷ decimal k) m p
-  number_put e x = put_as (ap (λ (n : ℕ). 32 ∷ decimal n) e) x
-
   pub mean_put : {n k : Mean} → n ≡ k → Put l at (mean_line n) m p → Put l at (mean_line k) m p
   mean_put e x = put_as (ap mean_line e) x
 
-  pub longer_put : {r : Report} {e : BlockError} → r ≡ Err e → Put l at (refused r) m p → Put l at (sheet_of r) m p
+  pub longer_put : {r : Report} {e : BlockError} → r ≡ Err e → Put l at (refused (Err e)) m p → Put l at (sheet_of r) m p
   unfolding sheet_of
-  longer_put e x = subst (λ (r : Report). Put l at (refused r) m p → Put l at (sheet_of r) m p) (sym e) (λ x. x) x
+  longer_put e x = put_as (sym (ap sheet_of e)) x
 
   pub tallied_put : {r : Report} {t : Tally} → r ≡ Ok t → Put l at (tallied t) m p → Put l at (sheet_of r) m p
   unfolding sheet_of

@@ -5,10 +5,11 @@ ghost use Rattle.std.specs.Prelude.{◌≡◌, [], ◌∷◌};
 ghost use Rattle.print.specs.Put.{Put};
 ghost use Rattle.print.specs.Text.{decimal, line};
 ghost use Rattle.class_print.specs.Fits.{room};
-ghost use Rattle.class_print.specs.Sheet.{verdicts, refused_low, refused_high, mean_line, tallied, refused, sheet_of};
+ghost use Rattle.class_print.specs.Sheet.{verdicts, refused_low, refused_high, mean_line, tallied, sheet_of};
 
 use class_tally::{Mean, Report, Tally};
 use print::{newline, next_number, word};
+use print_refusals::refused;
 
 // Room for the longest report.
 pub const ROOM: usize = 1136;
@@ -67,15 +68,6 @@ fn mean_line(out: &mut [u8], at: usize, m: Mean) -> usize
     newline(out, d)
 }
 
-fn refused(out: &mut [u8], at: usize, r: Report) -> usize
-    ensures { Put out.old at (refused r) out.new result }
-{
-    let a = word(out, at, b"refused");
-    let b = next_number(out, a, class_tally::number(r));
-    let c = next_number(out, b, class_tally::place(r));
-    newline(out, c)
-}
-
 // A tally's lines.
 pub fn tallied(out: &mut [u8], at: usize, t: Tally) -> usize
     ensures { Put out.old at (tallied t) out.new result }
@@ -93,6 +85,6 @@ pub fn sheet(out: &mut [u8], at: usize, r: Report) -> usize
 {
     match r {
         Ok(t) => tallied(out, at, t),
-        Err(_) => refused(out, at, r),
+        Err(e) => refused(out, at, e),
     }
 }

@@ -13,7 +13,6 @@ use Rattle.rules.specs.Rules.{Between}
 use Rattle.rules.specs.Numbers.{check_order}
 use Rattle.rules.proofs.Parts.{judge_gives}
 use Rattle.questions.specs.Answers.{or_refuse, verdict_in, verdict_of}
-use Rattle.questions.specs.declared.Verdict.TheVariants as verdict
 use Rattle.class_tally.specs.Tally.{refused_line, line_of, mark_of}
 use Rattle.class_tally.specs.Most.{within_words}
 use Rattle.class_tally.specs.Counting.{line_of_law}

@@ -87,9 +87,15 @@ Report = Result Tally BlockError
 unfoldable pub report_of : List ℕ → Report
 report_of block = cond (leb (length block) most_bytes) (Ok (tally_of (marks_of block))) (Err Longer)
 
+abbrev pub block_number : BlockError → ℕ
+block_number Longer = 23
+
+abbrev pub block_place : BlockError → ℕ
+block_place e = 0
+
 -- its refusal's number and place, both 0 where there is none
 abbrev pub number_in : Report → ℕ
-number_in (Err Longer) = 23
+number_in (Err e) = block_number e
 number_in (Ok t) = 0
 
 abbrev pub place_in : Report → ℕ

@@ -9,7 +9,7 @@ use crate::marks::{Lines, mark_of};
 use crate::{Tally, marks};
 
 // The lines of the report so far, and the pierced pairs of the accepted scenes.
-#[derive(Clone, Copy)]
+#[derive(Clone, Copy, Debug, PartialEq, Eq)]
 pub struct Files {
     pub lines: Lines,
     pub pairs: usize,

@@ -2,13 +2,15 @@
 #![tactic(auto)]
 
 ghost use Rattle.std.specs.Prelude.{◌≡◌};
-ghost use Rattle.class_tally.specs.Tally.{report_of, number_in, place_in, mean_of};
+ghost use Rattle.class_tally.specs.Tally.{report_of, block_number, block_place, number_in, place_in, mean_of};
+
+use scene::Numbered;
 
 pub mod files;
 mod marks;
 
 // How many scenes count in each line of the report, how many were accepted, and the pierced pairs of these.
-#[derive(Clone, Copy)]
+#[derive(Clone, Copy, Debug, PartialEq, Eq)]
 pub struct Tally {
     pub scenes: usize,
     pub cross: usize,
@@ -38,14 +40,14 @@ impl Tally {
 }
 
 // One scene: the line of the report that it counts in, an index (`Refusals` says which), and its pierced pairs.
-#[derive(Clone, Copy)]
+#[derive(Clone, Copy, Debug, PartialEq, Eq)]
 pub struct Mark {
     pub line: usize,
     pub pairs: usize,
 }
 
 // The mean of pierced pairs over accepted scenes.
-#[derive(Clone, Copy)]
+#[derive(Clone, Copy, Debug, PartialEq, Eq)]
 pub struct Mean {
     pub whole: usize,
     pub remainder: usize,
@@ -56,6 +58,24 @@ pub struct Mean {
 #[derive(Clone, Copy, Debug, PartialEq, Eq)]
 pub enum BlockError {
     Longer,
+}
+
+impl Numbered for BlockError {
+    ghost number = { block_number };
+
+    ghost place = { block_place };
+
+    fn number(self) -> usize {
+        match self {
+            BlockError::Longer => 23,
+        }
+    }
+
+    fn place(self) -> usize {
+        match self {
+            BlockError::Longer => 0,
+        }
+    }
 }
 
 // What a block's scenes amount to.
@@ -76,7 +96,7 @@ pub fn number(r: Report) -> usize
 {
     match r {
         Ok(_) => 0,
-        Err(BlockError::Longer) => 23,
+        Err(e) => e.number(),
     }
 }
 
@@ -85,7 +105,7 @@ pub fn place(r: Report) -> usize
 {
     match r {
         Ok(_) => 0,
-        Err(BlockError::Longer) => 0,
+        Err(e) => e.place(),
     }
 }
 

@@ -1,17 +1,26 @@
 // What the programs share: words of the command line, the input that a word names, read whole, and answers that are written whole. What
-// can't be done is said on standard error behind the program's name.
+// can't be done is said on standard error behind the program's name (`Program`).
 #![tactic(auto)]
 
-ghost use Rattle.std.specs.Prelude.{MatchResult, ◌≡◌};
+ghost use Rattle.std.specs.Fn.{FnOnceReturnsAtMut};
+ghost use Rattle.std.specs.Prelude.{MatchResult, ◌≡◌, ℕ, ◌≤◌, List, length};
 ghost use Rattle.cli.specs.Counts.{IsPrefixLen};
 ghost use Rattle.cli.specs.Path.{IsPath};
 
-use check::same;
+pub use crate::program::Program;
 use std::env::FillError;
 use std::fs::{File, OpenOptions};
 use std::io::{ErrorKind, Print, Read, Write};
 use std::rt::{Env, Stdin};
 use std::{fs, io, str};
+
+mod program;
+
+// What `--version` tells.
+const VERSION: &[u8] = b"bodhranhaze 1.0.0\n";
+
+// No line that is said has more bytes.
+const LINE: usize = 512;
 
 // What was read: how many bytes, and whether these are all, or as many as there was room for; else why there are no more.
 #[derive(Clone, Copy)]
@@ -72,7 +81,7 @@ pub fn word_count(rt: &HostRuntime) -> usize {
 pub fn is_word(rt: &HostRuntime, i: usize, name: &[u8]) -> bool {
     let mut word = [0u8; 32];
     match rt.arg(i, &mut word) {
-        Ok(n) => same(&word[..n], name),
+        Ok(n) => &word[..n] == name,
         Err(_) => false,
     }
 }
@@ -93,24 +102,14 @@ pub fn to_error(rt: &HostRuntime, text: &[u8]) {
     rt.stderr().write_all(text).is_ok();
 }
 
-// A line on standard error.
-pub fn say(rt: &HostRuntime, program: &[u8], what: &[u8]) {
-    to_error(rt, program);
-    to_error(rt, b": ");
-    to_error(rt, what);
-    to_error(rt, b"\n");
-}
-
-// The same with word i of the command line in its midst.
-pub fn say_word(rt: &HostRuntime, program: &[u8], before: &[u8], i: usize, behind: &[u8]) {
-    let mut word = [0u8; 4096];
-    let n = word_at(rt, i, &mut word);
-    to_error(rt, program);
-    to_error(rt, b": ");
-    to_error(rt, before);
-    to_error(rt, &word[..n]);
-    to_error(rt, behind);
-    to_error(rt, b"\n");
+// What `put` puts at the front of a buffer, up to the place that it answers, on standard error.
+pub fn to_error_by<F: FnOnce(&mut [u8]) -> usize>(rt: &HostRuntime, put: F)
+    requires callable { F.IsAlwaysCallable put }
+    requires in_room { (old new : List ℕ) (n : ℕ) → FnOnceReturnsAtMut F.FnOnce put old n new → n ≤ length new }
+{
+    let mut out = [0u8; LINE];
+    let n = put(&mut out);
+    to_error(rt, &out[..n]);
 }
 
 // The words of an error, without the number that stands behind those of the system.
@@ -126,27 +125,6 @@ fn say_reason(rt: &HostRuntime, error: io::Error) {
     match text.rsplit_once(" (os error ") {
         Some((words, _)) => to_error(rt, words.as_bytes()),
         None => to_error(rt, text.as_bytes()),
-    }
-}
-
-// A line about a call that failed, with the reason.
-pub fn fail(rt: &HostRuntime, program: &[u8], what: &[u8], error: io::Error) {
-    to_error(rt, program);
-    to_error(rt, b": ");
-    to_error(rt, what);
-    to_error(rt, b": ");
-    say_reason(rt, error);
-    to_error(rt, b"\n");
-}
-
-// A part of an answer on standard output. Behind a part that could not be written nothing may follow.
-pub fn write(rt: &HostRuntime, program: &[u8], text: &[u8]) -> bool {
-    match rt.stdout().write_all(text) {
-        Ok(()) => true,
-        Err(e) => {
-            fail(rt, program, b"standard output", e);
-            false
-        }
     }
 }
 
@@ -167,46 +145,6 @@ fn output_file(rt: &HostRuntime) -> Option<File> {
         return None;
     }
     OpenOptions::new().append(true).open(rt, name).ok()
-}
-
-// The end of an answer: some systems tell only here that it could not be written.
-pub fn finish(rt: &HostRuntime, program: &[u8]) -> bool {
-    let Some(file) = output_file(rt) else {
-        return true;
-    };
-    match settle(&file) {
-        Ok(()) => true,
-        Err(e) => {
-            fail(rt, program, b"standard output", e);
-            false
-        }
-    }
-}
-
-// A whole answer.
-pub fn answer(rt: &HostRuntime, program: &[u8], text: &[u8]) -> bool {
-    if !write(rt, program, text) {
-        return false;
-    }
-    finish(rt, program)
-}
-
-// Answers `-h`, `--help` and `--version` as word i, and tells whether that was asked.
-pub fn tells_at(rt: &HostRuntime, program: &[u8], i: usize, help: &[u8]) -> bool {
-    if is_word(rt, i, b"-h") || is_word(rt, i, b"--help") {
-        answer(rt, program, help);
-        return true;
-    }
-    if is_word(rt, i, b"--version") {
-        answer(rt, program, b"bodhranhaze 1.0.0\n");
-        return true;
-    }
-    false
-}
-
-// The same as the first word.
-pub fn tells(rt: &HostRuntime, program: &[u8], help: &[u8]) -> bool {
-    tells_at(rt, program, 1, help)
 }
 
 // Whether word i names standard input: it is `-`, or there is none.
@@ -244,31 +182,6 @@ pub fn path(name: &[u8]) -> io::Result<&str>
 // Opens a file for reading.
 pub fn open(rt: &HostRuntime, name: &[u8]) -> io::Result<File> {
     File::open(rt, path(name)?)
-}
-
-// The name that word i is has more bytes than there is room for.
-pub fn fail_long(rt: &HostRuntime, program: &[u8], what: &[u8]) {
-    let error = io::Error::new(ErrorKind::InvalidFilename, "File name too long");
-    fail(rt, program, what, error);
-}
-
-// Opens the input that word i names; none where that fails, which is then said.
-pub fn open_at(rt: &HostRuntime, program: &[u8], i: usize) -> Option<Source> {
-    if is_standard(rt, i) {
-        return Some(Source::Standard(rt.stdin()));
-    }
-    let mut name = [0u8; 4096];
-    let Ok(n) = rt.arg(i, &mut name) else {
-        fail_long(rt, program, b"the name of a file");
-        return None;
-    };
-    match open(rt, &name[..n]) {
-        Ok(file) => Some(Source::Named(file)),
-        Err(e) => {
-            fail(rt, program, &name[..n], e);
-            None
-        }
-    }
 }
 
 // One read to the front of the buffer; no bytes where the input has ended.
@@ -312,34 +225,4 @@ pub fn read(file: &mut impl Read, buf: &mut [u8]) -> Input
         count: at,
         error,
     }
-}
-
-// Says why an input failed that is standard input or has this name.
-fn fail_input(rt: &HostRuntime, program: &[u8], standard: bool, name: &[u8], error: io::Error) {
-    if standard {
-        fail(rt, program, b"standard input", error);
-        return;
-    }
-    fail(rt, program, name, error);
-}
-
-// The input that word i names, read until the buffer is full or the input ends. Where that fails it is said, and the input is not whole.
-pub fn read_at(rt: &HostRuntime, program: &[u8], i: usize, buf: &mut [u8]) -> Input
-    ensures { IsPrefixLen result.count buf.new }
-{
-    let standard = is_standard(rt, i);
-    let mut name = [0u8; 4096];
-    let n = word_at(rt, i, &mut name);
-    let Some(mut file) = open_at(rt, program, i) else {
-        return Input {
-            whole: false,
-            count: 0,
-            error: None,
-        };
-    };
-    let r = read(&mut file, buf);
-    if let Some(e) = r.error {
-        fail_input(rt, program, standard, &name[..n], e);
-    }
-    r
 }

@@ -5,8 +5,7 @@
 ghost use Rattle.std.specs.Prelude.{◌≤◌, IfSome};
 ghost use Rattle.cli.specs.Counts.{IsPrefixLen};
 
-use check::same;
-use cli::Source;
+use cli::{Program, Source};
 use print::{next_number, next_word, word};
 use std::os::fd::{AsRawFd, IntoRawFd};
 use std::rt::Env;
@@ -106,54 +105,48 @@ fn no_walk() -> Walk {
     w
 }
 
-// A wrong use: why, and the usage.
-pub fn refuse(rt: &HostRuntime, program: &[u8], why: &[u8], usage: &[u8]) -> Walk {
-    cli::say(rt, program, why);
-    cli::to_error(rt, usage);
+// A wrong use.
+fn refuse(program: &Program, why: &[u8]) -> Walk {
+    program.refuse(why);
     no_walk()
 }
 
-fn refuse_option(rt: &HostRuntime, program: &[u8], i: usize, usage: &[u8]) -> Walk {
+fn refuse_option(program: &Program, i: usize) -> Walk {
     let mut name = [0u8; 64];
-    let n = cli::word_at(rt, i, &mut name);
+    let n = cli::word_at(program.rt, i, &mut name);
     let mut out = [0u8; 96];
     let p = word(&mut out, 0, b"unknown option");
     let q = next_word(&mut out, p, &name[..n]);
-    refuse(rt, program, &out[0..q], usage)
+    refuse(program, &out[0..q])
 }
 
 // Of the list that word i names, the last.
-fn of_list(rt: &HostRuntime, program: &[u8], i: usize, usage: &[u8]) -> Walk {
-    if !cli::has_word(rt, i) {
-        return refuse(rt, program, b"--names wants a list", usage);
+fn of_list(program: &Program, i: usize) -> Walk {
+    if !cli::has_word(program.rt, i) {
+        return refuse(program, b"--names wants a list");
     }
-    let Some(list) = cli::open_at(rt, program, i) else {
+    let Some(list) = program.open_at(i) else {
         return no_walk();
     };
     walk_over(Some(list), 0, 0)
 }
 
 // Of the files that the words from `first` on name, or `--names` and a list.
-fn of_words(rt: &HostRuntime, program: &[u8], first: usize, usage: &[u8]) -> Walk
+fn of_words(program: &Program, first: usize) -> Walk
     requires { first ≤ 3 }
 {
-    let count = cli::word_count(rt);
+    let count = cli::word_count(program.rt);
     if first >= count {
-        return refuse(rt, program, b"no file is named", usage);
+        return refuse(program, b"no file is named");
     }
-    if cli::is_word(rt, first, b"--names") {
+    if cli::is_word(program.rt, first, b"--names") {
         if first + 2 < count {
-            return refuse(
-                rt,
-                program,
-                b"--names takes one list, and no file beside it",
-                usage,
-            );
+            return refuse(program, b"--names takes one list, and no file beside it");
         }
-        return of_list(rt, program, first + 1, usage);
+        return of_list(program, first + 1);
     }
-    if cli::is_option(rt, first) {
-        return refuse_option(rt, program, first, usage);
+    if cli::is_option(program.rt, first) {
+        return refuse_option(program, first);
     }
     let mut w = walk_over(None, first, count);
     w.all = count - first;
@@ -161,17 +154,17 @@ fn of_words(rt: &HostRuntime, program: &[u8], first: usize, usage: &[u8]) -> Wal
 }
 
 // The walk that the command line asks for, behind so many words of the program's own; none where help was asked for, or the use is wrong.
-pub fn begin(rt: &HostRuntime, program: &[u8], own: usize, usage: &[u8]) -> Walk
+pub fn begin(program: &Program, own: usize) -> Walk
     requires { own ≤ 1 }
 {
-    hold_standard(rt);
-    let first = first_word(rt);
-    if cli::tells_at(rt, program, first, usage) {
+    hold_standard(program.rt);
+    let first = first_word(program.rt);
+    if program.tells_at(first) {
         return no_walk();
     }
-    let w = of_words(rt, program, first + own, usage);
+    let w = of_words(program, first + own);
     if first == 2 {
-        return progress::started(rt, w);
+        return progress::started(program.rt, w);
     }
     w
 }
@@ -188,7 +181,7 @@ fn counted(w: Walk) -> Walk {
 }
 
 // A word that names a file; no name is longer than the buffer.
-fn next_named(rt: &HostRuntime, program: &[u8], w: Walk, name: &mut [u8]) -> list::Next
+fn next_named(program: &Program, w: Walk, name: &mut [u8]) -> list::Next
     ensures { IfSome result.name (λ n. IsPrefixLen n name.new) }
 {
     let at = w.at;
@@ -200,8 +193,8 @@ fn next_named(rt: &HostRuntime, program: &[u8], w: Walk, name: &mut [u8]) -> lis
     }
     let mut v = counted(w);
     v.at = at + 1;
-    let Ok(n) = rt.arg(at, name) else {
-        cli::fail_long(rt, program, b"the name of a file");
+    let Ok(n) = program.rt.arg(at, name) else {
+        program.fail_long(b"the name of a file");
         v.failed = true;
         return list::Next {
             walk: v,
@@ -214,20 +207,14 @@ fn next_named(rt: &HostRuntime, program: &[u8], w: Walk, name: &mut [u8]) -> lis
     }
 }
 
-fn next_name(
-    rt: &HostRuntime,
-    program: &[u8],
-    w: Walk,
-    piece: &mut [u8],
-    name: &mut [u8],
-) -> list::Next
+fn next_name(program: &Program, w: Walk, piece: &mut [u8], name: &mut [u8]) -> list::Next
     ensures { IfSome result.name (λ n. IsPrefixLen n name.new) }
 {
     let mut v = w;
     if let Some(list) = v.list.take() {
-        return list::next_line(rt, program, v, list, piece, name);
+        return list::next_line(program, v, list, piece, name);
     }
-    next_named(rt, program, v, name)
+    next_named(program, v, name)
 }
 
 // A word may name standard input; a line of a list, which may be standard input itself, names a file.
@@ -235,7 +222,7 @@ fn is_input(w: &Walk, name: &[u8]) -> bool {
     if w.list.is_some() {
         return false;
     }
-    same(name, b"-")
+    name == b"-".as_slice()
 }
 
 fn open(rt: &HostRuntime, w: &Walk, name: &[u8]) -> io::Result<Source> {
@@ -249,12 +236,12 @@ fn open(rt: &HostRuntime, w: &Walk, name: &[u8]) -> io::Result<Source> {
 }
 
 // Where that fails it is said, and the input is not whole.
-fn read_named(rt: &HostRuntime, program: &[u8], w: &Walk, name: &[u8], buf: &mut [u8]) -> cli::Input
+fn read_named(program: &Program, w: &Walk, name: &[u8], buf: &mut [u8]) -> cli::Input
     ensures { IsPrefixLen result.count buf.new }
 {
-    match open(rt, w, name) {
+    match open(program.rt, w, name) {
         Err(e) => {
-            cli::fail(rt, program, name, e);
+            program.fail(name, e);
             cli::Input {
                 whole: false,
                 count: 0,
@@ -265,7 +252,7 @@ fn read_named(rt: &HostRuntime, program: &[u8], w: &Walk, name: &[u8], buf: &mut
             let mut file = source;
             let r = cli::read(&mut file, buf);
             if let Some(e) = r.error {
-                cli::fail(rt, program, name, e);
+                program.fail(name, e);
             }
             r
         }
@@ -273,18 +260,11 @@ fn read_named(rt: &HostRuntime, program: &[u8], w: &Walk, name: &[u8], buf: &mut
 }
 
 // The next file, read to the front of the buffer as far as there is room. Its name stands at the front of `name`.
-pub fn step(
-    rt: &HostRuntime,
-    program: &[u8],
-    w: Walk,
-    piece: &mut [u8],
-    name: &mut [u8],
-    buf: &mut [u8],
-) -> File
+pub fn step(program: &Program, w: Walk, piece: &mut [u8], name: &mut [u8], buf: &mut [u8]) -> File
     ensures prefix_len { IfSome result.name (λ n. IsPrefixLen n name.new) }
     ensures prefix_len_2 { IsPrefixLen result.count buf.new }
 {
-    let next = next_name(rt, program, w, piece, name);
+    let next = next_name(program, w, piece, name);
     let mut v = next.walk;
     let Some(n) = next.name else {
         return File {
@@ -294,13 +274,13 @@ pub fn step(
             count: 0,
         };
     };
-    let r = read_named(rt, program, &v, &name[..n], buf);
+    let r = read_named(program, &v, &name[..n], buf);
     let k = r.count;
     if is_input(&v, &name[..n]) {
         v.input_read = true;
     }
     File {
-        walk: progress::told(rt, v),
+        walk: progress::told(program.rt, v),
         name: Some(n),
         whole: r.whole,
         count: k,
@@ -308,11 +288,11 @@ pub fn step(
 }
 
 // `k of n` and the words, as a line of trouble.
-pub fn say_some(rt: &HostRuntime, program: &[u8], k: usize, n: usize, words: &[u8]) {
+pub fn say_some(program: &Program, k: usize, n: usize, words: &[u8]) {
     let mut out = [0u8; 160];
     let p = print::number(&mut out, 0, k);
     let q = next_word(&mut out, p, b"of");
     let r = next_number(&mut out, q, n);
     let e = next_word(&mut out, r, words);
-    cli::say(rt, program, &out[0..e]);
+    program.say(&out[0..e]);
 }

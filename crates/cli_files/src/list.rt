@@ -3,7 +3,7 @@ ghost use Rattle.std.specs.Prelude.{IfSome};
 ghost use Rattle.cli.specs.Counts.{IsPrefixLen};
 
 use crate::Walk;
-use cli::Source;
+use cli::{Program, Source};
 use print::{next_number, next_word, word};
 use std::io;
 use std::io::Read;
@@ -101,35 +101,35 @@ fn read_line(list: &mut Source, first: Left, piece: &mut [u8], name: &mut [u8]) 
 }
 
 // The line behind those that were names.
-fn refused(rt: &HostRuntime, program: &[u8], w: Walk, why: &[u8]) -> Walk {
+fn refused(program: &Program, w: Walk, why: &[u8]) -> Walk {
     let mut out = [0u8; 128];
     let p = word(&mut out, 0, b"line");
     let q = next_number(&mut out, p, crate::one_more(w.named));
     let e = next_word(&mut out, q, why);
-    cli::say(rt, program, &out[0..e]);
+    program.say(&out[0..e]);
     let mut v = w;
     v.failed = true;
     v
 }
 
 // The line was read.
-fn line_read(rt: &HostRuntime, program: &[u8], w: Walk, line: Line, full: bool) -> Walk {
+fn line_read(program: &Program, w: Walk, line: Line, full: bool) -> Walk {
     if let Some(e) = line.left.error {
-        cli::fail(rt, program, b"the list of names", e);
+        program.fail(b"the list of names", e);
         return w;
     }
     if full {
-        return refused(rt, program, w, b"of the list is longer than a name can be");
+        return refused(program, w, b"of the list is longer than a name can be");
     }
     if line.count > 0 {
         return crate::counted(w);
     }
     if line.newline {
-        return refused(rt, program, w, b"of the list is empty");
+        return refused(program, w, b"of the list is empty");
     }
     let mut v = w;
     if v.named == 0 {
-        cli::say(rt, program, b"the list names no file");
+        program.say(b"the list names no file");
         v.failed = true;
     }
     v
@@ -137,8 +137,7 @@ fn line_read(rt: &HostRuntime, program: &[u8], w: Walk, line: Line, full: bool) 
 
 // The walk's next name, of its list, which is not in it.
 pub fn next_line(
-    rt: &HostRuntime,
-    program: &[u8],
+    program: &Program,
     w: Walk,
     list: Source,
     piece: &mut [u8],
@@ -155,7 +154,7 @@ pub fn next_line(
     v.at = left.at;
     v.end = left.end;
     v.failed = left.error.is_some();
-    let read = line_read(rt, program, v, line, n >= name.len());
+    let read = line_read(program, v, line, n >= name.len());
     let found = if read.failed || n == 0 { None } else { Some(n) };
     Next {
         walk: read,

@@ -1,8 +1,7 @@
 -- What the definitions give in each case, in the form in which a call's answer and a branch arrive. Assumes nothing.
-use Rattle.std.specs.Prelude.{ℕ, ◌+◌, ◌≡◌, refl, Bool, true, false, cond, List, [], ◌∷◌, eqb, ℤ, pos, nat_abs, Option, Some, None, Result, Ok, Err}
+use Rattle.std.specs.Prelude.{ℕ, ◌+◌, ◌≡◌, Bool, true, false, cond, ℤ, pos, nat_abs, Option, Some, None, Result, Ok, Err}
 use Rattle.std.proofs.Math.Path.{sym}
-use Rattle.std.proofs.Common.{ap, ◌∙◌, arith, eq-eqb, eqb-true, SFits}
-use Rattle.std.proofs.Math.Bool.{and-eq-true_iff}
+use Rattle.std.proofs.Common.{ap, ◌∙◌, SFits}
 use Rattle.std.specs.Int.Signed.{lt_z}
 use Rattle.std.specs.Int.{w64}
 use mir.ValLaws.{to_z-of_z}
@@ -15,38 +14,13 @@ use Rattle.questions.specs.declared.Counts.{Counts}
 use Rattle.session.specs.Session.{moved_of, far_moved_of, reversed_of}
 use Rattle.session.specs.declared.Session.{Session}
 use Rattle.session.specs.declared.Changed.{Changed}
-use Rattle.edit.specs.Operations.{same, named, wrong, row_of, move_by, far_by, reverse_of}
+use Rattle.edit.specs.Operations.{named, wrong, row_of, move_by, far_by, reverse_of}
 use Rattle.edit.specs.Steps.{step_of, told_by}
 use Rattle.edit.specs.declared.operations.Operation.{Operation}
 use Rattle.edit.specs.declared.operations.Operation.TheVariants as operation
 use Rattle.edit.specs.declared.operations.Wrong.{Wrong}
 
 -- ---- names
-
-same_self : (s : List ℕ) → same s s ≡ true
-unfolding same
-same_self [] = refl
-same_self (a ∷ s) = rw (eq-eqb a a refl, same_self s)
-
-same_one : (s t : List ℕ) → same s t ≡ true → s ≡ t
-unfolding same
-same_one [] [] h = refl
-same_one [] (b ∷ t) h = absurd (let z : ◌≡◌ {A = ℕ} 0 1 = cc in omega arith)
-same_one (a ∷ s) [] h = absurd (let z : ◌≡◌ {A = ℕ} 0 1 = cc in omega arith)
-same_one (a ∷ s) (b ∷ t) h =
-    let both = (and-eq-true_iff (eqb a b) (same s t)).0 h in
-    let p : a ≡ b = eqb-true a b both.0 in
-    let q : s ≡ t = same_one s t both.1 in
-    cc
-
-pub is_same : (s t : List ℕ) {o : Bool} → (o ≡ true → s ≡ t) → (s ≡ t → o ≡ true) → o ≡ same s t
-is_same s t {o} f g = go o (same s t) f g refl
-  where
-    go : (o b : Bool) → (o ≡ true → s ≡ t) → (s ≡ t → o ≡ true) → same s t ≡ b → o ≡ b
-    go true true f g e = refl
-    go false false f g e = refl
-    go true false f g e = sym (ap (same s) (sym (f refl)) ∙ same_self s) ∙ e
-    go false true f g e = g (same_one s t e)
 
 module _ {o x : Bool} {r : Result Operation Wrong} (a b : Result Operation Wrong) (p : o ≡ x) where
   pub name_is : o ≡ true → r ≡ a → r ≡ cond x a b

@@ -5,7 +5,7 @@
 ghost use Rattle.std.specs.Prelude.{◌<◌};
 
 use crate::operations::{Operation, Wrong};
-use cli::is_option;
+use cli::{Program, is_option};
 use cli_words::number_at;
 use print_lines::rows::least;
 use scene::Scene;
@@ -78,45 +78,46 @@ fn play(rt: &HostRuntime, first: Session, count: usize) -> Session
     s
 }
 
-fn write_scene(rt: &HostRuntime, s: Session) {
+fn write_scene(program: &Program, s: Session) {
     let mut out = [0u8; Scene::LONGEST];
     let n = steps::scene_in(s, &mut out);
     if n == 0 {
-        said::nothing_written(rt);
+        said::nothing_written(program.rt);
         return;
     }
-    cli::answer(rt, b"edit", &out[0..n]);
+    program.answer(&out[0..n]);
 }
 
 // What is said on standard error is about the scene: where that cannot be said, the scene is written all the same.
-fn change(rt: &HostRuntime, s: &[u8], count: usize)
+fn change(program: &Program, s: &[u8], count: usize)
     requires { count < 4194304 }
 {
     let c = session::open(s);
-    said::opening(rt, s, c);
-    write_scene(rt, play(rt, c.session, count));
+    said::opening(program.rt, s, c);
+    write_scene(program, play(program.rt, c.session, count));
 }
 
-fn run(rt: &HostRuntime, file: usize, count: usize)
+fn run(program: &Program, file: usize, count: usize)
     requires { count < 4194304 }
 {
     // One byte more than the longest scene tells that the input is too long.
     let mut s = [0u8; Scene::LONGEST + 1];
-    let r = cli::read_at(rt, b"edit", file, &mut s);
+    let r = program.read_at(file, &mut s);
     let n = r.count;
     if r.whole {
-        change(rt, &s[..n], count);
+        change(program, &s[..n], count);
     }
 }
 
 fn main(rt: HostRuntime) {
-    if said::help(&rt) {
+    let program = said::program(&rt);
+    if program.tells() {
         return;
     }
     // No system passes on so many words.
     let count = least(cli::word_count(&rt), 4194303);
     match words_of(&rt, count) {
-        Ok(file) => run(&rt, file, count),
+        Ok(file) => run(&program, file, count),
         Err(e) => said::usage(&rt, e.word),
     }
 }

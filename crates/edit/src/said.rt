@@ -1,16 +1,15 @@
 // What is said on standard error: a line for the opening and for each operation, and why it is refused.
 use crate::steps;
-use cli::to_error;
-use print::{newline, word};
+use cli::{Program, to_error, to_error_by};
 use scene::{Numbered, Refusal};
 use session::Changed;
 
-// Whether the first word asked for help or for the version.
-pub fn help(rt: &HostRuntime) -> bool {
-    cli::tells(
+// Its usage is told with the word that is wrong.
+pub fn program(rt: &HostRuntime) -> Program {
+    Program {
         rt,
-        b"edit",
-        b"edit [move P X Y Z W | far X Y Z W | reverse F]... [FILE]
+        name: b"edit",
+        help: b"edit [move P X Y Z W | far X Y Z W | reverse F]... [FILE]
 
 Writes the scene in FILE, changed by the operations in their order; - or no FILE is standard input.
 
@@ -25,24 +24,18 @@ nothing is written.
 -h, --help        this
 --version         the version
 ",
-    )
+        usage: b"",
+    }
 }
 
 // The counts after it, or its refusal.
 fn answer(rt: &HostRuntime, c: Changed) {
-    // `counts` and three numbers, each of no more than 20 digits.
-    let mut out = [0u8; 70];
-    let n = steps::line_of(&mut out, c);
-    to_error(rt, &out[0..n]);
+    to_error_by(rt, |out| steps::line_of(out, c));
 }
 
 // The refusal of the scene s.
 fn why(rt: &HostRuntime, s: &[u8], r: Refusal) {
-    let mut out = [0u8; 512];
-    let p = word(&mut out, 0, b"why: ");
-    let q = print_why::sentence(s, r, &mut out, p);
-    let n = newline(&mut out, q);
-    to_error(rt, &out[0..n]);
+    to_error_by(rt, |out| print_why::line(s, r, out, 0));
 }
 
 pub fn opening(rt: &HostRuntime, s: &[u8], c: Changed) {
@@ -64,9 +57,7 @@ pub fn opening(rt: &HostRuntime, s: &[u8], c: Changed) {
 }
 
 fn rule(rt: &HostRuntime, r: Refusal) {
-    let mut out = [0u8; 256];
-    let n = print_refusals::line(&mut out, 0, r.number());
-    to_error(rt, &out[0..n]);
+    to_error_by(rt, |out| print_refusals::line(out, 0, r.number()));
 }
 
 pub fn operation(rt: &HostRuntime, c: Changed) {
@@ -83,8 +74,5 @@ pub fn nothing_written(rt: &HostRuntime) {
 
 // Word k is wrong.
 pub fn usage(rt: &HostRuntime, k: usize) {
-    // A hundred bytes, and a number of no more than 20 digits.
-    let mut out = [0u8; 120];
-    let n = steps::usage_of(&mut out, k);
-    to_error(rt, &out[0..n]);
+    to_error_by(rt, |out| steps::usage_of(out, k));
 }

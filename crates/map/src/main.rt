@@ -2,7 +2,7 @@
 #![tactic(auto)]
 
 use asked::{map_of, row_of};
-use cli::is_option;
+use cli::Program;
 use cli_words::number_at;
 use map_image::Map;
 use map_image::image::image;
@@ -42,45 +42,45 @@ fn wrong_word(rt: &HostRuntime) -> usize {
         .unwrap_or(ENTRIES)
 }
 
-fn write_image(rt: &HostRuntime, s: &[u8], m: Map, out: &mut [u8]) {
+fn write_image(program: &Program, s: &[u8], m: Map, out: &mut [u8]) {
     match image(s, m, out) {
-        Err(f) => said::refused(rt, s, f),
+        Err(f) => said::refused(program.rt, s, f),
         Ok(n) => {
-            cli::answer(rt, b"map", &out[0..n]);
+            program.answer(&out[0..n]);
         }
     }
 }
 
-fn run(rt: &HostRuntime, m: Map) {
+fn run(program: &Program, m: Map) {
     // One byte more than the longest scene tells that the input is too long.
     let mut s = [0u8; Scene::LONGEST + 1];
-    let r = cli::read_at(rt, b"map", FILE, &mut s);
+    let r = program.read_at(FILE, &mut s);
     let n = r.count;
     if r.whole {
         let mut out = [0u8; Scene::LONGEST];
-        write_image(rt, &s[..n], m, &mut out);
+        write_image(program, &s[..n], m, &mut out);
     }
 }
 
 // Behind the map stands a file or nothing.
-fn run_on_file(rt: &HostRuntime, m: Map) {
-    if is_option(rt, FILE) {
-        said::no_option(rt, FILE);
-        return;
+fn run_on_file(program: &Program, m: Map) {
+    let misused = program.is_misused(
+        FILE,
+        b" behind the map",
+        b"nothing may stand behind the file: ",
+    );
+    if !misused {
+        run(program, m);
     }
-    if cli::has_word(rt, FILE + 1) {
-        said::too_many(rt, FILE + 1);
-        return;
-    }
-    run(rt, m);
 }
 
 fn main(rt: HostRuntime) {
-    if said::help(&rt) {
+    let program = said::program(&rt);
+    if program.tells() {
         return;
     }
     match map_asked(&rt) {
-        Some(m) => run_on_file(&rt, m),
-        None => said::no_map(&rt, wrong_word(&rt)),
+        Some(m) => run_on_file(&program, m),
+        None => said::no_map(&program, wrong_word(&rt)),
     }
 }

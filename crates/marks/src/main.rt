@@ -3,12 +3,13 @@
 
 use class_print::ROOM;
 use class_tally::{Report, Tally};
+use cli::Program;
 
-fn help(rt: &HostRuntime) -> bool {
-    cli::tells(
+fn program(rt: &HostRuntime) -> Program {
+    Program {
         rt,
-        b"marks",
-        b"marks [FILE]
+        name: b"marks",
+        help: b"marks [FILE]
 
 Prints the class report of the block in FILE, scenes end to end, no more than 65,536 bytes; - or no FILE is standard input.
 
@@ -22,56 +23,32 @@ A scene refused 1, 2 or 3 is the last that is counted. Of a longer block it prin
 -h, --help        this
 --version         the version
 ",
-    )
-}
-
-fn usage(rt: &HostRuntime) {
-    cli::say(rt, b"marks", b"usage: marks [FILE]");
-}
-
-// Whether the words are an option that there is not, or too many, which is then said.
-fn are_wrong(rt: &HostRuntime) -> bool {
-    if cli::is_option(rt, 1) {
-        cli::say_word(rt, b"marks", b"there is no option ", 1, b"");
-        usage(rt);
-        return true;
+        usage: b"marks: usage: marks [FILE]\n",
     }
-    if cli::has_word(rt, 2) {
-        cli::say_word(
-            rt,
-            b"marks",
-            b"there is one file, and no word behind it: ",
-            2,
-            b"",
-        );
-        usage(rt);
-        return true;
-    }
-    false
 }
 
-fn print(rt: &HostRuntime, r: Report) {
+fn print(program: &Program, r: Report) {
     let mut out = [0u8; ROOM];
     let p = class_print::sheet(&mut out, 0, r);
-    cli::answer(rt, b"marks", &out[0..p]);
+    program.answer(&out[0..p]);
 }
 
-fn mark_block(rt: &HostRuntime) {
+fn mark_block(program: &Program) {
     // One byte more than the longest block tells that the input is too long.
     let mut block = [0u8; Tally::MOST_BYTES + 1];
-    let r = cli::read_at(rt, b"marks", 1, &mut block);
+    let r = program.read_at(1, &mut block);
     let n = r.count;
     if r.whole {
-        print(rt, class_tally::report_of(&block[..n]));
+        print(program, class_tally::report_of(&block[..n]));
     }
 }
 
 fn main(rt: HostRuntime) {
-    if help(&rt) {
+    let program = program(&rt);
+    if program.tells()
+        || program.is_misused(1, b"", b"there is one file, and no word behind it: ")
+    {
         return;
     }
-    if are_wrong(&rt) {
-        return;
-    }
-    mark_block(&rt);
+    mark_block(&program);
 }

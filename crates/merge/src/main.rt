@@ -4,12 +4,11 @@
 
 ghost use Rattle.std.specs.Prelude.{◌≤◌, length};
 
-use check::same;
 use class_print::ROOM;
 use class_read::Reading;
 use class_sum::SumError;
 use class_tally::Report;
-use cli::Source;
+use cli::{Program, Source};
 use cli_words::number_at;
 use print::size;
 use std::io;
@@ -47,7 +46,7 @@ fn reports_asked(rt: &HostRuntime) -> Result<Option<usize>, NoNumber> {
 
 fn is_name(rt: &HostRuntime, i: usize, name: &[u8], room: &mut [u8]) -> bool {
     let n = cli::word_at(rt, i, room);
-    same(&room[..n], name)
+    &room[..n] == name
 }
 
 // Whether a word from the first file on and before word i is the same.
@@ -59,14 +58,14 @@ fn is_named_before(rt: &HostRuntime, first: usize, i: usize) -> bool {
 }
 
 // Whether the words from the first file on are names; the first that is none is told.
-fn are_names(rt: &HostRuntime, first: usize, count: usize) -> bool {
+fn are_names(program: &Program, first: usize, count: usize) -> bool {
     for i in first..count {
-        if cli::is_option(rt, i) {
-            said::no_file(rt, i);
+        if cli::is_option(program.rt, i) {
+            program.refuse_word(b"", i, b": an option where a file must stand");
             return false;
         }
-        if is_named_before(rt, first, i) {
-            said::twice(rt, i);
+        if is_named_before(program.rt, first, i) {
+            said::twice(program, i);
             return false;
         }
     }
@@ -123,36 +122,36 @@ fn stands(rt: &HostRuntime, name: &[u8], r: Reading, bytes: usize) -> bool {
 }
 
 // The same of a text that was read. One that has no byte stands only where no other is asked for.
-fn text_stands(rt: &HostRuntime, name: &[u8], t: Text, may_be_empty: bool) -> bool {
+fn text_stands(program: &Program, name: &[u8], t: Text, may_be_empty: bool) -> bool {
     if let Some(e) = t.error {
-        cli::fail(rt, b"merge", name, e);
+        program.fail(name, e);
         return false;
     }
     if t.bytes == 0 && !may_be_empty {
-        said::empty(rt, name);
+        said::empty(program.rt, name);
         return false;
     }
     let r = t.reading;
-    stands(rt, name, r, t.bytes)
+    stands(program.rt, name, r, t.bytes)
 }
 
 // Reads the input that word i names, from what is known before it; what is known behind it, where it stands.
-fn read_input(rt: &HostRuntime, i: usize, alone: bool, known: Reading) -> Option<Reading> {
+fn read_input(program: &Program, i: usize, alone: bool, known: Reading) -> Option<Reading> {
     let mut name = [0u8; 4096];
-    let n = name_of(rt, i, &mut name);
-    let mut file = cli::open_at(rt, b"merge", i)?;
+    let n = name_of(program.rt, i, &mut name);
+    let mut file = program.open_at(i)?;
     let t = read_text(&mut file, known);
-    text_stands(rt, &name[0..n], t, alone).then_some(t.reading)
+    text_stands(program, &name[0..n], t, alone).then_some(t.reading)
 }
 
 // Reads one input after the other, where all stand.
-fn read_inputs(rt: &HostRuntime, first: usize, count: usize) -> Option<Reading>
+fn read_inputs(program: &Program, first: usize, count: usize) -> Option<Reading>
     requires { first ≤ 3 }
 {
-    let alone = cli::is_standard(rt, first) && count <= first + 1;
-    let mut known = read_input(rt, first, alone, class_sum::nothing())?;
+    let alone = cli::is_standard(program.rt, first) && count <= first + 1;
+    let mut known = read_input(program, first, alone, class_sum::nothing())?;
     for i in first + 1..count {
-        known = read_input(rt, i, false, known)?;
+        known = read_input(program, i, false, known)?;
     }
     Some(known)
 }
@@ -168,37 +167,38 @@ fn is_asked(rt: &HostRuntime, asked: Option<usize>, read: usize) -> bool {
     true
 }
 
-fn print(rt: &HostRuntime, r: Report) {
+fn print(program: &Program, r: Report) {
     let mut out = [0u8; ROOM];
     let p = class_print::sheet(&mut out, 0, r);
-    cli::answer(rt, b"merge", &out[0..p]);
+    program.answer(&out[0..p]);
 }
 
-fn merge_inputs(rt: &HostRuntime, first: usize, asked: Option<usize>)
+fn merge_inputs(program: &Program, first: usize, asked: Option<usize>)
     requires { first ≤ 3 }
 {
-    let count = cli::word_count(rt);
-    if !are_names(rt, first, count) {
+    let count = cli::word_count(program.rt);
+    if !are_names(program, first, count) {
         return;
     }
-    let Some(r) = read_inputs(rt, first, count) else {
+    let Some(r) = read_inputs(program, first, count) else {
         return;
     };
-    if !is_asked(rt, asked, r.reports) {
+    if !is_asked(program.rt, asked, r.reports) {
         return;
     }
     if let Ok(s) = class_sum::sum_of(r) {
-        print(rt, s);
+        print(program, s);
     }
 }
 
 fn main(rt: HostRuntime) {
-    if said::help(&rt) {
+    let program = said::program(&rt);
+    if program.tells() {
         return;
     }
     match reports_asked(&rt) {
-        Ok(None) => merge_inputs(&rt, 1, None),
-        Ok(asked) => merge_inputs(&rt, 3, asked),
-        Err(_) => said::no_number(&rt),
+        Ok(None) => merge_inputs(&program, 1, None),
+        Ok(asked) => merge_inputs(&program, 3, asked),
+        Err(_) => program.refuse(b"--reports: no number stands behind it"),
     }
 }

@@ -1,12 +1,11 @@
 // What is said: help, and on standard error what is wrong with the words, with an input or with the number of reports.
-use cli::to_error;
+use cli::{Program, to_error};
 
-// Whether the first word asked for help or for the version.
-pub fn help(rt: &HostRuntime) -> bool {
-    cli::tells(
+pub fn program(rt: &HostRuntime) -> Program {
+    Program {
         rt,
-        b"merge",
-        b"merge [--reports N] [FILE...]
+        name: b"merge",
+        help: b"merge [--reports N] [FILE...]
 
 Prints the report of all blocks whose class reports stand in the files, each of which has one or several, end to end; - or no FILE is
 standard input. With --reports N it prints the report only where the files have exactly N whole reports in all.
@@ -17,25 +16,12 @@ report is told on standard error, and so is a number of reports that is not N. N
 -h, --help        this
 --version         the version
 ",
-    )
+        usage: b"merge: usage: merge [--reports N] [FILE...]\n",
+    }
 }
 
-fn usage(rt: &HostRuntime) {
-    cli::say(rt, b"merge", b"usage: merge [--reports N] [FILE...]");
-}
-
-pub fn no_number(rt: &HostRuntime) {
-    cli::say(rt, b"merge", b"--reports: no number stands behind it");
-    usage(rt);
-}
-
-pub fn no_file(rt: &HostRuntime, i: usize) {
-    cli::say_word(rt, b"merge", b"", i, b": an option where a file must stand");
-    usage(rt);
-}
-
-pub fn twice(rt: &HostRuntime, i: usize) {
-    cli::say_word(rt, b"merge", b"", i, b": named twice");
+pub fn twice(program: &Program, i: usize) {
+    program.say_word(b"", i, b": named twice");
 }
 
 fn say_number(rt: &HostRuntime, n: usize) {

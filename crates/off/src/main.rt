@@ -2,7 +2,7 @@
 // object text. What is refused is told on standard error.
 #![tactic(auto)]
 
-use cli::{is_option, is_word, to_error};
+use cli::{Program, is_option, is_word, to_error};
 use off_items::numbers::{Number, is_whole, signed_number};
 use off_solids::points::Point;
 
@@ -12,16 +12,11 @@ mod writing;
 // The longest word that the system passes on.
 const WORD: usize = 131072;
 
-pub fn write(rt: &HostRuntime, text: &[u8]) {
-    cli::answer(rt, b"off", text);
-}
-
-// Whether the first word asked for help or for the version.
-fn help(rt: &HostRuntime) -> bool {
-    cli::tells(
+fn program(rt: &HostRuntime) -> Program {
+    Program {
         rt,
-        b"off",
-        b"off FIRST SECOND X Y Z W
+        name: b"off",
+        help: b"off FIRST SECOND X Y Z W
 off --write K [FILE]
 
 Writes the scene whose solids A and B are those of FIRST and SECOND, files in the OFF or 4OFF text form, and whose far point is X, Y, Z
@@ -33,16 +28,10 @@ What makes no scene is told on standard error: `refused N P`, and why. Nothing i
 -h, --help        this
 --version         the version
 ",
-    )
-}
-
-fn say_usage(rt: &HostRuntime) {
-    cli::say(rt, b"off", b"usage: off FIRST SECOND X Y Z W");
-    cli::say(
-        rt,
-        b"off",
-        b"usage: off --write 1 [FILE], or off --write 2 [FILE]",
-    );
+        usage: b"off: usage: off FIRST SECOND X Y Z W
+off: usage: off --write 1 [FILE], or off --write 2 [FILE]
+",
+    }
 }
 
 // Whether word i is a whole number; and the number that it tells.
@@ -93,44 +82,41 @@ fn has_files(rt: &HostRuntime) -> bool {
     cli::word_count(rt) == 7 && !is_option(rt, 1) && !is_option(rt, 2)
 }
 
-fn make(rt: &HostRuntime) {
-    if !has_files(rt) {
-        say_usage(rt);
+fn make(program: &Program) {
+    if !has_files(program.rt) {
+        to_error(program.rt, program.usage);
         return;
     }
-    if let Some(i) = wrong_number(rt) {
-        say_wrong(rt, i);
+    if let Some(i) = wrong_number(program.rt) {
+        say_wrong(program.rt, i);
         return;
     }
-    if is_word(rt, 1, b"-") && is_word(rt, 2, b"-") {
-        cli::say(
-            rt,
-            b"off",
-            b"one of the two files may be standard input, and not both",
-        );
+    if is_word(program.rt, 1, b"-") && is_word(program.rt, 2, b"-") {
+        program.say(b"one of the two files may be standard input, and not both");
         return;
     }
     making::write_files(
-        rt,
+        program,
         Point {
-            x: number(rt, 3),
-            y: number(rt, 4),
-            z: number(rt, 5),
-            w: number(rt, 6),
+            x: number(program.rt, 3),
+            y: number(program.rt, 4),
+            z: number(program.rt, 5),
+            w: number(program.rt, 6),
         },
     );
 }
 
 fn main(rt: HostRuntime) {
-    if help(&rt) {
+    let program = program(&rt);
+    if program.tells() {
         return;
     }
     if !is_word(&rt, 1, b"--write") {
-        make(&rt);
+        make(&program);
         return;
     }
     match solid_asked(&rt) {
-        Some(k) => writing::write_solid(&rt, k),
-        None => say_usage(&rt),
+        Some(k) => writing::write_solid(&program, k),
+        None => to_error(&rt, program.usage),
     }
 }

@@ -1,6 +1,5 @@
 // The scene of two files and a far point, on standard output; or on standard error why there is none.
-use crate::write;
-use cli::to_error;
+use cli::{Program, to_error, to_error_by};
 use off_scene::Fault;
 use off_solids::points::Point;
 use scene::Scene;
@@ -12,16 +11,16 @@ const MOST: usize = ROOM - 1;
 
 // The refusal and its words, of which a word of the text may be a part.
 fn say_fault(rt: &HostRuntime, a: &[u8], b: &[u8], f: Fault) {
-    let mut out = [0u8; 512];
-    let p = off_words::fault(&mut out, 0, a, b, f);
-    to_error(rt, &out[0..p]);
+    to_error_by(rt, |out| off_words::fault(out, 0, a, b, f));
 }
 
-fn write_scene(rt: &HostRuntime, a: &[u8], b: &[u8], far: Point) {
+fn write_scene(program: &Program, a: &[u8], b: &[u8], far: Point) {
     let mut out = [0u8; Scene::LONGEST];
     match off_scene::scene_of(a, b, far, &mut out) {
-        Ok(n) => write(rt, &out[..n]),
-        Err(f) => say_fault(rt, a, b, f),
+        Ok(n) => {
+            program.answer(&out[..n]);
+        }
+        Err(f) => say_fault(program.rt, a, b, f),
     }
 }
 
@@ -32,31 +31,31 @@ fn say_long(rt: &HostRuntime, i: usize) {
     to_error(rt, b": longer than 262143 bytes\n");
 }
 
-fn write_fitting(rt: &HostRuntime, a: &[u8], b: &[u8], far: Point) {
+fn write_fitting(program: &Program, a: &[u8], b: &[u8], far: Point) {
     if a.len() > MOST {
-        say_long(rt, 1);
+        say_long(program.rt, 1);
         return;
     }
     if b.len() > MOST {
-        say_long(rt, 2);
+        say_long(program.rt, 2);
         return;
     }
-    write_scene(rt, a, b, far);
+    write_scene(program, a, b, far);
 }
 
 // The files that words 1 and 2 name.
-pub fn write_files(rt: &HostRuntime, far: Point) {
+pub fn write_files(program: &Program, far: Point) {
     let mut a = [0u8; ROOM];
-    let first = cli::read_at(rt, b"off", 1, &mut a);
+    let first = program.read_at(1, &mut a);
     if !first.whole {
         return;
     }
     let mut b = [0u8; ROOM];
-    let second = cli::read_at(rt, b"off", 2, &mut b);
+    let second = program.read_at(2, &mut b);
     if !second.whole {
         return;
     }
     let m = first.count;
     let n = second.count;
-    write_fitting(rt, &a[..m], &b[..n], far);
+    write_fitting(program, &a[..m], &b[..n], far);
 }

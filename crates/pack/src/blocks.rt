@@ -2,6 +2,7 @@
 // at once, and renamed when it is whole.
 ghost use Rattle.std.specs.Prelude.{◌≤◌, length};
 
+use cli::Program;
 use print::{number, word};
 use std::fs::{File, OpenOptions};
 use std::io::{ErrorKind, Write};
@@ -52,7 +53,7 @@ fn is_taken(rt: &HostRuntime, path: &[u8]) -> bool {
     }
 }
 
-fn say_taken(rt: &HostRuntime, program: &[u8], path: &[u8]) {
+fn say_taken(program: &Program, path: &[u8]) {
     let mut out = [0u8; 4160];
     let p = word(&mut out, 0, path);
     let e = word(
@@ -60,7 +61,7 @@ fn say_taken(rt: &HostRuntime, program: &[u8], path: &[u8]) {
         p,
         b": there is one already; no block is overwritten",
     );
-    cli::say(rt, program, &out[0..e]);
+    program.say(&out[0..e]);
 }
 
 fn filled(file: File, block: &[u8]) -> io::Result<()> {
@@ -69,11 +70,11 @@ fn filled(file: File, block: &[u8]) -> io::Result<()> {
     cli::settle(&out)
 }
 
-fn is_filled(rt: &HostRuntime, program: &[u8], file: File, part: &[u8], block: &[u8]) -> bool {
+fn is_filled(program: &Program, file: File, part: &[u8], block: &[u8]) -> bool {
     match filled(file, block) {
         Ok(()) => true,
         Err(e) => {
-            cli::fail(rt, program, part, e);
+            program.fail(part, e);
             false
         }
     }
@@ -84,25 +85,18 @@ fn renamed(rt: &HostRuntime, part: &[u8], path: &[u8]) -> io::Result<()> {
 }
 
 // The part is made, filled and put in place.
-fn is_placed(
-    rt: &HostRuntime,
-    program: &[u8],
-    file: File,
-    part: &[u8],
-    path: &[u8],
-    block: &[u8],
-) -> bool {
-    if is_taken(rt, path) {
-        say_taken(rt, program, path);
+fn is_placed(program: &Program, file: File, part: &[u8], path: &[u8], block: &[u8]) -> bool {
+    if is_taken(program.rt, path) {
+        say_taken(program, path);
         return false;
     }
-    if !is_filled(rt, program, file, part, block) {
+    if !is_filled(program, file, part, block) {
         return false;
     }
-    match renamed(rt, part, path) {
+    match renamed(program.rt, part, path) {
         Ok(()) => true,
         Err(e) => {
-            cli::fail(rt, program, path, e);
+            program.fail(path, e);
             false
         }
     }
@@ -119,16 +113,16 @@ fn removed(rt: &HostRuntime, part: &[u8]) -> io::Result<()> {
     fs::remove_file(rt, cli::path(part)?)
 }
 
-fn made(rt: &HostRuntime, program: &[u8], part: &[u8], path: &[u8], block: &[u8]) -> bool {
-    match created(rt, part) {
+fn made(program: &Program, part: &[u8], path: &[u8], block: &[u8]) -> bool {
+    match created(program.rt, part) {
         Err(e) => {
-            cli::fail(rt, program, part, e);
+            program.fail(part, e);
             false
         }
         Ok(file) => {
-            let placed = is_placed(rt, program, file, part, path, block);
+            let placed = is_placed(program, file, part, path, block);
             if !placed {
-                removed(rt, part).is_ok();
+                removed(program.rt, part).is_ok();
             }
             placed
         }
@@ -136,15 +130,15 @@ fn made(rt: &HostRuntime, program: &[u8], part: &[u8], path: &[u8], block: &[u8]
 }
 
 // Whether it stands in its place; what can't be done is said.
-pub fn write(rt: &HostRuntime, program: &[u8], dir: &[u8], n: usize, block: &[u8]) -> bool {
+pub fn write(program: &Program, dir: &[u8], n: usize, block: &[u8]) -> bool {
     let mut path = [0u8; 4096];
     if dir.len() > 4096 - NAME {
-        cli::say(rt, program, b"the folder's name is too long");
+        program.say(b"the folder's name is too long");
         return false;
     }
     let e = put_path(&mut path, dir, n);
     let mut part = [0u8; 4096];
     let p = put_path(&mut part, dir, n);
     let q = word(&mut part, p, b".part");
-    made(rt, program, &part[0..q], &path[0..e], block)
+    made(program, &part[0..q], &path[0..e], block)
 }

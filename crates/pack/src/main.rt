@@ -8,6 +8,7 @@ ghost use Rattle.pack.specs.Packed.{passes};
 
 use class_tally::Tally;
 use class_tally::files::sum;
+use cli::Program;
 use cli_files::{MOST_FILES, Walk, progress};
 use print::{newline, next_number, word};
 use scene::{Numbered, Refusal, Scene};
@@ -30,22 +31,22 @@ struct Packing {
 }
 
 // The block's line on standard output.
-fn tell(rt: &HostRuntime, program: &[u8], p: &Packing) -> bool {
+fn tell(program: &Program, p: &Packing) -> bool {
     let mut out = [0u8; 128];
     let a = blocks::put_name(&mut out, 0, p.number);
     let b = next_number(&mut out, a, p.scenes);
     let c = next_number(&mut out, b, p.at);
     let e = newline(&mut out, c);
-    cli::write(rt, program, &out[0..e])
+    program.write(&out[0..e])
 }
 
 // The block is written, and the next is empty.
-fn written(rt: &HostRuntime, program: &[u8], p: Packing, dir: &[u8], block: &[u8]) -> Packing {
+fn written(program: &Program, p: Packing, dir: &[u8], block: &[u8]) -> Packing {
     let mut q = p;
     if q.at == 0 {
         return q;
     }
-    if !blocks::write(rt, program, dir, q.number, block) || !tell(rt, program, &q) {
+    if !blocks::write(program, dir, q.number, block) || !tell(program, &q) {
         q.failed = true;
         q.over = true;
         return q;
@@ -66,29 +67,29 @@ fn passes(j: Result<(), Refusal>) -> bool
     }
 }
 
-fn say_refused(rt: &HostRuntime, program: &[u8], name: &[u8], r: Refusal) {
+fn say_refused(program: &Program, name: &[u8], r: Refusal) {
     let mut out = [0u8; 4160];
     let a = word(&mut out, 0, name);
     let b = word(&mut out, a, b": left out, refused");
     let c = next_number(&mut out, b, r.number());
     let e = next_number(&mut out, c, r.place());
-    cli::say(rt, program, &out[0..e]);
+    program.say(&out[0..e]);
 }
 
-fn say_judged(rt: &HostRuntime, program: &[u8], name: &[u8], j: Result<(), Refusal>) {
+fn say_judged(program: &Program, name: &[u8], j: Result<(), Refusal>) {
     if let Err(r) = j {
-        say_refused(rt, program, name, r);
+        say_refused(program, name, r);
     }
 }
 
 // What can't is said.
-fn is_whole(rt: &HostRuntime, program: &[u8], name: &[u8], s: &[u8]) -> bool
+fn is_whole(program: &Program, name: &[u8], s: &[u8]) -> bool
     ensures { result ≡ passes (judged s.now) }
 {
     let j = judge::judge(s);
     let whole = passes(j);
     if !whole {
-        say_judged(rt, program, name, j);
+        say_judged(program, name, j);
     }
     whole
 }
@@ -101,19 +102,12 @@ fn has_room(at: usize, n: usize) -> bool {
 }
 
 // One scene more, in this block or the next.
-fn put(
-    rt: &HostRuntime,
-    program: &[u8],
-    p: Packing,
-    dir: &[u8],
-    s: &[u8],
-    block: &mut [u8],
-) -> Packing {
+fn put(program: &Program, p: Packing, dir: &[u8], s: &[u8], block: &mut [u8]) -> Packing {
     let mut q = p;
     let at = q.at;
     if !has_room(at, s.len()) {
         if at <= block.len() {
-            q = written(rt, program, q, dir, &block[0..at]);
+            q = written(program, q, dir, &block[0..at]);
         }
         if q.failed {
             return q;
@@ -132,8 +126,7 @@ fn left_out(p: Packing) -> Packing {
 
 // A file that was read whole, or not.
 fn taken(
-    rt: &HostRuntime,
-    program: &[u8],
+    program: &Program,
     p: Packing,
     whole: bool,
     dir: &[u8],
@@ -144,16 +137,15 @@ fn taken(
     if !whole {
         return left_out(p);
     }
-    if !is_whole(rt, program, name, s) {
+    if !is_whole(program, name, s) {
         return left_out(p);
     }
-    put(rt, program, p, dir, s, block)
+    put(program, p, dir, s, block)
 }
 
 // The next file, where there is one.
 fn packed(
-    rt: &HostRuntime,
-    program: &[u8],
+    program: &Program,
     p: Packing,
     dir: &[u8],
     piece: &mut [u8],
@@ -162,19 +154,18 @@ fn packed(
     block: &mut [u8],
 ) -> Packing {
     let mut q = p;
-    let r = cli_files::step(rt, program, q.walk, piece, name, s);
+    let r = cli_files::step(program, q.walk, piece, name, s);
     q.walk = r.walk;
     let n = r.count;
     let Some(k) = r.name else {
         q.over = true;
         return q;
     };
-    taken(rt, program, q, r.whole, dir, &name[..k], &s[..n], block)
+    taken(program, q, r.whole, dir, &name[..k], &s[..n], block)
 }
 
 fn all_packed(
-    rt: &HostRuntime,
-    program: &[u8],
+    program: &Program,
     first: Packing,
     dir: &[u8],
     piece: &mut [u8],
@@ -184,7 +175,7 @@ fn all_packed(
 ) -> Packing {
     let mut p = first;
     for _ in 0..MOST_FILES {
-        p = packed(rt, program, p, dir, piece, name, s, block);
+        p = packed(program, p, dir, piece, name, s, block);
         if p.over {
             break;
         }
@@ -193,30 +184,24 @@ fn all_packed(
 }
 
 // The last block. What was left out, and that there is more, is said.
-fn finish(rt: &HostRuntime, program: &[u8], p: Packing, dir: &[u8], block: &[u8]) {
+fn finish(program: &Program, p: Packing, dir: &[u8], block: &[u8]) {
     let mut q = p;
     progress::ended(&mut q.walk);
     let at = q.at;
     if !q.failed && at <= block.len() {
-        q = written(rt, program, q, dir, &block[0..at]);
+        q = written(program, q, dir, &block[0..at]);
     }
     if q.left_out > 0 {
-        cli_files::say_some(
-            rt,
-            program,
-            q.left_out,
-            q.walk.named,
-            b"files were left out",
-        );
+        cli_files::say_some(program, q.left_out, q.walk.named, b"files were left out");
     }
     if q.failed || q.walk.failed {
-        cli::say(rt, program, b"stopped: not every file is packed");
+        program.say(b"stopped: not every file is packed");
         return;
     }
-    cli::finish(rt, program);
+    program.finish();
 }
 
-fn run(rt: &HostRuntime, program: &[u8], walk: Walk, dir: &[u8]) {
+fn run(program: &Program, walk: Walk, dir: &[u8]) {
     let mut piece = [0u8; 4096];
     let mut name = [0u8; 4096];
     // One byte more than the longest scene tells that a file is too long.
@@ -232,9 +217,9 @@ fn run(rt: &HostRuntime, program: &[u8], walk: Walk, dir: &[u8]) {
         failed: false,
     };
     let p = all_packed(
-        rt, program, first, dir, &mut piece, &mut name, &mut s, &mut block,
+        program, first, dir, &mut piece, &mut name, &mut s, &mut block,
     );
-    finish(rt, program, p, dir, &block);
+    finish(program, p, dir, &block);
 }
 
 fn make_folder(rt: &HostRuntime, name: &[u8]) -> io::Result<()> {
@@ -242,41 +227,47 @@ fn make_folder(rt: &HostRuntime, name: &[u8]) -> io::Result<()> {
 }
 
 // The folder that word i names, made where it is missing.
-fn run_in(rt: &HostRuntime, program: &[u8], walk: Walk, i: usize) {
+fn run_in(program: &Program, walk: Walk, i: usize) {
     let mut dir = [0u8; 4096];
-    let Ok(n) = rt.arg(i, &mut dir) else {
-        cli::fail_long(rt, program, b"the name of the folder");
+    let Ok(n) = program.rt.arg(i, &mut dir) else {
+        program.fail_long(b"the name of the folder");
         return;
     };
-    if let Err(e) = make_folder(rt, &dir[..n]) {
+    if let Err(e) = make_folder(program.rt, &dir[..n]) {
         if e.kind() != ErrorKind::AlreadyExists {
-            cli::fail(rt, program, &dir[..n], e);
+            program.fail(&dir[..n], e);
             return;
         }
     }
-    run(rt, program, walk, &dir[..n]);
+    run(program, walk, &dir[..n]);
 }
 
-fn start(rt: &HostRuntime, program: &[u8], usage: &[u8]) {
-    let w = cli_files::begin(rt, program, 1, usage);
+fn start(program: &Program) {
+    let w = cli_files::begin(program, 1);
     if w.failed {
         return;
     }
-    let i = cli_files::first_word(rt);
-    if cli::is_option(rt, i) {
-        cli_files::refuse(rt, program, b"the first word is the blocks' folder", usage);
+    let i = cli_files::first_word(program.rt);
+    if cli::is_option(program.rt, i) {
+        program.refuse(b"the first word is the blocks' folder");
         return;
     }
-    run_in(rt, program, w, i);
+    run_in(program, w, i);
 }
 
-fn main(rt: HostRuntime) {
-    start(
-        &rt,
-        b"pack",
-        b"usage: pack [--progress] DIR FILE...\n       pack [--progress] DIR --names LIST\n\
+// Its help is what a wrong use is told.
+const HELP: &[u8] =
+    b"usage: pack [--progress] DIR FILE...\n       pack [--progress] DIR --names LIST\n\
           Puts the scenes end to end into blocks DIR/00001.block and so on, each of whole scenes and at most 65,536 bytes. Prints a\n\
           line a block: name, scenes, bytes. A file that can't be read or is refused with 1, 2 or 3 is left out, and said.\n\
-          DIR is made where it is missing; no block is overwritten. LIST has a name a line; - is standard input.\n",
-    );
+          DIR is made where it is missing; no block is overwritten. LIST has a name a line; - is standard input.\n";
+
+fn main(rt: HostRuntime) {
+    let program = Program {
+        rt: &rt,
+        name: b"pack",
+        help: HELP,
+        usage: HELP,
+    };
+    start(&program);
 }

@@ -6,7 +6,7 @@ ghost use Rattle.scene.specs.View.{view_of};
 ghost use Rattle.judge.specs.Judge.{judged};
 ghost use Rattle.survey_scene.specs.Surveys.{SurveyIs};
 
-use cli::is_option;
+use cli::Program;
 use pierce_engine::Plain;
 use print_lines::refused;
 use print_lines::rows::least;
@@ -32,17 +32,32 @@ const NUMBERS: usize = 3 * (MOST_PAIRS / 6 + 1);
 
 const TEXT: usize = HELD - SPARE - SCENE - TABLES - 2 * NUMBERS;
 
-fn write(rt: &HostRuntime, text: &[u8]) -> bool {
-    cli::write(rt, b"report", text)
-}
+fn program(rt: &HostRuntime) -> Program {
+    Program {
+        rt,
+        name: b"report",
+        help: b"report [FILE]
 
-fn finish(rt: &HostRuntime) {
-    cli::finish(rt, b"report");
+Prints the report of the scene in FILE; - or no FILE is standard input.
+
+    scene A1 A2 B1 B2    vertices and faces of A, vertices and faces of B
+    verdict V            cross, a-in-b, b-in-a or apart
+    inside A B           how many vertices of A are enclosed by B, and of B by A
+    pairs N              how often an edge of one solid pierces a face of the other; then a line for each:
+    U V F                the edge's two points, the lower first, and the face
+
+Of a refused scene it prints `refused N P`, the refusal's number and place; `ask why` says more.
+
+-h, --help        this
+--version         the version
+",
+        usage: b"report: usage: report [FILE]\n",
+    }
 }
 
 // The n rows of the listing. A write that fails is the last.
 fn write_rows(
-    rt: &HostRuntime,
+    program: &Program,
     t: Survey,
     s: &[u8],
     aends: &Ends,
@@ -64,17 +79,17 @@ fn write_rows(
         if r.count == 0 {
             return;
         }
-        if !write(rt, &out[..end]) {
+        if !program.write(&out[..end]) {
             return;
         }
         from += least(n - from, r.count);
     }
-    finish(rt);
+    program.finish();
 }
 
 // The head, and then the rows.
 fn write_read(
-    rt: &HostRuntime,
+    program: &Program,
     t: Survey,
     s: &[u8],
     aends: &Ends,
@@ -88,12 +103,12 @@ fn write_read(
 {
     let top = head_read(t, s, aends, amasks, bends, bmasks, out);
     let end = top.end;
-    if write(rt, &out[..end]) {
-        write_rows(rt, t, s, aends, amasks, bends, bmasks, top.rows, out);
+    if program.write(&out[..end]) {
+        write_rows(program, t, s, aends, amasks, bends, bmasks, top.rows, out);
     }
 }
 
-fn write_accepted(rt: &HostRuntime, s: &[u8], out: &mut [u8])
+fn write_accepted(program: &Program, s: &[u8], out: &mut [u8])
     requires { judged s.now ≡ Ok tt }
 {
     let mut aends: Ends = [0; ENDS];
@@ -101,83 +116,34 @@ fn write_accepted(rt: &HostRuntime, s: &[u8], out: &mut [u8])
     let mut bends: Ends = [0; ENDS];
     let mut bmasks: Masks = [0; ENDS];
     let t = survey_of(Plain, s, &mut aends, &mut amasks, &mut bends, &mut bmasks);
-    write_read(rt, t, s, &aends, &amasks, &bends, &bmasks, out);
+    write_read(program, t, s, &aends, &amasks, &bends, &bmasks, out);
 }
 
-fn write_refused(rt: &HostRuntime, r: Refusal, out: &mut [u8]) {
+fn write_refused(program: &Program, r: Refusal, out: &mut [u8]) {
     let end = refused(out, 0, r);
-    if write(rt, &out[..end]) {
-        finish(rt);
+    if program.write(&out[..end]) {
+        program.finish();
     }
 }
 
-fn write_report(rt: &HostRuntime, s: &[u8]) {
+fn write_report(program: &Program, s: &[u8]) {
     let mut out = [0u8; TEXT];
     let j = judge::judge(s);
     match j {
-        Err(r) => write_refused(rt, r, &mut out),
-        Ok(()) => write_accepted(rt, s, &mut out),
+        Err(r) => write_refused(program, r, &mut out),
+        Ok(()) => write_accepted(program, s, &mut out),
     }
-}
-
-fn help(rt: &HostRuntime) -> bool {
-    cli::tells(
-        rt,
-        b"report",
-        b"report [FILE]
-
-Prints the report of the scene in FILE; - or no FILE is standard input.
-
-    scene A1 A2 B1 B2    vertices and faces of A, vertices and faces of B
-    verdict V            cross, a-in-b, b-in-a or apart
-    inside A B           how many vertices of A are enclosed by B, and of B by A
-    pairs N              how often an edge of one solid pierces a face of the other; then a line for each:
-    U V F                the edge's two points, the lower first, and the face
-
-Of a refused scene it prints `refused N P`, the refusal's number and place; `ask why` says more.
-
--h, --help        this
---version         the version
-",
-    )
-}
-
-fn usage(rt: &HostRuntime) {
-    cli::say(rt, b"report", b"usage: report [FILE]");
-}
-
-// Whether the words are an option that there is not, or too many, which is then said.
-fn are_wrong(rt: &HostRuntime) -> bool {
-    if is_option(rt, 1) {
-        cli::say_word(rt, b"report", b"there is no option ", 1, b"");
-        usage(rt);
-        return true;
-    }
-    if cli::has_word(rt, 2) {
-        cli::say_word(
-            rt,
-            b"report",
-            b"nothing may stand behind the file: ",
-            2,
-            b"",
-        );
-        usage(rt);
-        return true;
-    }
-    false
 }
 
 fn main(rt: HostRuntime) {
-    if help(&rt) {
-        return;
-    }
-    if are_wrong(&rt) {
+    let program = program(&rt);
+    if program.tells() || program.is_misused(1, b"", b"nothing may stand behind the file: ") {
         return;
     }
     let mut s = [0u8; SCENE];
-    let r = cli::read_at(&rt, b"report", 1, &mut s);
+    let r = program.read_at(1, &mut s);
     let n = r.count;
     if r.whole {
-        write_report(&rt, &s[..n]);
+        write_report(&program, &s[..n]);
     }
 }

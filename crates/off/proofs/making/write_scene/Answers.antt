@@ -6,6 +6,6 @@ use Rattle.off.proofs.making.write_scene.Goals as goal
 pub slice_bounds-out-end : goal.slice_bounds-out-end
 slice_bounds-out-end c = omega (arith, made_room _ _ _ _ (sym c.scene_of.ensures.answer ∙ c.in-Ok.is))
 
-pub slice_bounds-write-end : goal.slice_bounds-write-end
-slice_bounds-write-end c =
+pub slice_bounds-answer-end : goal.slice_bounds-answer-end
+slice_bounds-answer-end c =
     sym (length-take-le _ _ (omega (arith, made_room _ _ _ _ (sym c.scene_of.ensures.answer ∙ c.in-Ok.is))))
