@@ -1,5 +1,5 @@
 -- What a call from C answers: numbers, 0 where there is nothing to say. Assumes nothing.
-use Rattle.std.specs.Prelude.{◌≡◌, refl, List, ℕ, length, Ok, Err}
+use Rattle.std.specs.Prelude.{◌≡◌, refl, List, ℕ, length, Result, Ok, Err}
 use Rattle.std.proofs.Common.{sym, ap, ◌∙◌}
 use Rattle.scene.specs.Refusal.{number_of, place_of}
 use Rattle.scene.specs.View.{view_of}
@@ -11,13 +11,16 @@ use Rattle.questions.specs.Answers.{or_refuse, listing_in, inside_fault, inside_
 use Rattle.questions.specs.Types.{Listed}
 use Rattle.questions.specs.Types.{Enclosing}
 
+-- the number or the place of a refusal, 0 where there is none
+abbrev pub of_refusal : {T F : Type 0} → (F → ℕ) → Result T F → ℕ
+of_refusal f (Ok _) = 0
+of_refusal f (Err e) = f e
+
 abbrev pub refusal_number : Judged → ℕ
-refusal_number (Ok _) = 0
-refusal_number (Err r) = number_of r
+refusal_number j = of_refusal number_of j
 
 abbrev pub refusal_place : Judged → ℕ
-refusal_place (Ok _) = 0
-refusal_place (Err r) = place_of r
+refusal_place j = of_refusal place_of j
 
 -- the number of pierced pairs
 unfoldable pub pairs_of : List ℕ → ℕ

@@ -1,6 +1,6 @@
 -- What a change of a scene in place answers to C: 0, or the number of its refusal. Assumes nothing.
 use Rattle.std.specs.Prelude.{◌≡◌, List, ℕ, ℤ}
-use Rattle.std.proofs.Common.{sym, ap, ◌∙◌, subst, SFits, to_z, of_z, to_z-of_z}
+use Rattle.std.proofs.Common.{ap, ◌∙◌, subst, SFits, to_z, of_z, to_z-of_z}
 use Rattle.std.specs.Int.{w64}
 use Rattle.scene.specs.declared.Row.{Row}
 use Rattle.judge.specs.Judge.{Judged}
@@ -15,10 +15,10 @@ pub record IsAnswered (fault : Judged) (s t s' : List ℕ) (r : ℕ) : Type 0 wh
   pub answer : r ≡ refusal_number fault
   pub held : s' ≡ kept_or fault s t
 
--- by the case x that the change's answer o came out as
-pub answered_by : {fault o x : Judged} (s t : List ℕ) {l : List ℕ} {n : ℕ} → IsChanged fault s t l o → o ≡ x → n ≡ refusal_number x →
+-- by the change's answer o
+pub answered_by : {fault o : Judged} (s t : List ℕ) {l : List ℕ} {n : ℕ} → IsChanged fault s t l o → n ≡ refusal_number o →
     IsAnswered fault s t l n
-answered_by s t h q p = record { answer = p ∙ ap refusal_number (sym q ∙ h.answer); held = h.held }
+answered_by s t h p = record { answer = p ∙ ap refusal_number h.answer; held = h.held }
 
 -- the row of four numbers, each read back from its bits
 pub row_again : {x y z w : ℤ} → SFits w64 x → SFits w64 y → SFits w64 z → SFits w64 w →
@@ -26,6 +26,6 @@ pub row_again : {x y z w : ℤ} → SFits w64 x → SFits w64 y → SFits w64 z 
 row_again fx fy fz fw = λ i. record { x = to_z-of_z fx i; y = to_z-of_z fy i; z = to_z-of_z fz i; w = to_z-of_z fw i }
 
 -- the same of a change by a row v that is u
-pub moved_by : (g : Row → Judged) (h : Row → List ℕ) (s : List ℕ) {u v : Row} {o x : Judged} {l : List ℕ} {n : ℕ} →
-    v ≡ u → IsChanged (g v) s (h v) l o → o ≡ x → n ≡ refusal_number x → IsAnswered (g u) s (h u) l n
-moved_by g h s {v = v} {l = l} {n = n} e k q p = subst (λ (u : Row). IsAnswered (g u) s (h u) l n) e (answered_by s (h v) k q p)
+pub moved_by : (g : Row → Judged) (h : Row → List ℕ) (s : List ℕ) {u v : Row} {o : Judged} {l : List ℕ} {n : ℕ} →
+    v ≡ u → IsChanged (g v) s (h v) l o → n ≡ refusal_number o → IsAnswered (g u) s (h u) l n
+moved_by g h s {v = v} {l = l} {n = n} e k p = subst (λ (u : Row). IsAnswered (g u) s (h u) l n) e (answered_by s (h v) k p)

@@ -13,11 +13,10 @@ use Rattle.judge.specs.Judge.{Judged}
 use Rattle.questions.specs.Answers as kernel
 use Rattle.questions.specs.Answers.{or_refuse, listing_in, list_fault}
 use Rattle.questions.specs.Types.{Enclosing}
-use Rattle.bodhranhaze.specs.Calls.{refusal_number, pairs_of, by_case}
+use Rattle.bodhranhaze.specs.Calls.{of_refusal, refusal_number, pairs_of, by_answer}
 
 abbrev pub why_not : Enclosing → ℕ
-why_not (Ok n) = 0
-why_not (Err r) = number_of r
+why_not e = of_refusal number_of e
 
 unfoldable pub inside_refusal : List ℕ → ℕ → ℕ
 inside_refusal s k = why_not (kernel.inside_of s k)
@@ -34,9 +33,9 @@ pub room_of : (v : View) (d : List ℕ) → list_fault v d ≡ room_fault v (len
 unfolding list_fault room_fault
 room_of v d = refl
 
-pub why_inside : (s : List ℕ) (k : ℕ) {o x : Enclosing} {n : ℕ} → o ≡ kernel.inside_of s k → o ≡ x → n ≡ why_not x → n ≡ inside_refusal s k
+pub why_inside : (s : List ℕ) (k : ℕ) {o : Enclosing} {n : ℕ} → o ≡ kernel.inside_of s k → n ≡ why_not o → n ≡ inside_refusal s k
 unfolding inside_refusal
-why_inside s k e q p = by_case why_not e q p
+why_inside s k e p = by_answer why_not e p
 
 module _ (s : List ℕ) (places : ℕ) {o : Judged} (e : o ≡ judged s) where
   pub why_scene : {r : Refusal} {n : ℕ} → o ≡ Err r → n ≡ number_of r → n ≡ listing_refusal s places

@@ -5,7 +5,7 @@
 ghost use Rattle.std.specs.Prelude.{◌≡◌};
 ghost use Rattle.judge.specs.Judge.{judged};
 ghost use Rattle.questions.specs.Answers.{verdict_number, verdict_of};
-ghost use Rattle.bodhranhaze.specs.Calls.{refusal_number, refusal_place, pairs_of, inside_of, IsListing};
+ghost use Rattle.bodhranhaze.specs.Calls.{of_refusal, refusal_number, refusal_place, pairs_of, inside_of, IsListing};
 
 use pierce_engine::Plain;
 use questions::Verdict;
@@ -17,21 +17,23 @@ pub mod moves;
 pub mod refusals;
 pub mod vertices;
 
-fn number_of(j: Result<(), Refusal>) -> usize
-    ensures { result ≡ refusal_number j }
+// The number of a refusal, 0 where there is none.
+fn number_of<T: Copy, F: Numbered + Copy>(r: Result<T, F>) -> usize
+    ensures { result ≡ of_refusal F.number r }
 {
-    match j {
-        Ok(()) => 0,
-        Err(r) => r.number(),
+    match r {
+        Ok(_) => 0,
+        Err(f) => f.number(),
     }
 }
 
-fn place_of(j: Result<(), Refusal>) -> usize
-    ensures { result ≡ refusal_place j }
+// Its place.
+fn place_of<T: Copy, F: Numbered + Copy>(r: Result<T, F>) -> usize
+    ensures { result ≡ of_refusal F.place r }
 {
-    match j {
-        Ok(()) => 0,
-        Err(r) => r.place(),
+    match r {
+        Ok(_) => 0,
+        Err(f) => f.place(),
     }
 }
 

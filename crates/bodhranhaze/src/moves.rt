@@ -6,7 +6,8 @@ ghost use Rattle.session.specs.Session.{reversed_in};
 ghost use Rattle.session.specs.Place.{move_fault, move_far_fault, reverse_fault};
 ghost use Rattle.bodhranhaze.specs.Moves.{row_of, IsAnswered};
 
-use scene::{Numbered, Row};
+use crate::number_of;
+use scene::Row;
 use session::place;
 
 // A vertex, by its point number.
@@ -21,10 +22,7 @@ pub fn bodhranhaze_move(s: &mut [u8], p: usize, x: i64, y: i64, z: i64, w: i64) 
         w: w,
     };
     let j = place::move_vertex(s, p, v);
-    match j {
-        Ok(()) => 0,
-        Err(r) => r.number(),
-    }
+    number_of(j)
 }
 
 // The far point.
@@ -39,10 +37,7 @@ pub fn bodhranhaze_move_far(s: &mut [u8], x: i64, y: i64, z: i64, w: i64) -> usi
         w: w,
     };
     let j = place::move_far(s, v);
-    match j {
-        Ok(()) => 0,
-        Err(r) => r.number(),
-    }
+    number_of(j)
 }
 
 // A face, its first and third corners swapped.
@@ -51,8 +46,5 @@ pub fn bodhranhaze_reverse(s: &mut [u8], f: usize) -> usize
         s.new result }
 {
     let j = place::reverse(s, f);
-    match j {
-        Ok(()) => 0,
-        Err(r) => r.number(),
-    }
+    number_of(j)
 }

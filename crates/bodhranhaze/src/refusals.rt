@@ -2,6 +2,7 @@
 ghost use Rattle.std.specs.Prelude.{◌≡◌};
 ghost use Rattle.bodhranhaze.specs.Refusals.{inside_refusal, listing_refusal};
 
+use crate::number_of;
 use pierce_engine::Plain;
 use scene::Numbered;
 
@@ -9,11 +10,7 @@ use scene::Numbered;
 pub fn bodhranhaze_inside_refusal(s: &[u8], solid: usize) -> usize
     ensures { result ≡ inside_refusal s.now solid }
 {
-    let e = kernel::inside::inside(Plain, s, solid);
-    match e {
-        Ok(_) => 0,
-        Err(r) => r.number(),
-    }
+    number_of(kernel::inside::inside(Plain, s, solid))
 }
 
 // The scene's own refusal, or 10 where a list of so many places has no room for the listing.
