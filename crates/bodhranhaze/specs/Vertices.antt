@@ -1,6 +1,6 @@
 -- What the calls about a vertex in doubles answer: numbers, 0 where there is nothing to say. Assumes nothing.
 use Rattle.std.specs.Prelude.{◌≡◌, List, ℕ, Float, length, Result}
-use Rattle.std.proofs.Common.{sym, ap, ◌∙◌}
+use Rattle.std.proofs.Common.{ap, ◌∙◌}
 use Rattle.scene.specs.declared.Row.{Row}
 use Rattle.doubles.specs.Taken.{fault_number, fault_place, taken_of}
 use Rattle.doubles.specs.Record.{recorded_by, left_by, IsRecord}

@@ -51,14 +51,18 @@ pub record OneAnswer : Type 2 where
   pub pierces : (E L C b B c D E' L' C' b' B' c' D' κs λs g h s t u v f r q e d : _) → now s ≡ now t →
       pierces.Post E L C b B c D κs (g ▸ s ▸ u ▸ v ▸ f ▸ tt) r e → pierces.Post E' L' C' b' B' c' D' λs (h ▸ t ▸ u ▸ v ▸ f ▸ tt) q d → r ≡ q
   pub mask : (E L C b B c D E' L' C' b' B' c' D' κs λs g h s t u v k r q e d : _) → now s ≡ now t →
-      mask.Post E L C b B c D κs (g ▸ s ▸ u ▸ v ▸ k ▸ tt) r e → mask.Post E' L' C' b' B' c' D' λs (h ▸ t ▸ u ▸ v ▸ k ▸ tt) q d → said_mask r ≡ said_mask q
+      mask.Post E L C b B c D κs (g ▸ s ▸ u ▸ v ▸ k ▸ tt) r e → mask.Post E' L' C' b' B' c' D' λs (h ▸ t ▸ u ▸ v ▸ k ▸ tt) q d →
+      said_mask r ≡ said_mask q
   pub enclosed : (E L C b B c D E' L' C' b' B' c' D' κs λs g h s t i r q e d : _) → now s ≡ now t →
       enclosed.Post E L C b B c D κs (g ▸ s ▸ i ▸ tt) r e → enclosed.Post E' L' C' b' B' c' D' λs (h ▸ t ▸ i ▸ tt) q d → r ≡ q
-  pub counts : (E L C a A b B c D E' L' C' a' A' b' B' c' D' κs λs g h s t r q e d : _) → now s ≡ now t → count.Post E L C a A b B c D κs (g ▸ s ▸ tt) r e → count.Post E' L' C' a' A' b' B' c' D' λs (h ▸ t ▸ tt) q d → r ≡ q
+  pub counts : (E L C a A b B c D E' L' C' a' A' b' B' c' D' κs λs g h s t r q e d : _) → now s ≡ now t →
+      count.Post E L C a A b B c D κs (g ▸ s ▸ tt) r e → count.Post E' L' C' a' A' b' B' c' D' λs (h ▸ t ▸ tt) q d → r ≡ q
   pub inside : (E L C a A b B c D E' L' C' a' A' b' B' c' D' κs λs g h s t k r q e d : _) → now s ≡ now t →
       inside.Post E L C a A b B c D κs (g ▸ s ▸ k ▸ tt) r e → inside.Post E' L' C' a' A' b' B' c' D' λs (h ▸ t ▸ k ▸ tt) q d → r ≡ q
   pub verdict : (E L C a A b B c D E' L' C' a' A' b' B' c' D' κs λs g h s t r q e d : _) → now s ≡ now t →
       verdict.Post E L C a A b B c D κs (g ▸ s ▸ tt) r e → verdict.Post E' L' C' a' A' b' B' c' D' λs (h ▸ t ▸ tt) q d → r ≡ q
-  pub listing : (E L C a A b B c D E' L' C' a' A' b' B' c' D' κs λs g h s t out list r q g' h' s' t' out' list' : _) → now s ≡ now t → lent.now out ≡ lent.now list →
-      listing.Post E L C a A b B c D κs (g ▸ s ▸ out ▸ tt) r (g' ▸ s' ▸ out' ▸ tt) → listing.Post E' L' C' a' A' b' B' c' D' λs (h ▸ t ▸ list ▸ tt) q (h' ▸ t' ▸ list' ▸ tt) →
+  pub listing : (E L C a A b B c D E' L' C' a' A' b' B' c' D' κs λs g h s t out list r q g' h' s' t' out' list' : _) → now s ≡ now t →
+      lent.now out ≡ lent.now list →
+      listing.Post E L C a A b B c D κs (g ▸ s ▸ out ▸ tt) r (g' ▸ s' ▸ out' ▸ tt) →
+      listing.Post E' L' C' a' A' b' B' c' D' λs (h ▸ t ▸ list ▸ tt) q (h' ▸ t' ▸ list' ▸ tt) →
       (r ≡ q) × (out'.now ≡ list'.now)

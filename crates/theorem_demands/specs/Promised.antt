@@ -43,17 +43,22 @@ pub record Contracts : Type 2 where
   pub is_point_is : (κs s i r e : _) → is_point_law.Post κs (s ▸ i ▸ tt) r e → (r ≡ true) ↔ Point s.now i
   pub sign_is : (κs s a b c d r e : _) → sign.Post κs (s ▸ a ▸ b ▸ c ▸ d ▸ tt) r e → r ≡ sign_of s.now a b c d
   -- nothing depends on the engine
-  pub pierces_is : (E L C b B c D κs engine s u v f r e : _) → pierces.Post E L C b B c D κs (engine ▸ s ▸ u ▸ v ▸ f ▸ tt) r e → r ≡ pierces_of s.now u v f
-  pub mask_is : (E L C b B c D κs engine s u v k r e : _) → mask.Post E L C b B c D κs (engine ▸ s ▸ u ▸ v ▸ k ▸ tt) r e → said_mask r ≡ masked_of s.now u v k
-  pub enclosed_is : (E L C b B c D κs engine s i r e : _) → enclosed.Post E L C b B c D κs (engine ▸ s ▸ i ▸ tt) r e → r ≡ enclosed_of s.now i
+  pub pierces_is : (E L C b B c D κs engine s u v f r e : _) → pierces.Post E L C b B c D κs (engine ▸ s ▸ u ▸ v ▸ f ▸ tt) r e →
+      r ≡ pierces_of s.now u v f
+  pub mask_is : (E L C b B c D κs engine s u v k r e : _) → mask.Post E L C b B c D κs (engine ▸ s ▸ u ▸ v ▸ k ▸ tt) r e →
+      said_mask r ≡ masked_of s.now u v k
+  pub enclosed_is : (E L C b B c D κs engine s i r e : _) → enclosed.Post E L C b B c D κs (engine ▸ s ▸ i ▸ tt) r e →
+      r ≡ enclosed_of s.now i
   pub count_is : (E L C a A b B c D κs engine s r e : _) → count.Post E L C a A b B c D κs (engine ▸ s ▸ tt) r e → r ≡ counted_of s.now
-  pub inside_is : (E L C a A b B c D κs engine s k r e : _) → inside.Post E L C a A b B c D κs (engine ▸ s ▸ k ▸ tt) r e → r ≡ inside_of s.now k
+  pub inside_is : (E L C a A b B c D κs engine s k r e : _) → inside.Post E L C a A b B c D κs (engine ▸ s ▸ k ▸ tt) r e →
+      r ≡ inside_of s.now k
   pub verdict_is : (E L C a A b B c D κs engine s r e : _) → verdict.Post E L C a A b B c D κs (engine ▸ s ▸ tt) r e → r ≡ verdict_of s.now
   -- out is the lent list
   pub listing_is : (E L C a A b B c D κs engine s out r engine' s' out' : _) →
       listing.Post E L C a A b B c D κs (engine ▸ s ▸ out ▸ tt) r (engine' ▸ s' ▸ out' ▸ tt) → IsListed s.now out.now out'.now r
   pub listing_part_is : (E L C a A b B c D κs engine s from out r engine' s' from' out' : _) →
-      listing_part.Post E L C a A b B c D κs (engine ▸ s ▸ from ▸ out ▸ tt) r (engine' ▸ s' ▸ from' ▸ out' ▸ tt) → IsPart s.now from out.now out'.now r
+      listing_part.Post E L C a A b B c D κs (engine ▸ s ▸ from ▸ out ▸ tt) r (engine' ▸ s' ▸ from' ▸ out' ▸ tt) →
+      IsPart s.now from out.now out'.now r
   pub survey_refused : (E L C a A b B c D κs engine s out r engine' s' out' : _) →
       survey.Post E L C a A b B c D κs (engine ▸ s ▸ out ▸ tt) r (engine' ▸ s' ▸ out' ▸ tt) → (q : Refusal) → judged s.now ≡ Err q →
       (r ≡ Err q) × (out'.now ≡ out.now)

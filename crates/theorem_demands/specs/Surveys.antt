@@ -68,7 +68,8 @@ pub record Surveys : Type 2 where
       survey_of.Post E L C a A b B c D κs (engine ▸ s ▸ aends ▸ amasks ▸ bends ▸ bmasks ▸ tt) r
       (engine' ▸ s' ▸ aends' ▸ amasks' ▸ bends' ▸ bmasks' ▸ tt) → judged s.now ≡ Ok tt →
       TablesAre s.now aends'.now amasks'.now bends'.now bmasks'.now r
-  pub first_or_enclosed_is : (E L C a A b B c D κs engine s r e : _) → first_or_enclosed.Post E L C a A b B c D κs (engine ▸ s ▸ tt) r e → FirstOrWords s.now r
+  pub first_or_enclosed_is : (E L C a A b B c D κs engine s r e : _) → first_or_enclosed.Post E L C a A b B c D κs (engine ▸ s ▸ tt) r e →
+      FirstOrWords s.now r
   -- of an accepted scene, the question's verdict
   pub verdict_by_is : (κs s t r e : _) → verdict_by.Post κs (s ▸ t ▸ tt) r e → judged s.now ≡ Ok tt → Ok r ≡ verdict_of s.now
   pub verdict_read_is : (κs t s aends amasks bends bmasks r e : _) →
