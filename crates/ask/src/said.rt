@@ -1,6 +1,7 @@
 // What is said on standard error, and the help.
 use crate::words::{Unasked, number_in};
 use cli::{Program, has_word, to_error_by};
+use print::{newline, word};
 use scene::Refusal;
 
 pub fn program(rt: &HostRuntime) -> Program {
@@ -64,7 +65,11 @@ fn no_number(program: &Program, i: usize, k: usize) {
 
 // The refusal of a scene.
 pub fn scene(rt: &HostRuntime, s: &[u8], r: Refusal) {
-    to_error_by(rt, |out| print_why::line(s, r, out, 0));
+    to_error_by(rt, |out| {
+        let p = word(out, 0, b"why: ");
+        let q = print_why::sentence(s, r, out, p);
+        newline(out, q)
+    });
 }
 
 // The number of the refusal that is answered of an accepted scene: 10, 11 or 12.

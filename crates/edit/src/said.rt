@@ -1,6 +1,7 @@
 // What is said on standard error: a line for the opening and for each operation, and why it is refused.
 use crate::steps;
 use cli::{Program, to_error, to_error_by};
+use print::{newline, word};
 use scene::{Numbered, Refusal};
 use session::Changed;
 
@@ -35,7 +36,11 @@ fn answer(rt: &HostRuntime, c: Changed) {
 
 // The refusal of the scene s.
 fn why(rt: &HostRuntime, s: &[u8], r: Refusal) {
-    to_error_by(rt, |out| print_why::line(s, r, out, 0));
+    to_error_by(rt, |out| {
+        let p = word(out, 0, b"why: ");
+        let q = print_why::sentence(s, r, out, p);
+        newline(out, q)
+    });
 }
 
 pub fn opening(rt: &HostRuntime, s: &[u8], c: Changed) {

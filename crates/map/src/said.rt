@@ -34,7 +34,11 @@ pub fn no_map(program: &Program, i: usize) {
 
 // The refusal of the scene s.
 fn scene(rt: &HostRuntime, s: &[u8], r: Refusal) {
-    to_error_by(rt, |out| print_why::line(s, r, out, 0));
+    to_error_by(rt, |out| {
+        let p = word(out, 0, b"why: ");
+        let q = print_why::sentence(s, r, out, p);
+        newline(out, q)
+    });
 }
 
 fn rule(rt: &HostRuntime, before: &[u8], number: usize) {

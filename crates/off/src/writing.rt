@@ -1,11 +1,14 @@
 // A solid of a scene as an object text, on standard output; or on standard error why the scene is refused.
 use cli::{Program, to_error_by};
+use print::{newline, word};
 use scene::{Refusal, Scene};
 
 fn say_refused(rt: &HostRuntime, s: &[u8], r: Refusal) {
     to_error_by(rt, |out| {
         let p = print_refusals::refused(out, 0, r);
-        print_why::line(s, r, out, p)
+        let q = word(out, p, b"why: ");
+        let e = print_why::sentence(s, r, out, q);
+        newline(out, e)
     });
 }
 

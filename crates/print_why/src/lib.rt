@@ -62,14 +62,6 @@ fn refused(s: &[u8], r: Refusal, out: &mut [u8], at: usize) -> usize
     newline(out, p)
 }
 
-// The sentence as the line of a reason.
-pub fn line(s: &[u8], r: Refusal, out: &mut [u8], at: usize) -> usize
-    ensures { Said out.old at out.new result }
-{
-    let p = word(out, at, b"why: ");
-    refused(s, r, out, p)
-}
-
 // The sentence as a line; `accepted` where there is nothing to say.
 pub fn why(s: &[u8], out: &mut [u8], at: usize) -> usize
     ensures { Said out.old at out.new result }
