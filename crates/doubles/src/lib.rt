@@ -3,6 +3,7 @@
 
 ghost use Rattle.std.specs.Prelude.{◌≡◌};
 ghost use Rattle.doubles.specs.Taken.{fault_at, fault_number, fault_place, taken_of};
+ghost use Rattle.doubles.specs.declared.Fault.TheVariants.{OfScene};
 
 use scene::{Numbered, Refusal, Row, Scene};
 use whole::{Unfit, read, weight};
@@ -24,6 +25,14 @@ pub struct Vertex {
 pub enum Fault {
     NotWhole(usize),
     OfScene(Refusal),
+}
+
+impl From<Refusal> for Fault {
+    ghost from_gives = { λ r f. f ≡ OfScene r };
+
+    fn from(r: Refusal) -> Fault {
+        Fault::OfScene(r)
+    }
 }
 
 impl Numbered for Fault {
@@ -63,6 +72,6 @@ fn fault_at(e: Unfit, place: usize, outside: Refusal) -> Fault
 {
     match e {
         Unfit::NotWhole => Fault::NotWhole(place),
-        Unfit::Outside => Fault::OfScene(outside),
+        Unfit::Outside => Fault::from(outside),
     }
 }

@@ -13,7 +13,7 @@ pub fn record_of(v: Vertex, out: &mut [u8]) -> Result<(), Fault>
 {
     let r = take(v)?;
     if out.len() < 9 {
-        return Err(Fault::OfScene(Refusal::BufferTooShort(9)));
+        return Err(Fault::from(Refusal::BufferTooShort(9)));
     }
     put(r, out);
     Ok(())
