@@ -64,7 +64,8 @@ fn explain(rt: &HostRuntime, q: Question, s: &[u8], answer: &[u8]) {
     }
 }
 
-// A write that fails is the last.
+// A write that fails is the last. Its buffers are not held while words are read.
+#[inline(never)]
 fn write_answer<E: Surveyor>(program: &Program, engine: E, q: Question, s: &[u8]) {
     let mut out = [0u8; TEXT];
     let end = answer(engine, q, s, &mut out);

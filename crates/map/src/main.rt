@@ -51,6 +51,8 @@ fn write_image(program: &Program, s: &[u8], m: Map, out: &mut [u8]) {
     }
 }
 
+// Its buffers are not held while words are read.
+#[inline(never)]
 fn run(program: &Program, m: Map) {
     // One byte more than the longest scene tells that the input is too long.
     let mut s = [0u8; Scene::LONGEST + 1];
